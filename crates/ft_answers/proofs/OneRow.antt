@@ -10,12 +10,13 @@ use Rattle.ft_hist.specs.Hist.{Hist}
 use Rattle.ft_hist.specs.declared.item.SortItem.{SortItem}
 use Rattle.ft_fields.specs.declared.key.Part.{Part}
 use Rattle.ft_fields.specs.Ties.{key_same}
+use Rattle.ft_fields.specs.Parts.{same_key}
 use Rattle.ft_maps.specs.Entries.{same_from_tie}
 use Rattle.ft_table.specs.Counted.{Counted}
 use Rattle.ft_table.specs.Keyed.{KeyedText}
 use Rattle.ft_table.specs.Sorting.{row_cmp, in_order, HasDistinctKeys}
 use Rattle.ft_table.specs.Text.{row_text, keyed_text}
-use Rattle.ft_table.specs.Hits.{Hits, same_key}
+use Rattle.ft_table.specs.Hits.{Hits}
 use Rattle.ft_table.specs.Rows.{counted_row, row_at, rows_of}
 use Rattle.ft_table.specs.Tabled.{Tabled, keys_in, is_in}
 use Rattle.ft_base.specs.declared.refused.Refused.{Refused}

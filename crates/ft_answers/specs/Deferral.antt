@@ -4,6 +4,7 @@ use Rattle.std.specs.FinMap as map
 use Rattle.ft_fields.specs.Traced.{Traced}
 use Rattle.ft_hist.specs.Hist.{Hist}
 use Rattle.ft_hist.specs.Hit.{hit}
+pub use Rattle.ft_hist.specs.Hit.{IsNoHit}
 use Rattle.ft_fields.specs.declared.key.Part.{Part}
 use Rattle.ft_base.specs.declared.refused.Refused.{Refused}
 use Rattle.ft_base.specs.declared.refused.Refused.TheVariants.{Memory}
@@ -15,10 +16,6 @@ use Rattle.ft_answers.specs.Shown.{Shown}
 -- a board whose tables lack no edit before lacks none afterwards
 abbrev pub PutsNothingOff : Shown → Shown → Type 0
 PutsNothingOff old new = old.deferred ≡ false → new.deferred ≡ false
-
--- the event is no hit of any attached trigger (kernel: histogram.rst, hist triggers)
-abbrev pub IsNoHit : Triggers → Traced → Type 0
-IsNoHit triggers event = (id : ℕ) (hist : Hist) → map.get triggers id ≡ Some hist → hit hist event ≡ None
 
 -- each attached trigger that the event is a hit of has no variable (kernel: histogram.rst, inter-event hist triggers)
 abbrev pub IsPlainHit : Triggers → Traced → Type 0

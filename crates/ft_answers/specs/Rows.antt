@@ -4,10 +4,10 @@ use Rattle.std.specs.List.{flat_map}
 use Rattle.std.specs.FinMap as map
 use Rattle.ft_hist.specs.Hist.{Hist}
 use Rattle.ft_fields.specs.declared.key.Part.{Part}
+use Rattle.ft_fields.specs.Parts.{same_key}
 use Rattle.ft_table.specs.Keyed.{KeyedText}
 use Rattle.ft_table.specs.declared.row.Totals.{Totals}
 use Rattle.ft_table.specs.Text.{heading, totals_text}
-use Rattle.ft_table.specs.Hits.{same_key}
 use Rattle.ft_base.specs.Base.{Base}
 use Rattle.ft_answers.specs.Answers.{hist_text, rows_shown, row_shown, totals}
 

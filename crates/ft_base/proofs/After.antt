@@ -1,5 +1,5 @@
 -- What an edit answers, case by case.
-use Rattle.std.proofs.Common.{◌≡◌, ℕ, ◌+◌, ◌<◌, ◌≤◌, Bool, true, false, cond, ◌||◌, ltb, leb, List, length, refl, sym, ap, ◌∙◌, subst, Option, Some, None, Result, Ok, Err, is_err, OnOk, OnErr}
+use Rattle.std.proofs.Common.{◌≡◌, ℕ, ◌+◌, ◌<◌, ◌≤◌, Bool, true, false, cond, ◌||◌, ltb, leb, List, length, refl, sym, ap, ◌∙◌, subst, Option, Some, None, Result, Ok, Err, is_err, OnErr}
 use Rattle.std.specs.List.{AllByRecursion}
 use Rattle.std.specs.Option.{option_map_or}
 use Rattle.std.specs.FinMap as map
@@ -16,11 +16,6 @@ use Rattle.ft_lanes.specs.Held.{HasCpu}
 use Rattle.ft_base.specs.Reachable.{IsReachable}
 use Rattle.ft_base.proofs.Reachable.{load-IsReachable}
 use Rattle.ft_base.proofs.Attaching.{attach-IsReachable}
-
--- a clause on success, where a call did not fail
-pub at_ok : {T E P : Type 0} (r : Result T E) → false ≡ is_err r → OnOk r P → P
-at_ok (Ok x) e h = h
-at_ok (Err y) e h = cc
 
 -- a clause on failure, where a call failed
 pub at_err : {T E P : Type 0} (r : Result T E) → true ≡ is_err r → OnErr r P → P

@@ -4,12 +4,13 @@ use Rattle.std.specs.Cmp.{nat_cmp_total}
 use Rattle.std.specs.FinMap as map
 use Rattle.std.specs.FinMap.{nat_cmp-IsAntisymmetric}
 use Rattle.std.proofs.lemmas.Bool.{cases_eq, eq-eqb, or_left, or_right}
+use Rattle.std.proofs.option.Match.{None-if_not_some}
 use Rattle.ft_fields.specs.Traced.{Traced}
 use Rattle.ft_lanes.specs.Held.{Lane, Lanes, number_limit, event_limit}
 use Rattle.ft_lanes.specs.Loaded.{lane_of, with_lanes, first_held}
 use Rattle.ft_lanes.specs.Edits.{new_lane, lane_with, lanes_with}
 use Rattle.ft_lanes.specs.inner.Slots.{has_cpu}
-use Rattle.ft_lanes.proofs.Loads.{free-held, with_lanes-at, missing}
+use Rattle.ft_lanes.proofs.Loads.{free-held, with_lanes-at}
 use Rattle.ft_maps.specs.Entries.{get-insert_same, get-insert_other}
 
 -- the lanes of the events' CPUs have numbers left for all of them
@@ -42,7 +43,7 @@ held-stays lanes es none q true is = with_lanes-at lanes es q ∙ elim (has_cpu 
   | true ↦ λ has. let both : ◌≡◌ {A = Bool} false true = ap is_some (sym (free-held lanes es none q has)) ∙ is in absurd cc
   | false ↦ λ _. refl
 ] refl
-held-stays lanes es none q false is = sym (missing (map.get lanes q) is)
+held-stays lanes es none q false is = sym (None-if_not_some (map.get lanes q) is)
 
 -- and new lanes have numbers for all that may be held
 pub room-from : (lanes : Lanes) (es : List Traced) → first_held lanes es ≡ None → length es ≤ event_limit → HasRoom lanes es

@@ -7,11 +7,11 @@ use Rattle.std.proofs.lemmas.Bool.{true≢false}
 use Rattle.std.proofs.lemmas.Option.{none-some, same_Some}
 use Rattle.ft_hist.specs.Hist.{Hist}
 use Rattle.ft_fields.specs.declared.key.Part.{Part}
+use Rattle.ft_fields.specs.Parts.{same_key}
 use Rattle.ft_changes.specs.Findings.{Findings, Lead}
 use Rattle.ft_changes.specs.Rivals.{is_of, rivals, ButForAmong, RivalsAreOthers, RivalsDiffer, RowsStayBut}
 use Rattle.ft_changes.specs.declared.changed.Changed.{Changed}
 use Rattle.ft_changes.specs.declared.changed.ReadingChange.{ReadingChange}
-use Rattle.ft_table.specs.Hits.{same_key}
 use Rattle.ft_table.specs.Tabled.{Tabled}
 use Rattle.ft_kept.specs.Changes.{Tells}
 use Rattle.ft_kept.specs.Shelves.{Shelves}

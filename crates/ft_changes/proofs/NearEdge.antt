@@ -7,8 +7,8 @@ use Rattle.std.proofs.lemmas.List.{length-drop, length-map, take_all, take-map, 
 use Rattle.std.proofs.lemmas.Map.Made.{length-from_same_keys, is_member-filter}
 use Rattle.ft_fields.specs.declared.key.Part.{Part}
 use Rattle.ft_fields.specs.Orders.{key_cmp_total}
+use Rattle.ft_fields.specs.Parts.{same_key}
 use Rattle.ft_hits.specs.declared.mark.Mark.{Mark}
-use Rattle.ft_table.specs.Hits.{same_key}
 use Rattle.ft_table.specs.Tabled.{Tabled, order_of}
 use Rattle.ft_table.proofs.Distinct.{key_of, keys_distinct}
 use Rattle.ft_hits.proofs.Flat.{same_is}

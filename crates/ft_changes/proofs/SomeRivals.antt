@@ -11,7 +11,8 @@ use Rattle.std.proofs.lemmas.Map.Made.{length-le_from_is_member, is_member-filte
 use Rattle.std.proofs.Math.Bool.{or-false}
 use Rattle.ft_fields.specs.declared.key.Part.{Part}
 use Rattle.ft_fields.specs.Orders.{key_cmp_total}
-use Rattle.ft_table.specs.Hits.{EntryHits, same_key, sums_of}
+use Rattle.ft_fields.specs.Parts.{same_key}
+use Rattle.ft_table.specs.Hits.{EntryHits, sums_of}
 use Rattle.ft_table.specs.Rows.{counted_row}
 use Rattle.ft_table.specs.Tabled.{Tabled, keys_in, order_of, is_in}
 use Rattle.ft_table.proofs.Changes.{insert-beside, remove-beside}

@@ -2,7 +2,7 @@
 use Rattle.std.specs.Prelude.{◌&&◌, ℕ, Bool, List, length, nat_eq}
 use Rattle.std.specs.List.{filter, list_any}
 use Rattle.ft_fields.specs.declared.key.Part.{Part}
-use Rattle.ft_table.specs.Hits.{same_key}
+use Rattle.ft_fields.specs.Parts.{same_key}
 use Rattle.ft_changes.specs.declared.changed.Changed.{Changed}
 
 -- two rows are of one trigger and one key

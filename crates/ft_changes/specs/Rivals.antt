@@ -3,9 +3,10 @@ use Rattle.std.specs.Prelude.{◌≡◌, ◌-◌, ◌≤◌, ◌++◌, ℤ, not,
 use Rattle.std.specs.List.{list_any, IsDistinct}
 use Rattle.std.specs.FinMap as map
 use Rattle.ft_fields.specs.declared.key.Part.{Part}
+use Rattle.ft_fields.specs.Parts.{same_key}
 use Rattle.ft_hits.specs.declared.mark.Mark.{Mark}
 use Rattle.ft_table.specs.Growth.{with_hit}
-use Rattle.ft_table.specs.Hits.{Hits, same_key}
+use Rattle.ft_table.specs.Hits.{Hits}
 use Rattle.ft_table.specs.OneKey.{without_hit}
 use Rattle.ft_table.specs.Rows.{row_at}
 use Rattle.ft_table.specs.Tabled.{Tabled, keys_in, is_in}

@@ -2,7 +2,7 @@
 
 ghost use Rattle.std.specs.Prelude.{◌≡◌, IfOk, length, take, drop, map as list_map};
 ghost use Rattle.std.specs.List.{filter, IsDistinct};
-ghost use Rattle.ft_table.specs.Hits.{same_key};
+ghost use Rattle.ft_fields.specs.Parts.{same_key};
 ghost use Rattle.ft_table.specs.Tabled.{order_of};
 ghost use Rattle.ft_changes.specs.Rivals.{is_of, rivals};
 ghost use Rattle.ft_changes.specs.inner.Edge.{inside, others_of};

@@ -1,7 +1,7 @@
 -- The parts of keys, and their order (kernel: histogram.rst, `keys`).
-use Rattle.std.specs.Prelude.{◌≡◌, ℕ, zero, suc, ℤ, pos, List, [], refl}
+use Rattle.std.specs.Prelude.{◌≡◌, Bool, ℕ, zero, suc, ℤ, pos, List, [], refl}
 use Rattle.std.specs.declared.cmp.Ordering.{Ordering}
-use Rattle.std.specs.Ordering.{nat_cmp, int_cmp, on, then_cmp}
+use Rattle.std.specs.Ordering.{nat_cmp, int_cmp, on, then_cmp, eq_by_cmp}
 use Rattle.std.specs.Cmp.Lexicographic.{slice_cmp}
 use Rattle.ft_fields.specs.declared.key.Part.{Part}
 use Rattle.ft_fields.specs.declared.key.Part.TheVariants.{Num, Log2, Bucket, Text}
@@ -48,3 +48,7 @@ part_cmp = then_cmp (on part_kind nat_cmp) (then_cmp (on part_number int_cmp) (o
 -- keys in order: by their parts from the left, a beginning before what it begins
 abbrev pub key_cmp : List Part → List Part → Ordering
 key_cmp = slice_cmp part_cmp
+
+-- whether two keys are the same
+abbrev pub same_key : List Part → List Part → Bool
+same_key = eq_by_cmp key_cmp

@@ -14,7 +14,7 @@ use Rattle.ft_fields.specs.declared.field.Field.TheVariants as fields
 use Rattle.ft_fields.specs.Fields.{field_text}
 use Rattle.ft_text.specs.Ranged.{fits_i64}
 use Rattle.ft_text.proofs.Numbers.{digits_all}
-use Rattle.ft_text.proofs.Spellings.{IsName, Apart, stops, run_front, name_again}
+use Rattle.ft_text.proofs.Spellings.{IsName, Apart, stops, run_front, name_again, run_passes}
 use Rattle.ft_text.specs.Tokens.{is_gap, skip, is_in_name, name_at, is_quote, cut_at, quoted_at, is_decimal, number_of, word_len, number_at}
 use Rattle.ft_filter.specs.declared.tree.Op.{Op}
 use Rattle.ft_filter.specs.declared.tree.Op.TheVariants as ops
@@ -147,15 +147,6 @@ quoted_again text rest q =
 -- the quote stands first
 pub quoted_first : (text rest : List ℕ) (q : Quotes text) → slice_index (quoted text ++ rest) 0 ≡ q.mark
 quoted_first text rest q = ap (λ (t : List ℕ). slice_index (t ++ rest) 0) q.spelled
-
--- a run holds bytes that pass
-run_passes : (test : ℕ → Bool) (text : List ℕ) → list_all test (take (prefix_len test text) text) ≡ true
-run_passes test [] = refl
-run_passes test (byte ∷ text) = from (run_passes test text) (test byte) refl
-  where
-    from : list_all test (take (prefix_len test text) text) ≡ true → (b : Bool) → test byte ≡ b → list_all test (take (if b then 1 + prefix_len test text else 0) (byte ∷ text)) ≡ true
-    from rest false is = refl
-    from rest true is = rw (one-add, is) rest
 
 -- a quote is one of two
 pub quote_cases : (mark : ℕ) → is_quote mark ≡ true → (mark ≡ 34) ⊎ (mark ≡ 39)

@@ -12,13 +12,13 @@ use Rattle.std.proofs.lemmas.List.Folds.{list_any-append, list_any_at}
 use Rattle.ft_fields.specs.declared.pos.Pos.{Pos}
 use Rattle.ft_fields.specs.Traced.{Traced}
 use Rattle.ft_fields.specs.declared.key.Part.{Part}
-use Rattle.ft_fields.specs.Parts.{key_cmp}
+use Rattle.ft_fields.specs.Parts.{key_cmp, same_key}
 use Rattle.ft_fields.specs.Orders.{key_cmp_total}
 use Rattle.ft_fields.specs.Ties.{key_same}
 use Rattle.ft_hist.specs.Hist.{Hist}
 use Rattle.ft_hist.specs.Hit.{hit}
 use Rattle.ft_maps.specs.Entries.{same_from_tie}
-use Rattle.ft_groups.specs.Grouped.{same_key, is_under, run_under, Grouped, run_of, AreGrouped}
+use Rattle.ft_groups.specs.Grouped.{is_under, run_under, Grouped, run_of, AreGrouped}
 use Rattle.ft_groups.specs.inner.Adding.{AddsEvent}
 use Rattle.ft_groups.specs.inner.Comes.{Comes}
 

@@ -10,12 +10,12 @@ use Rattle.std.proofs.Math.Seq.{get_or-append_seam}
 use Rattle.ft_fields.specs.declared.pos.Pos.{Pos}
 use Rattle.ft_fields.specs.Traced.{Traced}
 use Rattle.ft_fields.specs.declared.key.Part.{Part}
-use Rattle.ft_fields.specs.Parts.{key_cmp}
+use Rattle.ft_fields.specs.Parts.{key_cmp, same_key}
 use Rattle.ft_fields.specs.Orders.{key_cmp_total}
 use Rattle.ft_fields.specs.Ties.{key_same}
 use Rattle.ft_maps.specs.Entries.{same_from_tie}
 use Rattle.ft_maps.specs.Mapped.{get-map_by, map_by-empty}
-use Rattle.ft_groups.specs.Grouped.{same_key, Grouped, run_of}
+use Rattle.ft_groups.specs.Grouped.{Grouped, run_of}
 use Rattle.ft_groups.specs.inner.Adding.{AddsEvent}
 use Rattle.ft_groups.specs.inner.Placed.{nth_run, grouped_by_places, AreIndexed}
 

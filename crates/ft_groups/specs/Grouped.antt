@@ -3,13 +3,12 @@ use Rattle.std.specs.Prelude.{◌≡◌, ◌<◌, ℕ, Bool, false, List, [], le
 use Rattle.std.specs.Borrow.{Bor}
 use Rattle.std.specs.List.{filter, list_any}
 use Rattle.std.specs.Option.{option_map_or}
-use Rattle.std.specs.Ordering.{eq_by_cmp}
 use Rattle.std.specs.FinMap as map
 use Rattle.std.specs.FinMap.{FinMap}
 use Rattle.ft_fields.specs.declared.pos.Pos.{Pos}
 use Rattle.ft_fields.specs.Traced.{Traced}
 use Rattle.ft_fields.specs.declared.key.Part.{Part}
-use Rattle.ft_fields.specs.Parts.{key_cmp}
+use Rattle.ft_fields.specs.Parts.{key_cmp, same_key}
 use Rattle.ft_hist.specs.Hist.{Hist}
 use Rattle.ft_hist.specs.Hit.{hit}
 use Rattle.ft_store.specs.Stored.{held}
@@ -18,10 +17,6 @@ use Rattle.ft_store.specs.declared.stored.Stored.{Stored}
 -- events with their places, where references point to them
 abbrev pub referenced_events : List (Bor (Pos × Stored)) → List (Pos × Traced)
 referenced_events references = list_map (λ e. (e.now.0, held e.now.1)) references
-
--- whether two keys are the same
-abbrev pub same_key : List Part → List Part → Bool
-same_key = eq_by_cmp key_cmp
 
 -- whether a trigger counts an event under a key (kernel: histogram.rst, `keys`)
 abbrev pub is_under : Hist → List Part → Traced → Bool

@@ -1,6 +1,7 @@
 -- Key items match where they make parts of the same kinds.
 use Rattle.std.specs.Prelude.{◌≡◌, ◌↔◌, Bool, true, false, IsTrue, ◌&&◌, List, [], ◌∷◌, map}
 use Rattle.std.proofs.Common.{refl, sym, ap, ◌∙◌}
+use Rattle.std.proofs.lemmas.Bool.{and_parts}
 use Rattle.ft_hist.specs.declared.item.KeyItem.{KeyItem}
 use Rattle.ft_hist.specs.Matching.{item_kind, keys_match}
 use Rattle.ft_hist.specs.Modifiers.{same_kind}
@@ -10,11 +11,6 @@ use Rattle.ft_hist.proofs.ModifierLemmas.{kind_same, kind_itself}
 first_true : (a b : Bool) → (a && b) ≡ true → a ≡ true
 first_true true b e = refl
 first_true false b e = cc
-
--- the second of two tests, where both pass
-second_true : (a b : Bool) → (a && b) ≡ true → b ≡ true
-second_true true b e = e
-second_true false b e = cc
 
 -- two tests that pass
 both_true : (a b : Bool) → a ≡ true → b ≡ true → (a && b) ≡ true
@@ -28,7 +24,7 @@ kinds_are [] (y ∷ ys) e = cc
 kinds_are (x ∷ xs) [] e = cc
 kinds_are (x ∷ xs) (y ∷ ys) e =
     let first : item_kind x ≡ item_kind y = kind_same (item_kind x) (item_kind y) (first_true (same_kind (item_kind x) (item_kind y)) (keys_match xs ys) e) in
-    let rest : map item_kind xs ≡ map item_kind ys = kinds_are xs ys (second_true (same_kind (item_kind x) (item_kind y)) (keys_match xs ys) e) in
+    let rest : map item_kind xs ≡ map item_kind ys = kinds_are xs ys ((and_parts (same_kind (item_kind x) (item_kind y)) (keys_match xs ys) e).1) in
     cc
 
 -- key items that make parts of the same kinds match

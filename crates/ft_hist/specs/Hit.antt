@@ -1,6 +1,7 @@
 -- What a trigger counts an event under (kernel: histogram.rst, hist triggers).
-use Rattle.std.specs.Prelude.{Bool, true, false, ◌&&◌, List, [], ◌∷◌, Option, Some, None, option_map, if◌then◌else◌}
+use Rattle.std.specs.Prelude.{◌≡◌, ℕ, Bool, true, false, ◌&&◌, List, [], ◌∷◌, Option, Some, None, option_map, if◌then◌else◌}
 use Rattle.std.specs.Option.{option_and_then, option_map_or}
+use Rattle.std.specs.FinMap as map
 use Rattle.ft_fields.specs.declared.event.Name.{Name}
 use Rattle.ft_fields.specs.declared.event.Name.TheVariants as names
 use Rattle.ft_fields.specs.Traced.{Traced, name_of}
@@ -11,6 +12,7 @@ use Rattle.ft_hist.specs.declared.item.KeyItem.{KeyItem}
 use Rattle.ft_fields.specs.declared.key.Part.{Part}
 use Rattle.ft_hist.specs.Hist.{Hist}
 use Rattle.ft_hist.specs.Modifiers.{value_part}
+use Rattle.ft_hist.specs.Triggers.{Triggers}
 
 -- the part of a key that a key item makes of an event, where the event has the item's field (kernel: histogram.rst, `keys`)
 abbrev pub part_of : KeyItem → Traced → Option Part
@@ -42,3 +44,7 @@ is_asked hist event = same_name hist.event (name_of event.body) && passes_filter
 -- what a trigger counts an event under, where the event is a hit (kernel: histogram.rst, hist triggers)
 abbrev pub hit : Hist → Traced → Option (List Part)
 hit hist event = if is_asked hist event then key_of hist.keys event else None
+
+-- the event is no hit of any of the triggers (kernel: histogram.rst, hist triggers)
+abbrev pub IsNoHit : Triggers → Traced → Type 0
+IsNoHit triggers event = (id : ℕ) (hist : Hist) → map.get triggers id ≡ Some hist → hit hist event ≡ None

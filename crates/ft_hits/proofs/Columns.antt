@@ -20,7 +20,7 @@ tied Less e = cc
 tied Equal e = refl
 tied Greater e = cc
 
-not_none : {X : Type 0} (x : X) (o : Option X) → o ≡ Some x → o ≡ None → ⊥
+pub not_none : {X : Type 0} (x : X) (o : Option X) → o ≡ Some x → o ≡ None → ⊥
 not_none x o a b = cc
 
 module _ {K X : Type 0} {R : K → K → Ordering} (total : IsTotalOrder R) (same : IsAntisymmetric R) (h : X → ℕ) where

@@ -7,14 +7,15 @@ use Rattle.std.specs.Cmp.{eq_by_cmp_equiv, tied_then}
 use Rattle.std.specs.FinMap as map
 use Rattle.std.specs.FinMap.{find, is_sorted, entries_sorted, get-entries, get-empty, get-insert, get-remove, get-from_entries, same_map}
 use Rattle.ft_maps.specs.Entries.{and_left, and_right, is_less}
+use Rattle.ft_maps.proofs.Common.{and_true, and_false}
 pub use Rattle.ft_maps.specs.Entries.{equal_from_tie as is_equal}
 use Rattle.ft_hits.specs.declared.spot.Spot.{Spot}
 use Rattle.ft_fields.specs.declared.key.Part.{Part}
-use Rattle.ft_fields.specs.Parts.{key_cmp}
+use Rattle.ft_fields.specs.Parts.{key_cmp, same_key}
 use Rattle.ft_hits.specs.declared.mark.Mark.{Mark}
 use Rattle.ft_hits.specs.Spots.{spot_cmp, spot_cmp_total, spot_same}
 use Rattle.ft_hits.specs.Marks.{mark_cmp, mark_cmp_total, mark_same}
-use Rattle.ft_hits.specs.Hits.{EntryHits, Hits, same_key, hits_of}
+use Rattle.ft_hits.specs.Hits.{EntryHits, Hits, hits_of}
 use Rattle.ft_hits.specs.ByKey.{HitsByKey, flat}
 use Rattle.ft_fields.specs.Orders.{key_cmp_total}
 use Rattle.ft_fields.specs.Ties.{key_same}
@@ -38,14 +39,6 @@ same_back k q = (eq_by_cmp_equiv key_cmp_total).symm k q
 pub same_is : (k q : List Part) → same_key k q ≡ true → k ≡ q
 same_is k q e = key_same k q (is_equal _ e)
 
-pub true_and : (a : Bool) → (a && true) ≡ a
-true_and true = refl
-true_and false = refl
-
-pub false_and : (a : Bool) → (a && false) ≡ false
-false_and true = refl
-false_and false = refl
-
 -- ---- among the hits of a key
 
 find-hits_of : (spot : Spot) (key : List Part) (es : List Pair) → find spot_cmp spot (list_map (λ e. (e.0.spot, e.1)) (filter (λ e. same_key e.0.key key) es)) ≡ find mark_cmp (mark spot key) es
@@ -54,8 +47,8 @@ find-hits_of spot key (e ∷ es) =
     let rest = find-hits_of spot key es in
     let tie : eq_by_cmp mark_cmp (mark spot key) e.0 ≡ (eq_by_cmp spot_cmp spot e.0.spot && same_key e.0.key key) = marks_tie (mark spot key) e.0 ∙ ap (λ b. eq_by_cmp spot_cmp spot e.0.spot && b) (same_back key e.0.key) in
     elim (same_key e.0.key key) as (λ b. eq_by_cmp mark_cmp (mark spot key) e.0 ≡ (eq_by_cmp spot_cmp spot e.0.spot && b) → find spot_cmp spot (list_map (λ e. (e.0.spot, e.1)) (cond b (e ∷ filter (λ e. same_key e.0.key key) es) (filter (λ e. same_key e.0.key key) es))) ≡ cond (eq_by_cmp mark_cmp (mark spot key) e.0) (Some e.1) (find mark_cmp (mark spot key) es)) [
-      | true ↦ λ t. (λ i. cond (sym (t ∙ true_and _) i) (Some e.1) (rest i))
-      | false ↦ λ t. rest ∙ ap (λ b. cond b (Some e.1) (find mark_cmp (mark spot key) es)) (sym (t ∙ false_and _))
+      | true ↦ λ t. (λ i. cond (sym (t ∙ and_true _) i) (Some e.1) (rest i))
+      | false ↦ λ t. rest ∙ ap (λ b. cond b (Some e.1) (find mark_cmp (mark spot key) es)) (sym (t ∙ and_false _))
     ] tie
 
 pub get-hits_of : (hits : Hits) (spot : Spot) (key : List Part) → map.get (hits_of hits key) spot ≡ map.get hits (mark spot key)
@@ -80,8 +73,8 @@ find-with_key : (q : Mark) (key : List Part) (es : List (Spot × List ℤ)) → 
 find-with_key q key [] = elim (same_key q.key key) as (λ b. ◌≡◌ {A = Option (List ℤ)} None (cond b None None)) [ true ↦ refl | false ↦ refl ]
 find-with_key q key (e ∷ es) =
     elim (same_key q.key key) as (λ b. eq_by_cmp mark_cmp q (mark e.0 key) ≡ (eq_by_cmp spot_cmp q.spot e.0 && b) → find mark_cmp q (list_map (λ e. (mark e.0 key, e.1)) es) ≡ cond b (find spot_cmp q.spot es) None → cond (eq_by_cmp mark_cmp q (mark e.0 key)) (Some e.1) (find mark_cmp q (list_map (λ e. (mark e.0 key, e.1)) es)) ≡ cond b (cond (eq_by_cmp spot_cmp q.spot e.0) (Some e.1) (find spot_cmp q.spot es)) None) [
-      | true ↦ λ t rest i. cond ((t ∙ true_and _) i) (Some e.1) (rest i)
-      | false ↦ λ t rest i. cond ((t ∙ false_and _) i) (Some e.1) (rest i)
+      | true ↦ λ t rest i. cond ((t ∙ and_true _) i) (Some e.1) (rest i)
+      | false ↦ λ t rest i. cond ((t ∙ and_false _) i) (Some e.1) (rest i)
     ] (marks_tie q (mark e.0 key)) (find-with_key q key es)
 
 none_above : (q : Mark) (key : List Part) (by_key : List (List Part × EntryHits)) → same_key q.key key ≡ true → T (map.Entries.below_all key_cmp key by_key) → find mark_cmp q (flat_map with_key by_key) ≡ None
@@ -139,8 +132,8 @@ flat-insert by_key m v = same_map mark_cmp_total mark_same _ _ (λ q.
     at_key by_key m q (map.insert (unwrap_or (map.get by_key m.key) map.empty) m.spot v)
     ∙ ap (λ o. cond (same_key q.key m.key) o (map.get (flat by_key) q)) (get-insert spot_cmp_total (unwrap_or (map.get by_key m.key) map.empty) m.spot v q.spot)
     ∙ elim (same_key q.key m.key) as (λ b. same_key q.key m.key ≡ b → cond b (cond (eq_by_cmp spot_cmp q.spot m.spot) (Some v) (map.get (unwrap_or (map.get by_key m.key) map.empty) q.spot)) (map.get (flat by_key) q) ≡ cond (eq_by_cmp spot_cmp q.spot m.spot && b) (Some v) (map.get (flat by_key) q)) [
-      | true ↦ λ same i. cond (sym (true_and (eq_by_cmp spot_cmp q.spot m.spot)) i) (Some v) (entry_of by_key m q same i)
-      | false ↦ λ same. ap (λ b. cond b (Some v) (map.get (flat by_key) q)) (sym (false_and _))
+      | true ↦ λ same i. cond (sym (and_true (eq_by_cmp spot_cmp q.spot m.spot)) i) (Some v) (entry_of by_key m q same i)
+      | false ↦ λ same. ap (λ b. cond b (Some v) (map.get (flat by_key) q)) (sym (and_false _))
     ] refl
     ∙ ap (λ b. cond b (Some v) (map.get (flat by_key) q)) (sym (marks_tie q m))
     ∙ sym (get-insert mark_cmp_total (flat by_key) m v q))
@@ -150,8 +143,8 @@ flat-remove by_key m entry is = same_map mark_cmp_total mark_same _ _ (λ q.
     at_key by_key m q (map.remove entry m.spot)
     ∙ ap (λ o. cond (same_key q.key m.key) o (map.get (flat by_key) q)) (get-remove spot_cmp_total entry m.spot q.spot)
     ∙ elim (same_key q.key m.key) as (λ b. same_key q.key m.key ≡ b → cond b (cond (eq_by_cmp spot_cmp q.spot m.spot) None (map.get entry q.spot)) (map.get (flat by_key) q) ≡ cond (eq_by_cmp spot_cmp q.spot m.spot && b) None (map.get (flat by_key) q)) [
-      | true ↦ λ same i. cond (sym (true_and (eq_by_cmp spot_cmp q.spot m.spot)) i) None ((ap (λ o. map.get (unwrap_or o map.empty) q.spot) (sym is) ∙ entry_of by_key m q same) i)
-      | false ↦ λ same. ap (λ b. cond b None (map.get (flat by_key) q)) (sym (false_and _))
+      | true ↦ λ same i. cond (sym (and_true (eq_by_cmp spot_cmp q.spot m.spot)) i) None ((ap (λ o. map.get (unwrap_or o map.empty) q.spot) (sym is) ∙ entry_of by_key m q same) i)
+      | false ↦ λ same. ap (λ b. cond b None (map.get (flat by_key) q)) (sym (and_false _))
     ] refl
     ∙ ap (λ b. cond b None (map.get (flat by_key) q)) (sym (marks_tie q m))
     ∙ sym (get-remove mark_cmp_total (flat by_key) m q))

@@ -2,4 +2,4 @@ pub mod Columns
 pub mod Flat
 mod Whole
 pub mod Only
-mod Runs
+pub mod Runs

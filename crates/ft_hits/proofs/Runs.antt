@@ -18,6 +18,8 @@ use Rattle.std.proofs.lemmas.Grind.{common_steps}
 use Rattle.std.proofs.lemmas.List.Sums.{sum_by-cons}
 use Rattle.std.proofs.lemmas.Map.Made.{update_all_none}
 use Rattle.std.proofs.lemmas.Map.Keys.{IsDistinct-from_sorted}
+use Rattle.std.proofs.option.Match.{None-if_not_some}
+use Rattle.std.proofs.lemmas.Bool.{and_parts}
 use Rattle.ft_maps.specs.Entries.{entries-from_entries}
 use Rattle.ft_maps.specs.Seen.{seen, find-lookup, seen-from_get}
 use Rattle.ft_hits.specs.declared.spot.Spot.{Spot}
@@ -50,10 +52,6 @@ and_first : (a b : Bool) → (a && b) ≡ true → a ≡ true
 and_first true b e = refl
 and_first false b e = e
 
-and_second : (a b : Bool) → (a && b) ≡ true → b ≡ true
-and_second true b e = e
-and_second false b e = cc
-
 below_all : (a b : Spot) (qs : List Spot) → spot_cmp a b ≡ Less → AllByRecursion (λ q. spot_cmp b q ≡ Less) qs → AllByRecursion (λ q. spot_cmp a q ≡ Less) qs
 below_all a b [] lt h = tt
 below_all a b (q ∷ qs) lt h = (spot_cmp_total.trans a b q lt h.0, below_all a b qs lt h.1)
@@ -62,13 +60,13 @@ all_behind : (a : Spot) (es : List (Spot × List ℤ)) → rises (Some a) es ≡
 all_behind a [] h = tt
 all_behind a (e ∷ es) h =
     let lt : spot_cmp a e.0 ≡ Less = is_less _ (and_first (is_lt (spot_cmp a e.0)) (rises (Some e.0) es) h) in
-    (lt, below_all a e.0 (keys_of es) lt (all_behind e.0 es (and_second (is_lt (spot_cmp a e.0)) (rises (Some e.0) es) h)))
+    (lt, below_all a e.0 (keys_of es) lt (all_behind e.0 es ((and_parts (is_lt (spot_cmp a e.0)) (rises (Some e.0) es) h).1)))
 
 pub rises-sorted : (before : Option Spot) (es : List (Spot × List ℤ)) → rises before es ≡ true → IsStrictlySortedBy spot_cmp (keys_of es)
 unfolding IsStrictlySortedBy
 rises-sorted before [] h = tt
 rises-sorted before (e ∷ es) h =
-    let rest = and_second (is_after before e.0) (rises (Some e.0) es) h in
+    let rest = (and_parts (is_after before e.0) (rises (Some e.0) es) h).1 in
     (all_behind e.0 es rest, rises-sorted (Some e.0) es rest)
 
 -- ---- their sums
@@ -124,10 +122,6 @@ seen-run run hits sorted made = seen-from_get spot_cmp_total spot_same hits _ (�
 
 -- ---- in any order: the hits so far, and after them the rest
 
-not_some : {X : Type 0} (o : Option X) → is_some o ≡ false → o ≡ None
-not_some None e = refl
-not_some (Some x) e = cc
-
 none_or : {X : Type 0} (o p : Option X) → o ≡ None → option_or o p ≡ p
 none_or None p e = refl
 none_or (Some x) p e = cc
@@ -136,7 +130,7 @@ some_or : {X : Type 0} (o p q : Option X) → is_some o ≡ true → option_or o
 some_or None p q e = cc
 some_or (Some x) p q e = refl
 
-or_none : {X : Type 0} (o : Option X) → option_or o None ≡ o
+pub or_none : {X : Type 0} (o : Option X) → option_or o None ≡ o
 or_none None = refl
 or_none (Some x) = refl
 
@@ -152,7 +146,7 @@ module _ (hits : EntryHits) (e : Spot × List ℤ) (es : List (Spot × List ℤ)
   pub takes : map.contains_key hits e.0 ≡ false → option_or (map.get (map.insert hits e.0 e.1) q) (find spot_cmp q es) ≡ option_or (map.get hits q) (find spot_cmp q (e ∷ es))
   takes none = ap (λ o. option_or o (find spot_cmp q es)) (get-insert spot_cmp_total hits e.0 e.1 q) ∙ at (eq_by_cmp spot_cmp q e.0) refl where
     at : (b : Bool) → eq_by_cmp spot_cmp q e.0 ≡ b → option_or (cond b (Some e.1) (map.get hits q)) (find spot_cmp q es) ≡ option_or (map.get hits q) (cond b (Some e.1) (find spot_cmp q es))
-    at true tie = sym (none_or _ _ (ap (map.get hits) (spot_same q e.0 (is_equal _ tie)) ∙ not_some _ none))
+    at true tie = sym (none_or _ _ (ap (map.get hits) (spot_same q e.0 (is_equal _ tie)) ∙ None-if_not_some _ none))
     at false tie = refl
 
 -- none yet, and all after them

@@ -1,13 +1,12 @@
 -- All hits of one key in an index, and an index without hits.
 use Rattle.std.proofs.Common.{◌≡◌, Bool, true, false, cond, List, refl, ap, ◌∙◌}
-use Rattle.std.specs.Prelude.{ℤ}
 use Rattle.std.specs.List.{flat_map}
 use Rattle.std.specs.FinMap as map
 use Rattle.ft_fields.specs.declared.key.Part.{Part}
-use Rattle.ft_fields.specs.Parts.{key_cmp}
+use Rattle.ft_fields.specs.Parts.{key_cmp, same_key}
 use Rattle.ft_maps.specs.Entries.{entries-empty}
 use Rattle.ft_hits.specs.ByKey.{HitsByKey, flat}
-use Rattle.ft_hits.specs.Hits.{EntryHits, TakesHits, same_key}
+use Rattle.ft_hits.specs.Hits.{EntryHits, TakesHits}
 use Rattle.ft_hits.proofs.Flat.{mark, same_itself, same_is, at_key}
 
 apart : (k q : List Part) → (k ≡ q → ⊥) → (b : Bool) → same_key k q ≡ b → b ≡ false

@@ -2,13 +2,13 @@
 use Rattle.std.specs.Prelude.{◌≡◌, ℕ, ◌%◌, ◌^◌, ℤ, pos, Bool, true, List, [], ◌∷◌, Option, Some, None, option_map, map as list_map, slice_index_or, if◌then◌else◌}
 use Rattle.std.specs.List.{filter, sum_by}
 use Rattle.std.specs.Int.{w64, cast_unsigned}
-use Rattle.std.specs.Ordering.{eq_by_cmp, is_lt}
+use Rattle.std.specs.Ordering.{is_lt}
 use Rattle.std.specs.FinMap as map
 use Rattle.std.specs.FinMap.{FinMap}
 use Rattle.ft_hits.specs.declared.spot.Spot.{Spot}
 use Rattle.ft_hits.specs.Spots.{IsMade, spot_cmp}
 use Rattle.ft_fields.specs.declared.key.Part.{Part}
-use Rattle.ft_fields.specs.Parts.{key_cmp}
+use Rattle.ft_fields.specs.Parts.{same_key}
 use Rattle.ft_hits.specs.declared.hit.Hit.{Hit}
 use Rattle.ft_hits.specs.declared.mark.Mark.{Mark}
 use Rattle.ft_hits.specs.Marks.{mark_cmp}
@@ -24,10 +24,6 @@ EntryHits = FinMap spot_cmp (List ℤ)
 -- all hits are of events of the trace
 abbrev pub AreTraced : Hits → Type 0
 AreTraced hits = (m : Mark) → IsMade m.spot → map.get hits m ≡ None
-
--- whether two keys are the same
-abbrev pub same_key : List Part → List Part → Bool
-same_key = eq_by_cmp key_cmp
 
 -- the hits of a key among all
 unfoldable pub hits_of : Hits → List Part → EntryHits

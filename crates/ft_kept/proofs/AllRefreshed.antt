@@ -6,18 +6,18 @@ use Rattle.std.specs.Ordering.{eq_by_cmp}
 use Rattle.std.specs.Cmp.{nat_cmp_total}
 use Rattle.std.specs.FinMap as map
 use Rattle.std.specs.FinMap.{nat_cmp-IsAntisymmetric}
-use Rattle.std.proofs.lemmas.Bool.{true≢false}
+use Rattle.std.proofs.lemmas.Bool.{and_parts, true≢false, or_right}
 use Rattle.ft_fields.specs.Traced.{Traced}
 use Rattle.ft_hist.specs.Triggers.{Triggers}
 use Rattle.ft_fields.specs.declared.key.Part.{Part}
 use Rattle.ft_pairs.specs.Next.{IsNext}
 use Rattle.ft_pairs.specs.Order.{at_cmp, at_cmp_total, at_same}
-use Rattle.ft_pairs.specs.Source.{Ops}
+use Rattle.ft_pairs.specs.Source.{Ops, is_read}
 use Rattle.ft_pairs.specs.declared.at.At.{At}
 use Rattle.ft_pairs.specs.declared.at.Op.{Op}
 use Rattle.ft_kept.specs.Acts.{Acts}
 use Rattle.ft_kept.specs.Entries.{IsKeptBut}
-use Rattle.ft_kept.specs.inner.Stale.{is_next_read, is_read, is_switched_as, reads_at}
+use Rattle.ft_kept.specs.inner.Stale.{is_next_read, is_switched_as, reads_at}
 use Rattle.ft_kept.specs.inner.Settling.{stale_by_saver, without_moved}
 use Rattle.ft_shelves.specs.Shelves.{Shelves, admits_on, kept_on, role_on}
 use Rattle.ft_shelves.specs.Following.{MovesKeys}
@@ -27,7 +27,7 @@ use Rattle.ft_table.specs.Values.{values_by}
 use Rattle.ft_pairs.specs.declared.role.Role.{Role}
 use Rattle.ft_pairs.specs.declared.role.Role.TheVariants.{Plain, Saves, Reads}
 use Rattle.ft_pairs.specs.declared.role.Variable.{Variable}
-use Rattle.ft_shelves.proofs.Decided.{decided, key_decided, or_true, tied}
+use Rattle.ft_shelves.proofs.Decided.{decided, key_decided, tied}
 use Rattle.ft_kept.proofs.Forms.{same_admits}
 use Rattle.ft_kept.proofs.Staleness.{op_read, same_differ}
 
@@ -43,21 +43,14 @@ either : (a b : Bool) → (a || b) ≡ true → (a ≡ true) ⊎ (b ≡ true)
 either true b e = inl refl
 either false b e = inr e
 
-and_left : (a b : Bool) → (a && b) ≡ true → a ≡ true
-and_left true b e = refl
-and_left false b e = e
-
-and_right : (a b : Bool) → (a && b) ≡ true → b ≡ true
-and_right true b e = e
-and_right false b e = absurd (true≢false (sym e))
-
 -- the next operation that is a read is one of the reads
 next_reads : (ops : Ops) (at : At) (next : Option (At × Op)) → IsNext ops (Some at) next → (q : At) → is_next_read next q ≡ true → reads_at ops q ≡ true
 next_reads ops at None none q e = absurd (true≢false (sym e))
 next_reads ops at (Some n) first q e =
-    ap (λ p. option_map_or is_read (ops p) false) (tied at_cmp_total at_same q n.0 (and_right (is_read n.1) (eq_by_cmp at_cmp q n.0) e))
+    let both = and_parts (is_read n.1) (eq_by_cmp at_cmp q n.0) e in
+    ap (λ p. option_map_or is_read (ops p) false) (tied at_cmp_total at_same q n.0 both.1)
     ∙ ap (λ o. option_map_or is_read o false) first.there
-    ∙ and_left (is_read n.1) (eq_by_cmp at_cmp q n.0) e
+    ∙ both.0
 
 other_decided : (o : Option (List Part)) (k : List Part) → (o ≡ Some k) ⊎ (o ≡ Some k → ⊥)
 other_decided None k = inr (λ e. absurd (cc))
@@ -89,7 +82,7 @@ module _ (triggers : Triggers) (old mid : Shelves) (at : At) (key : List Part) (
         elim (key_decided b.0 key) [
           | inl own ↦
               let moved_own : moves.own ≡ true = moved.itself ∙ subst (λ k. differ (admits_on old at.trigger k) (admits_on mid at.trigger k) ≡ true) own differs in
-              or_true other_reads own_or_next
+              or_right other_reads own_or_next
               (ap (λ x. if x then reads_at ((kept_on mid).ops (variable key)) q else is_next_read next q) moved_own ∙ subst (λ k. reads_at ((kept_on mid).ops (variable k)) q ≡ true) own reads)
           | inr apart ↦ elim (other_decided moves.other b.0) [
             | inl it ↦ or_first other_reads own_or_next (ap (λ o. option_map_or (λ k. reads_at ((kept_on mid).ops (variable k)) q) o false) it ∙ reads)
@@ -110,6 +103,6 @@ module _ (triggers : Triggers) (old mid : Shelves) (at : At) (key : List Part) (
     pub all_refreshed : without_moved mid at.trigger key moves next (stale_by_saver old mid after next) q ≡ true → false ≡ true
     all_refreshed = refuted (stale_by_saver old mid after next q) other_reads own_or_next (λ stale.
         elim (either (is_next_read next q) (is_switched_as (admits_on old) (admits_on mid) (role_on old q.trigger) (after q)) stale) [
-          | inl is_it ↦ or_true other_reads own_or_next (next_refreshed is_it)
+          | inl is_it ↦ or_right other_reads own_or_next (next_refreshed is_it)
           | inr switched ↦ switched_refreshed (role_on old q.trigger) (after q) refl refl switched
         ])

@@ -2,12 +2,10 @@
 use Rattle.std.proofs.Common.{◌≡◌, ℕ, ℤ, Bool, true, false, cond, List, refl, sym, ap, subst, ◌∙◌, Some, None, Option, inl, inr}
 use Rattle.std.specs.Prelude.{◌&&◌, ◌⊎◌, option_and_then, option_map}
 use Rattle.std.specs.Option.{option_map_or}
-use Rattle.std.specs.declared.cmp.Ordering.{Ordering}
-use Rattle.std.specs.declared.cmp.Ordering.TheVariants.{Less, Equal, Greater}
-use Rattle.std.specs.Ordering.{nat_cmp, is_eq, eq_by_cmp, ordering_then}
+use Rattle.std.specs.Ordering.{nat_cmp, eq_by_cmp}
 use Rattle.std.specs.FinMap as map
 use Rattle.std.specs.FinMap.{FinMap, find, entries_sorted, get-empty, get-entries, get-from_entries, nat_cmp-IsAntisymmetric}
-use Rattle.std.specs.Cmp.{nat_cmp_total}
+use Rattle.std.specs.Cmp.{nat_cmp_total, tied_then}
 use Rattle.std.proofs.lemmas.Bool.{true≢false}
 use Rattle.ft_fields.specs.Places.{pos_cmp, pos_same}
 use Rattle.ft_fields.specs.Traced.{Traced}
@@ -19,7 +17,9 @@ use Rattle.ft_hist.specs.Hit.{hit}
 use Rattle.ft_fields.specs.Orders.{key_cmp_total}
 use Rattle.ft_fields.specs.Ties.{key_same}
 use Rattle.ft_fields.specs.declared.key.Part.{Part}
+use Rattle.ft_fields.specs.Parts.{same_key}
 use Rattle.ft_maps.specs.Entries.{strictly_sorted}
+use Rattle.ft_maps.proofs.Common.{cond_same}
 use Rattle.ft_pairs.specs.ByKey.{ops_of}
 use Rattle.ft_pairs.specs.Order.{at_cmp, at_cmp_total}
 use Rattle.ft_pairs.specs.Roles.{Admits, op_as}
@@ -30,7 +30,7 @@ use Rattle.ft_pairs.specs.declared.at.Op.TheVariants.{Save, Read}
 use Rattle.ft_pairs.specs.declared.role.Role.{Role}
 use Rattle.ft_pairs.specs.declared.role.Role.TheVariants.{Plain, Saves, Reads}
 use Rattle.ft_pairs.specs.declared.role.Variable.{Variable}
-use Rattle.ft_table.specs.Hits.{same_key}
+use Rattle.ft_pairs.proofs.Local.{same_source}
 use Rattle.ft_table.specs.Spots.{spot_cmp, spot_cmp_total, traced}
 use Rattle.ft_table.specs.Tabled.{is_in}
 use Rattle.ft_table.specs.Values.{ValuesBy, values_at, values_by}
@@ -41,18 +41,12 @@ use Rattle.ft_kept.specs.Entries.{HitsHere, IsEntry, IsKept, IsRight, hits_here,
 use Rattle.ft_shelves.specs.Shelves.{FormsStay, MadeStay, Shelved, Shelves, admits_on, is_saver, kept_on, role_on}
 use Rattle.ft_shelves.specs.Joining.{HasGroups, HasSaves, hits_of_run, saves_of_run}
 use Rattle.ft_shelves.proofs.Decided.{decided, itself, none_not_some, untied}
-use Rattle.ft_shelves.proofs.Finding.{find-filter, find-turned, none_both}
+use Rattle.ft_shelves.proofs.Finding.{find-filter, find-turned}
 use Rattle.ft_kept.proofs.Forms.{admits_by, by_id, edited, hits_by, ops_by, read_by, role_at, same_admits, same_hits, same_ops, same_read}
-use Rattle.ft_kept.proofs.Staleness.{alike_source, entry_same, op_elsewhere, op_read}
+use Rattle.ft_kept.proofs.Staleness.{entry_same, op_elsewhere, op_read}
 use Rattle.ft_kept.proofs.Putting.{absent_read, values_there}
 
 -- ---- in a run
-
--- two parts tie where both do
-pub then_ties : (a b : Ordering) → is_eq (ordering_then a b) ≡ (is_eq a && is_eq b)
-then_ties Less b = refl
-then_ties Equal b = refl
-then_ties Greater b = refl
 
 module _ (hist : Hist) (events : FinMap pos_cmp Traced) (key : List Part) where
   -- the event at a place, where the trigger counts it under the key
@@ -71,7 +65,7 @@ module _ (hist : Hist) (events : FinMap pos_cmp Traced) (key : List Part) where
   hit_found spot =
       get-from_entries spot_cmp_total (hits_of_run hist (run_under hist (map.entries events) key)) spot
       ∙ find-turned traced (λ pos event. values_at hist pos event None) pos_same (λ (s : Spot). s.pos) (λ s. eq_by_cmp nat_cmp s.maker 0) spot_cmp
-      (λ s pos. then_ties (pos_cmp s.pos pos) (nat_cmp s.maker 0)) spot (run_under hist (map.entries events) key)
+      (λ s pos. sym (tied_then (pos_cmp s.pos pos) (nat_cmp s.maker 0))) spot (run_under hist (map.entries events) key)
       ∙ ap (λ o. cond (eq_by_cmp nat_cmp spot.maker 0) (option_map (λ event. values_at hist spot.pos event None) o) None) (run_found spot.pos)
 
   -- the saves of a key's run, by place: those of the saver
@@ -80,7 +74,7 @@ module _ (hist : Hist) (events : FinMap pos_cmp Traced) (key : List Part) where
   save_found id at =
       get-from_entries at_cmp_total (saves_of_run id (run_under hist (map.entries events) key)) at
       ∙ find-turned {X = Traced} (λ pos. record { pos = pos; trigger = id }) (λ pos event. Save) pos_same (λ (q : At). q.pos) (λ q. eq_by_cmp nat_cmp q.trigger id) at_cmp
-      (λ q pos. then_ties (pos_cmp q.pos pos) (nat_cmp q.trigger id)) at (run_under hist (map.entries events) key)
+      (λ q pos. sym (tied_then (pos_cmp q.pos pos) (nat_cmp q.trigger id))) at (run_under hist (map.entries events) key)
       ∙ ap (λ o. cond (eq_by_cmp nat_cmp at.trigger id) (option_map (λ event. Save) o) None) (run_found at.pos)
 
   -- an event that is counted under the key is an act with it
@@ -97,7 +91,7 @@ module _ (hist : Hist) (events : FinMap pos_cmp Traced) (key : List Part) where
 
 -- ---- operations
 
-trigger_decided : (i j : ℕ) → (i ≡ j) ⊎ (i ≡ j → ⊥)
+pub trigger_decided : (i j : ℕ) → (i ≡ j) ⊎ (i ≡ j → ⊥)
 trigger_decided = decided nat_cmp_total nat_cmp-IsAntisymmetric
 
 -- whether keys of another saver are in its table says nothing of what an act does to a variable
@@ -144,7 +138,7 @@ unfolding op_of
 op_saver_own role admits acts key q in_table saves admitted =
     elim (acts q) as (λ o. cond in_table (option_map (λ event. Save) (option_and_then (λ (act : List Part × Traced). cond (same_key key act.0) (Some act.1) None) o)) None
     ≡ option_and_then (λ act. op_as admits Saves (record { saver = q.trigger; key = key }) q.trigger act.0) o) [
-      | None ↦ none_both in_table
+      | None ↦ cond_same in_table None
       | Some act ↦ one act (decided key_cmp_total key_same key act.0)
     ]
     ∙ sym (ap (λ r. option_and_then (λ act. op_as admits r (record { saver = q.trigger; key = key }) q.trigger act.0) (acts q)) saves)
@@ -159,7 +153,7 @@ op_saver_own role admits acts key q in_table saves admitted =
         (ap (λ k. eq_by_cmp variable_cmp (record { saver = q.trigger; key = k }) (record { saver = q.trigger; key = act.0 })) own ∙ itself variable_cmp_total (record { saver = q.trigger; key = act.0 })))
     one act (inr apart) =
         ap (λ b. cond in_table (option_map (λ event. Save) (cond b (Some act.1) None)) None) (untied key_cmp_total key_same key act.0 apart)
-        ∙ none_both in_table
+        ∙ cond_same in_table None
         ∙ sym (ap (λ b. cond b (cond (admits q.trigger act.0) (Some Save) None) None)
         (untied variable_cmp_total variable_same (record { saver = q.trigger; key = key }) (record { saver = q.trigger; key = act.0 }) (λ e. apart (ap (λ (v : Variable). v.key) e))))
 
@@ -190,7 +184,7 @@ module _ (triggers : Triggers) (old new : Shelves) (id : ℕ) (shelf after : She
       table.hits m
       ∙ get-from_entries spot_cmp_total (hits_of_run hist (run_of groups m.key)) m.spot
       ∙ find-turned traced (λ pos event. values_at hist pos event None) pos_same (λ (s : Spot). s.pos) (λ s. eq_by_cmp nat_cmp s.maker 0) spot_cmp
-      (λ s pos. then_ties (pos_cmp s.pos pos) (nat_cmp s.maker 0)) m.spot (run_of groups m.key)
+      (λ s pos. sym (tied_then (pos_cmp s.pos pos) (nat_cmp s.maker 0))) m.spot (run_of groups m.key)
       ∙ ap (λ b. cond b (option_map (λ event. values_at hist m.spot.pos event None) (find pos_cmp m.spot.pos (run_of groups m.key))) None)
       (untied nat_cmp_total nat_cmp-IsAntisymmetric m.spot.maker 0 made)
       ∙ sym (ap (λ hits. map.get hits m) bare ∙ get-empty _ m)
@@ -240,10 +234,10 @@ module _ (triggers : Triggers) (old new : Shelves) (id : ℕ) (shelf after : She
           | inl none ↦ absurd (none_not_some ((kept_on old).ops (record { saver = saver; key = a.0 }) q) Read
               (ap (λ i. (kept_on old).ops (record { saver = i; key = a.0 }) q) own ∙ none q)
               (kept.ops (record { saver = saver; key = a.0 }) q ∙ op_read (role_on old) (admits_on old) before q saver a reads acts))
-          | inr same ↦ alike_source ((kept_on old).ops (record { saver = saver; key = a.0 })) ((kept_on new).ops (record { saver = saver; key = a.0 })) q
+          | inr same ↦ same_source ((kept_on old).ops (record { saver = saver; key = a.0 })) ((kept_on new).ops (record { saver = saver; key = a.0 })) q
               (λ p _. subst (λ i. (kept_on new).ops (record { saver = i; key = a.0 }) p ≡ (kept_on old).ops (record { saver = i; key = a.0 }) p) (sym own) (same p)) found h
         ]
-        | inr apart ↦ alike_source ((kept_on old).ops (record { saver = saver; key = a.0 })) ((kept_on new).ops (record { saver = saver; key = a.0 })) q
+        | inr apart ↦ same_source ((kept_on old).ops (record { saver = saver; key = a.0 })) ((kept_on new).ops (record { saver = saver; key = a.0 })) q
             (λ p _. same_ops old new saver (others saver apart) a.0 p) found h
       ]
 
@@ -320,7 +314,7 @@ module _ (triggers : Triggers) (old new : Shelves) (id : ℕ) (shelf after : She
             ∙ op_saver_own (role_on old) (admits_on new) acts key (record { pos = q.pos; trigger = id }) (is_in after.table key) saves (admitted key))
         | inr apart ↦
             ap (λ b. cond (is_in after.table key) (cond b (option_map (λ event. Save) (counted_at hist events key q.pos)) None) None) (untied nat_cmp_total nat_cmp-IsAntisymmetric q.trigger id apart)
-            ∙ none_both (is_in after.table key)
+            ∙ cond_same (is_in after.table key) None
             ∙ sym (op_stays (role_on old) (admits_on old) (admits_on new) before acts (record { saver = id; key = key }) q (λ e. apart (sym e)) (come.elsewhere q apart)
             ∙ sym (kept.ops (record { saver = id; key = key }) q) ∙ unsaved key q)
       ]

@@ -1,6 +1,6 @@
 -- A reader whose acts come at once, key by key: what is kept of the keys that came, and at last of all.
 use Rattle.std.proofs.Common.{◌≡◌, ◌≤◌, ◌++◌, ℕ, ℤ, Bool, true, false, cond, List, [], ◌∷◌, length, refl, sym, ap, subst, ◌∙◌, arith, Some, None, Option, inl, inr}
-use Rattle.std.specs.Prelude.{◌⊎◌, ◌&&◌, ◌||◌, is_some, nat_lt, option_and_then, option_map}
+use Rattle.std.specs.Prelude.{◌&&◌, ◌||◌, is_some, nat_lt, option_and_then, option_map}
 use Rattle.std.specs.Option.{option_map_or}
 use Rattle.std.specs.List.{list_any}
 use Rattle.std.specs.List.Sorted.{IsStrictlySortedBy}
@@ -19,7 +19,9 @@ use Rattle.ft_hist.specs.Triggers.{Triggers}
 use Rattle.ft_fields.specs.Orders.{key_cmp_total}
 use Rattle.ft_fields.specs.Ties.{key_same}
 use Rattle.ft_fields.specs.declared.key.Part.{Part}
+use Rattle.ft_fields.specs.Parts.{same_key}
 use Rattle.ft_maps.specs.Entries.{strictly_sorted}
+use Rattle.ft_maps.proofs.Common.{and_true, and_false}
 use Rattle.ft_pairs.specs.ByKey.{ops_of}
 use Rattle.ft_pairs.specs.Edits.{same_at}
 use Rattle.ft_pairs.specs.Runs.{FindEach, with_reads}
@@ -30,7 +32,8 @@ use Rattle.ft_pairs.specs.declared.role.Role.{Role}
 use Rattle.ft_pairs.specs.declared.role.Role.TheVariants.{Reads}
 use Rattle.ft_pairs.specs.declared.role.Variable.{Variable}
 use Rattle.ft_pairs.specs.Roles.{variable_of}
-use Rattle.ft_table.specs.Hits.{Hits, same_key}
+use Rattle.ft_pairs.proofs.Local.{same_source}
+use Rattle.ft_table.specs.Hits.{Hits}
 use Rattle.ft_table.specs.Runs.{HasNone}
 use Rattle.ft_table.specs.Spots.{IsMade, spot_cmp, spot_cmp_total, traced}
 use Rattle.ft_table.specs.Tabled.{Tabled, is_in}
@@ -46,20 +49,13 @@ use Rattle.ft_shelves.specs.Shelves.{ChangesShelf, FormsStay, MadeStay, Readings
 use Rattle.ft_shelves.specs.Edits.{OpsChange}
 use Rattle.ft_shelves.specs.Joining.{ReadingsSet, RunComes, found_last}
 use Rattle.ft_kept.specs.inner.JoiningReads.{hits_found, readings_found, reads_of_run}
-use Rattle.ft_kept.proofs.AtOnce.{counted_acts, run_found}
-use Rattle.ft_shelves.proofs.Both.{and_false, and_true}
-use Rattle.ft_shelves.proofs.Decided.{decided, itself, untied}
+use Rattle.ft_kept.proofs.AtOnce.{counted_acts, run_found, trigger_decided}
+use Rattle.ft_shelves.proofs.Decided.{itself, untied, key_decided}
 use Rattle.ft_kept.proofs.Forms.{changed_forms, forms_refl, forms_trans, hits_by, read_admits, read_elsewhere, read_forms, read_here as read_op_here, read_hits, read_readings, role_at, roles_stay, same_hits, same_read, shelf_stays, tells_here, tells_same}
 use Rattle.ft_kept.proofs.FoundRuns.{any_read, found_at, found_hit, found_there, hits_at, read_or, readings_at, sorted_filter, source_at, told_behind}
 use Rattle.ft_shelves.proofs.KeyByKey.{IsOnce, no_run}
-use Rattle.ft_kept.proofs.Staleness.{alike_source, entry_same, op_absent, op_elsewhere, op_none, op_read}
+use Rattle.ft_kept.proofs.Staleness.{entry_same, op_absent, op_elsewhere, op_none, op_read}
 use Rattle.ft_kept.proofs.Putting.{values_there}
-
-id_decided : (i j : ℕ) → (i ≡ j) ⊎ (i ≡ j → ⊥)
-id_decided = decided nat_cmp_total nat_cmp-IsAntisymmetric
-
-key_decided : (p q : List Part) → (p ≡ q) ⊎ (p ≡ q → ⊥)
-key_decided = decided key_cmp_total key_same
 
 -- ---- a shelf's table takes a run
 
@@ -411,7 +407,7 @@ module _ (triggers : Triggers) (hist : Hist) (groups : Grouped) (id saver : ℕ)
           (passed a.0 (λ e. apart (sym e))) (entry_was (Some a) acting) in
           entry_same (values_by triggers) (kept_on was).ops (kept_on new).ops (own pos) (Reads saver) (act_beside rest (Some a)) (hits_here (kept_on was) (own pos)) (hits_here (kept_on new) (own pos))
           (found_last told pos) (found_last (told ++ readings_found (run_of groups key) found) pos) (hits_stay none) (told_stays none)
-          (λ s b same is f source. alike_source ((kept_on was).ops (record { saver = s; key = b.0 })) ((kept_on new).ops (record { saver = s; key = b.0 })) (own pos)
+          (λ s b same is f source. same_source ((kept_on was).ops (record { saver = s; key = b.0 })) ((kept_on new).ops (record { saver = s; key = b.0 })) (own pos)
           (λ p _. apart_ops (record { saver = s; key = b.0 }) (λ e. apart (sym (ap (λ (v : Variable). v.key) e) ∙ sym (ap (λ (x : List Part × Traced). x.0) (beside_is rest a b is)))) p) f source)
           was_right
 
@@ -428,7 +424,7 @@ module _ (triggers : Triggers) (hist : Hist) (groups : Grouped) (id saver : ℕ)
 
         source_here : IsSource ((kept_on new).ops (variable a.0)) (own pos) here_found.0
         source_here = subst (λ k. IsSource ((kept_on new).ops (variable k)) (own pos) here_found.0) same
-            (alike_source ((kept_on mid).ops (variable key)) ((kept_on new).ops (variable key)) (own pos) (λ p _. new_ops (variable key) p) here_found.0
+            (same_source ((kept_on mid).ops (variable key)) ((kept_on new).ops (variable key)) (own pos) (λ p _. new_ops (variable key) p) here_found.0
             (source_at ((kept_on mid).ops (variable key)) id (run_of groups key) found finds pos a.1 here_found.0 here_found.1))
 
         worth : Option (List ℤ)
@@ -512,7 +508,7 @@ module _ (triggers : Triggers) (hist : Hist) (groups : Grouped) (id saver : ℕ)
       not_own v q k same other is = other (ap (λ (o : Option Variable). option_map_or (λ (x : Variable). x) o v) (sym (ap (λ r. variable_of r q.trigger k) (reads_there q same)) ∙ is))
 
       else_op : (v : Variable) (q : At) → (v.saver ≡ saver → ⊥) → op_of (role_on old) (admits_on old) before v q ≡ op_of (role_on old) (admits_on new) after v q
-      else_op v q other = elim (id_decided q.trigger id) [
+      else_op v q other = elim (trigger_decided q.trigger id) [
         | inr apart ↦ stays_op v q apart
         | inl same ↦ op_absent (role_on old) (admits_on old) before v q (before_none q same) ∙ sym (by same (acts_with hist events q.pos) refl)
       ]
@@ -542,7 +538,7 @@ module _ (triggers : Triggers) (hist : Hist) (groups : Grouped) (id saver : ℕ)
           set_ops id told was new sets (variable k) q
           ∙ came.ops k q
           ∙ ap (λ b. cond b (Some Read) ((kept_on old).ops (variable k) q)) (any_read id q (run_of groups k))
-          ∙ elim (id_decided q.trigger id) [
+          ∙ elim (trigger_decided q.trigger id) [
             | inl same ↦
                 ap (λ b. cond (is_some (find pos_cmp q.pos (run_of groups k)) && b) (Some Read) ((kept_on old).ops (variable k) q)) (ap (λ i. eq_by_cmp nat_cmp i id) same ∙ itself nat_cmp_total id)
                 ∙ ap (λ b. cond b (Some Read) ((kept_on old).ops (variable k) q)) (and_true (is_some (find pos_cmp q.pos (run_of groups k))))
@@ -556,7 +552,7 @@ module _ (triggers : Triggers) (hist : Hist) (groups : Grouped) (id saver : ℕ)
           ]
 
       all_ops : (v : Variable) (q : At) → (kept_on new).ops v q ≡ op_of (role_on old) (admits_on new) after v q
-      all_ops v q = elim (id_decided v.saver saver) [
+      all_ops v q = elim (trigger_decided v.saver saver) [
         | inl own ↦ subst (λ (x : Variable). (kept_on new).ops x q ≡ op_of (role_on old) (admits_on new) after x q) (λ i. record { saver = sym own i; key = v.key }) (own_op v.key q)
         | inr other ↦ set_ops id told was new sets v q ∙ came.elsewhere v other q ∙ kept.ops v q ∙ else_op v q other
       ]
@@ -566,7 +562,7 @@ module _ (triggers : Triggers) (hist : Hist) (groups : Grouped) (id saver : ℕ)
           (λ i. (sym reads i, (beside_none (acts_with hist events pos) ∙ sym (comes.here pos)) i))
           (entry_same (values_by triggers) (kept_on was).ops (kept_on new).ops (own pos) (Reads saver) (act_beside [] (acts_with hist events pos)) (hits_here (kept_on was) (own pos)) (hits_here (kept_on new) (own pos))
           (found_last told pos) (read_here (kept_on new) (own pos)) (λ k. set_hits id told was new sets id (record { spot = traced pos; key = k })) (set_here id told was new sets was_shelved pos)
-          (λ s a same is f source. alike_source ((kept_on was).ops (record { saver = s; key = a.0 })) ((kept_on new).ops (record { saver = s; key = a.0 })) (own pos)
+          (λ s a same is f source. same_source ((kept_on was).ops (record { saver = s; key = a.0 })) ((kept_on new).ops (record { saver = s; key = a.0 })) (own pos)
           (λ p _. set_ops id told was new sets (record { saver = s; key = a.0 }) p) f source)
           (came.entries events grouped pos))
 
@@ -578,7 +574,7 @@ module _ (triggers : Triggers) (hist : Hist) (groups : Grouped) (id saver : ℕ)
           (entry_same (values_by triggers) (kept_on old).ops (kept_on new).ops q (role_on old q.trigger) (before q) (hits_here (kept_on old) q) (hits_here (kept_on new) q) (read_here (kept_on old) q) (read_here (kept_on new) q)
           (λ k. set_hits id told was new sets q.trigger (record { spot = traced q.pos; key = k }) ∙ came.foreign q.trigger apart (record { spot = traced q.pos; key = k }))
           (set_foreign id told was new sets q.trigger apart q.pos ∙ came.read q.trigger q.pos)
-          (λ s a role is f source. alike_source ((kept_on old).ops (record { saver = s; key = a.0 })) ((kept_on new).ops (record { saver = s; key = a.0 })) q
+          (λ s a role is f source. same_source ((kept_on old).ops (record { saver = s; key = a.0 })) ((kept_on new).ops (record { saver = s; key = a.0 })) q
           (λ p _. set_ops id told was new sets (record { saver = s; key = a.0 }) p
           ∙ came.elsewhere (record { saver = s; key = a.0 }) (λ e. apart (bare.alone saver q.trigger reads (role ∙ ap Reads e))) p) f source)
           (old_right q))
@@ -587,7 +583,7 @@ module _ (triggers : Triggers) (hist : Hist) (groups : Grouped) (id saver : ℕ)
       pub all_kept : IsKept (role_on old) (values_by triggers) (admits_on new) after (kept_on new)
       all_kept = record {
         ops = all_ops;
-        entries = λ q. inr (elim (id_decided q.trigger id) [
+        entries = λ q. inr (elim (trigger_decided q.trigger id) [
           | inl same ↦ subst (IsRight (role_on old) (values_by triggers) after (kept_on new)) (λ i. record { pos = q.pos; trigger = sym same i }) (own_right q.pos)
           | inr apart ↦ others_right q apart
         ]);

@@ -6,7 +6,7 @@ use Rattle.std.specs.Option.{option_map_or}
 use Rattle.std.specs.Ordering.{nat_cmp, eq_by_cmp}
 use Rattle.std.specs.FinMap as map
 use Rattle.std.specs.FinMap.{find, get-entries}
-use Rattle.std.proofs.lemmas.Bool.{eq-eqb, eqb-true, true≢false}
+use Rattle.std.proofs.lemmas.Bool.{eq-eqb, eqb-true, true≢false, or_parts}
 use Rattle.std.proofs.lemmas.Map.Lookups.{exact_unsigned}
 use Rattle.ft_fields.specs.declared.key.Part.{Part}
 use Rattle.ft_maps.specs.Entries.{same_from_tie}
@@ -17,7 +17,7 @@ use Rattle.ft_pairs.specs.declared.role.Role.TheVariants.{Plain, Saves, Reads}
 use Rattle.ft_kept.specs.AtOnce.{IsBare}
 use Rattle.ft_shelves.specs.Shelves.{Shelved, Shelves, role_on}
 use Rattle.ft_kept.specs.inner.Joining.{is_other_reader}
-use Rattle.ft_shelves.proofs.Decided.{none_not_some, or_left, or_right}
+use Rattle.ft_shelves.proofs.Decided.{none_not_some}
 use Rattle.ft_kept.proofs.Forms.{ops_by, role_at}
 
 -- whether another trigger than one reads what a saver saves, among some with their shelves
@@ -38,8 +38,8 @@ module _ (id saver other : ℕ) (shelf : Shelved) where
   among_by e es rest none true tie found =
       ap (λ (o : Option Shelved). is_other_reader id saver other (role_or o)) (sym found)
       ∙ ap (λ i. is_other_reader id saver i e.1.role) (same_from_tie exact_unsigned other e.0 tie)
-      ∙ or_left (is_other_reader id saver e.0 e.1.role) (other_reads id saver es) none
-  among_by e es rest none false apart found = rest (or_right (is_other_reader id saver e.0 e.1.role) (other_reads id saver es) none) found
+      ∙ (or_parts (is_other_reader id saver e.0 e.1.role) (other_reads id saver es) none).0
+  among_by e es rest none false apart found = rest (or_parts (is_other_reader id saver e.0 e.1.role) (other_reads id saver es) none).1 found
 
   -- a shelf that is found is among the entries
   among : (es : List (ℕ × Shelved)) → other_reads id saver es ≡ false → find nat_cmp other es ≡ Some shelf → is_other_reader id saver other shelf.role ≡ false

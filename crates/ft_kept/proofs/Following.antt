@@ -2,16 +2,14 @@
 use Rattle.std.proofs.Common.{◌≡◌, ℕ, Bool, true, false, refl, sym, ap, subst, ◌∙◌, Some, None, Option, inl, inr}
 use Rattle.std.specs.Prelude.{◌⊎◌, ◌&&◌, List, ℤ, is_some, if◌then◌else◌}
 use Rattle.std.specs.Option.{option_map_or}
-use Rattle.std.specs.Ordering.{nat_cmp, eq_by_cmp, is_eq, ordering_then}
-use Rattle.std.specs.Cmp.{nat_cmp_total}
+use Rattle.std.specs.Ordering.{nat_cmp, eq_by_cmp, is_eq}
+use Rattle.std.specs.Cmp.{nat_cmp_total, tied_then}
 use Rattle.std.specs.FinMap as map
 use Rattle.std.specs.FinMap.{nat_cmp-IsAntisymmetric}
-use Rattle.std.specs.declared.cmp.Ordering.{Ordering}
-use Rattle.std.specs.declared.cmp.Ordering.TheVariants.{Less, Equal, Greater}
 use Rattle.ft_fields.specs.Traced.{Traced}
 use Rattle.ft_fields.specs.declared.pos.Pos.{Pos}
 use Rattle.ft_fields.specs.Orders.{key_cmp_total}
-use Rattle.ft_fields.specs.Parts.{key_cmp}
+use Rattle.ft_fields.specs.Parts.{key_cmp, same_key}
 use Rattle.ft_fields.specs.Ties.{key_same}
 use Rattle.ft_fields.specs.declared.key.Part.{Part}
 use Rattle.ft_pairs.specs.Edits.{if_read}
@@ -20,7 +18,7 @@ use Rattle.ft_pairs.specs.Source.{Ops}
 use Rattle.ft_pairs.specs.declared.at.At.{At}
 use Rattle.ft_pairs.specs.declared.at.Op.{Op}
 use Rattle.ft_pairs.specs.declared.at.Op.TheVariants.{Save, Read}
-use Rattle.ft_table.specs.Hits.{Hits, same_key}
+use Rattle.ft_table.specs.Hits.{Hits}
 use Rattle.ft_table.specs.Spots.{traced}
 use Rattle.ft_kept.specs.Acts.{Acts, op_of}
 use Rattle.ft_kept.specs.Signs.{act_after}
@@ -67,11 +65,6 @@ else_as was now Saves s k id key other =
     untied variable_cmp_total variable_same (record { saver = s; key = k }) (record { saver = id; key = key }) (λ e. other (sym (ap (λ (v : Variable). v.saver) e))) in
     ap (λ b. if b then (if now id key then Some Save else None) else None) unlike ∙ sym (ap (λ b. if b then (if was id key then Some Save else None) else None) unlike)
 else_as was now (Reads saver) s k id key other = refl
-
-tied_then : (a b : Ordering) → is_eq (ordering_then a b) ≡ (is_eq a && is_eq b)
-tied_then Less b = refl
-tied_then Equal b = refl
-tied_then Greater b = refl
 
 absent_or_there : (acts : Acts) (q : At) → (acts q ≡ None) ⊎ ((b : List Part × Traced) × (acts q ≡ Some b))
 absent_or_there acts q = elim (acts q) as (λ o. acts q ≡ o → (acts q ≡ None) ⊎ ((b : List Part × Traced) × (acts q ≡ Some b))) [ None ↦ λ none. inl none | Some b ↦ λ some. inr (b, some) ] refl
@@ -133,7 +126,7 @@ module _ (role : ℕ → Role) (was now : Admits) (before after : Acts) (c : At)
     Comes-in q = op_of role now after (variable k) q ≡ with_saves hits c.trigger k (op_of role was before (variable k)) q
 
     own_variable : (key : List Part) → eq_by_cmp variable_cmp (variable k) (variable key) ≡ same_key k key
-    own_variable key = tied_then (nat_cmp c.trigger c.trigger) (key_cmp k key) ∙ ap (λ b. b && is_eq (key_cmp k key)) (itself nat_cmp_total c.trigger)
+    own_variable key = sym (tied_then (nat_cmp c.trigger c.trigger) (key_cmp k key)) ∙ ap (λ b. b && is_eq (key_cmp k key)) (itself nat_cmp_total c.trigger)
 
     saves_same : (key : List Part) (v : List ℤ) → (if same_key k key then (if now c.trigger key then Some Save else None) else None) ≡ (if is_some (one_hit key (Some v) k) then Some Save else None)
     saves_same key v = elim (same_key k key) as (λ b. same_key k key ≡ b

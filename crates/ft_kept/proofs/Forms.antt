@@ -12,8 +12,9 @@ use Rattle.ft_hist.specs.Triggers.{Triggers}
 use Rattle.ft_fields.specs.declared.key.Part.{Part}
 use Rattle.ft_fields.specs.Orders.{key_cmp_total}
 use Rattle.ft_fields.specs.Ties.{key_same}
+use Rattle.ft_fields.specs.Parts.{same_key}
 use Rattle.ft_maps.specs.Entries.{get-remove_other, get-insert_other, same_from_tie}
-use Rattle.ft_pairs.specs.ByKey.{ops_of, same_key}
+use Rattle.ft_pairs.specs.ByKey.{ops_of}
 use Rattle.ft_pairs.specs.Source.{Ops}
 use Rattle.ft_pairs.specs.declared.at.At.{At}
 use Rattle.ft_table.specs.Tabled.{Tabled, is_in}

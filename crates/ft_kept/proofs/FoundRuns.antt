@@ -9,7 +9,7 @@ use Rattle.std.specs.Map.{keys_of, update, update_all}
 use Rattle.std.specs.declared.cmp.Ordering.{Ordering}
 use Rattle.std.specs.declared.cmp.Ordering.TheVariants.{Less}
 use Rattle.std.specs.Ordering.{nat_cmp, is_eq, eq_by_cmp}
-use Rattle.std.specs.Cmp.{eq_by_cmp_equiv}
+use Rattle.std.specs.Cmp.{eq_by_cmp_equiv, tied_then}
 use Rattle.std.specs.FinMap.{find}
 use Rattle.std.proofs.lemmas.List.{drop_more}
 use Rattle.std.proofs.lemmas.Map.Keys.{sorted_head, sorted_tail}
@@ -29,7 +29,6 @@ use Rattle.ft_table.specs.Spots.{spot_cmp, traced}
 use Rattle.ft_table.specs.Values.{values_at}
 use Rattle.ft_hits.specs.declared.spot.Spot.{Spot}
 use Rattle.ft_kept.specs.inner.JoiningReads.{hit_found, hits_found, reading_found, readings_found, reads_of_run}
-use Rattle.ft_kept.proofs.AtOnce.{then_ties}
 use Rattle.ft_shelves.proofs.KeyByKey.{first_event}
 
 -- ---- a run in order
@@ -113,7 +112,7 @@ hits_at hist [] found sorted spot = no_hit (eq_by_cmp nat_cmp spot.maker 0)
 hits_at hist (e ∷ run) [] sorted spot = no_hit (eq_by_cmp nat_cmp spot.maker 0)
 hits_at hist (e ∷ run) (f ∷ found) sorted spot =
     first_hit hist e f (hits_found hist run found) spot
-    ∙ ap (λ b. hit_or hist e f b (find spot_cmp spot (hits_found hist run found))) (then_ties (pos_cmp spot.pos e.0) (nat_cmp spot.maker 0))
+    ∙ ap (λ b. hit_or hist e f b (find spot_cmp spot (hits_found hist run found))) (sym (tied_then (pos_cmp spot.pos e.0) (nat_cmp spot.maker 0)))
     ∙ hit_step hist spot.pos e f (eq_by_cmp pos_cmp spot.pos e.0) (eq_by_cmp nat_cmp spot.maker 0) refl (find spot_cmp spot (hits_found hist run found)) (found_at run found spot.pos)
     (absent_same spot.pos e run found sorted)
     (hits_at hist run found (sorted_tail pos_cmp e.0 (keys_of run) sorted) spot)
@@ -194,7 +193,7 @@ any_step false false x o rest is = is
 pub any_read : (id : ℕ) (q : At) (run : List (Pos × Traced)) → list_any (same_at q) (reads_of_run id run) ≡ (is_some (find pos_cmp q.pos run) && eq_by_cmp nat_cmp q.trigger id)
 any_read id q [] = refl
 any_read id q (e ∷ run) =
-    ap (λ b. b || list_any (same_at q) (reads_of_run id run)) (then_ties (pos_cmp q.pos e.0) (nat_cmp q.trigger id))
+    ap (λ b. b || list_any (same_at q) (reads_of_run id run)) (sym (tied_then (pos_cmp q.pos e.0) (nat_cmp q.trigger id)))
     ∙ any_step (eq_by_cmp pos_cmp q.pos e.0) (eq_by_cmp nat_cmp q.trigger id) e.1 (find pos_cmp q.pos run) (list_any (same_at q) (reads_of_run id run)) (any_read id q run)
 
 -- ---- one event after the other

@@ -12,6 +12,7 @@ use Rattle.ft_fields.specs.declared.pos.Pos.{Pos}
 use Rattle.ft_hits.specs.declared.mark.Mark.{Mark}
 use Rattle.ft_fields.specs.Orders.{key_cmp_total}
 use Rattle.ft_fields.specs.declared.key.Part.{Part}
+use Rattle.ft_fields.specs.Parts.{same_key}
 use Rattle.ft_pairs.specs.Source.{Ops}
 use Rattle.ft_pairs.specs.declared.at.At.{At}
 use Rattle.ft_pairs.specs.declared.role.Role.{Role}
@@ -21,7 +22,6 @@ use Rattle.ft_shelves.specs.Changes.{PlaceIsFree, readings_after, table_with}
 use Rattle.ft_shelves.specs.Shelves.{Readings, Shelved, Shelves, kept_on, role_on}
 use Rattle.ft_shelves.specs.declared.sign.Sign.{Sign}
 use Rattle.ft_shelves.specs.declared.sign.Sign.TheVariants.{Insert, Retract}
-use Rattle.ft_table.specs.Hits.{same_key}
 use Rattle.ft_table.specs.Spots.{traced}
 use Rattle.ft_table.specs.Tabled.{Tabled}
 use Rattle.ft_table.specs.Values.{ValuesBy, values_by}

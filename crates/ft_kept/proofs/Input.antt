@@ -13,6 +13,7 @@ use Rattle.ft_hist.specs.Triggers.{Triggers}
 use Rattle.ft_fields.specs.Orders.{key_cmp_total}
 use Rattle.ft_fields.specs.Ties.{key_same}
 use Rattle.ft_fields.specs.declared.key.Part.{Part}
+use Rattle.ft_fields.specs.Parts.{same_key}
 use Rattle.ft_lanes.specs.Held.{Lanes, event_at}
 use Rattle.ft_maps.specs.Entries.{same_from_tie}
 use Rattle.ft_pairs.specs.ByKey.{KeyOps, ops_of}
@@ -23,7 +24,6 @@ use Rattle.ft_pairs.specs.declared.role.Role.TheVariants.{Plain, Saves, Reads}
 use Rattle.ft_pairs.specs.declared.role.Variable.{Variable}
 use Rattle.ft_pairs.specs.Roles.{variable_of}
 use Rattle.ft_hits.specs.declared.mark.Mark.{Mark}
-use Rattle.ft_table.specs.Hits.{same_key}
 use Rattle.ft_table.specs.Marks.{mark_cmp_total, mark_same}
 use Rattle.ft_table.specs.Spots.{spot_cmp, spot_cmp_total, spot_same, traced}
 use Rattle.ft_table.specs.Values.{values_by}

@@ -10,8 +10,8 @@ use Rattle.std.proofs.lemmas.Map.Keys.{IsDistinct-push}
 use Rattle.std.proofs.Math.Bool.{or_assoc, or-false}
 use Rattle.ft_fields.specs.declared.key.Part.{Part}
 use Rattle.ft_fields.specs.Orders.{key_cmp_total}
+use Rattle.ft_fields.specs.Parts.{same_key}
 use Rattle.ft_hits.proofs.Flat.{same_is, same_itself}
-use Rattle.ft_table.specs.Hits.{same_key}
 use Rattle.ft_table.specs.Tabled.{Tabled}
 use Rattle.ft_changes.specs.Rivals.{is_of, rivals, RivalsAreOthers, RivalsDiffer}
 use Rattle.ft_kept.specs.Touched.{with_new_key, each_once}

@@ -13,10 +13,11 @@ use Rattle.std.proofs.lemmas.Map.Views.{any-filter_same}
 use Rattle.std.proofs.Math.Bool.{and-or_distrib_left}
 use Rattle.ft_hist.specs.Hist.{Hist}
 use Rattle.ft_hist.specs.Triggers.{Triggers}
-use Rattle.ft_hits.proofs.Flat.{false_and, same_itself}
+use Rattle.ft_hits.proofs.Flat.{same_itself}
 use Rattle.ft_fields.specs.declared.key.Part.{Part}
+use Rattle.ft_fields.specs.Parts.{same_key}
 use Rattle.ft_maps.specs.Entries.{and_right as second}
-use Rattle.ft_table.specs.Hits.{same_key}
+use Rattle.ft_maps.proofs.Common.{and_false}
 use Rattle.ft_changes.specs.Reports.{same_row, is_reported, reported_of}
 use Rattle.ft_changes.specs.Rivals.{is_of}
 use Rattle.ft_changes.specs.declared.changed.Changed.{Changed}
@@ -27,7 +28,7 @@ use Rattle.ft_kept.proofs.Once.{distinct_both}
 -- ---- the rows of one trigger
 
 reported_at : (id i : ℕ) (key : List Part) (keys : List (List Part)) → is_reported (rows_at i keys) id key ≡ (nat_eq id i && is_of keys key)
-reported_at id i key [] = sym (false_and (nat_eq id i))
+reported_at id i key [] = sym (and_false (nat_eq id i))
 reported_at id i key (k ∷ keys) = ap (λ b. (nat_eq id i && same_key key k) || b) (reported_at id i key keys) ∙ sym (and-or_distrib_left (nat_eq id i) (same_key key k) (is_of keys key))
 
 rows_apart : (i : ℕ) (k : List Part) (keys : List (List Part)) → AllByRecursion (λ y. same_key k y ≡ false) keys → AllByRecursion (λ row. same_row (record { id = i; key = k }) row ≡ false) (rows_at i keys)

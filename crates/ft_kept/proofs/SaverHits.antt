@@ -8,6 +8,7 @@ use Rattle.std.proofs.lemmas.Bool.{true≢false}
 use Rattle.ft_fields.specs.Traced.{Traced}
 use Rattle.ft_fields.specs.declared.pos.Pos.{Pos}
 use Rattle.ft_fields.specs.declared.key.Part.{Part}
+use Rattle.ft_fields.specs.Parts.{same_key}
 use Rattle.ft_pairs.specs.ByKey.{ops_of}
 use Rattle.ft_pairs.specs.Next.{IsNext}
 use Rattle.ft_pairs.specs.Roles.{variable_of}
@@ -17,7 +18,6 @@ use Rattle.ft_pairs.specs.declared.at.Op.TheVariants.{Save}
 use Rattle.ft_pairs.specs.declared.role.Role.TheVariants.{Plain, Saves}
 use Rattle.ft_pairs.specs.declared.role.Variable.{Variable}
 use Rattle.ft_hits.specs.declared.mark.Mark.{Mark}
-use Rattle.ft_table.specs.Hits.{same_key}
 use Rattle.ft_table.specs.Spots.{traced}
 use Rattle.ft_table.specs.Tabled.{Tabled, is_in}
 use Rattle.ft_table.specs.Values.{ValuesBy, values_by}

@@ -13,11 +13,11 @@ use Rattle.ft_hist.specs.Triggers.{Triggers}
 use Rattle.ft_fields.specs.Orders.{key_cmp_total}
 use Rattle.ft_fields.specs.Ties.{key_same}
 use Rattle.ft_fields.specs.declared.key.Part.{Part}
+use Rattle.ft_fields.specs.Parts.{same_key}
 use Rattle.ft_maps.specs.Entries.{same_from_tie, get-insert_same, get-insert_other, get-remove_same, get-remove_other, insert_same}
 use Rattle.ft_pairs.specs.Edits.{KeepsSource}
 use Rattle.ft_pairs.specs.Source.{Ops, IsSource}
 use Rattle.ft_pairs.specs.declared.at.At.{At}
-use Rattle.ft_table.specs.Hits.{same_key}
 use Rattle.ft_table.specs.Marks.{mark_cmp_total, mark_same}
 use Rattle.ft_hits.specs.declared.mark.Mark.{Mark}
 use Rattle.ft_table.specs.Spots.{traced}

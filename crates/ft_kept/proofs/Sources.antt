@@ -12,7 +12,6 @@ use Rattle.ft_pairs.specs.declared.at.Op.TheVariants.{Save, Read}
 use Rattle.ft_kept.specs.Acts.{Acts, AreHeld, op_of}
 use Rattle.ft_kept.specs.Entries.{IsOwn, IsEntry, IsKeptBut, hits_here, read_here}
 use Rattle.ft_kept.specs.inner.Edits.{OpsStay, StaysBut}
-use Rattle.ft_kept.specs.inner.Stale.{is_read}
 use Rattle.ft_kept.specs.inner.Settling.{Stale, without_next_read}
 use Rattle.ft_pairs.specs.Roles.{Admits, op_as}
 use Rattle.ft_shelves.specs.Shelves.{Kept}
@@ -21,6 +20,7 @@ use Rattle.ft_pairs.specs.Variables.{variable_cmp, variable_same}
 use Rattle.ft_pairs.specs.declared.role.Role.{Role}
 use Rattle.ft_pairs.specs.declared.role.Role.TheVariants.{Plain, Saves, Reads}
 use Rattle.ft_pairs.specs.declared.role.Variable.{Variable}
+use Rattle.ft_pairs.specs.Source.{is_read}
 use Rattle.ft_kept.proofs.Refreshed.{own_there, refreshed, still_stale, not_same_at}
 
 module _ (role : ℕ → Role) (admits : Admits) (acts : Acts) (variable : Variable) (q : At) where

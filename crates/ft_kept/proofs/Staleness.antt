@@ -3,24 +3,24 @@ use Rattle.std.proofs.Common.{◌≡◌, ℕ, Bool, true, false, refl, sym, ap, 
 use Rattle.std.specs.Prelude.{◌⊎◌, ◌&&◌, ◌||◌, List, ℤ, option_and_then, option_map, if◌then◌else◌}
 use Rattle.std.specs.Ordering.{eq_by_cmp, ordering_reverse}
 use Rattle.std.specs.declared.cmp.Ordering.TheVariants.{Less, Equal, Greater}
-use Rattle.std.proofs.lemmas.Bool.{true≢false}
+use Rattle.std.proofs.lemmas.Bool.{true≢false, or_parts}
 use Rattle.ft_fields.specs.Traced.{Traced}
 use Rattle.ft_fields.specs.declared.pos.Pos.{Pos}
 use Rattle.ft_fields.specs.Orders.{key_cmp_total}
 use Rattle.ft_fields.specs.Ties.{key_same}
 use Rattle.ft_fields.specs.declared.key.Part.{Part}
+use Rattle.ft_fields.specs.Parts.{same_key}
 use Rattle.ft_pairs.specs.Next.{IsNext}
 use Rattle.ft_pairs.specs.Order.{at_cmp, at_cmp_total, at_same}
-use Rattle.ft_pairs.specs.Source.{Ops, IsSource, IsLastBefore}
+use Rattle.ft_pairs.specs.Source.{Ops, IsSource, is_read}
 use Rattle.ft_pairs.specs.declared.at.At.{At}
 use Rattle.ft_pairs.specs.declared.at.Op.{Op}
 use Rattle.ft_pairs.specs.declared.at.Op.TheVariants.{Save, Read}
-use Rattle.ft_table.specs.Hits.{same_key}
 use Rattle.ft_kept.specs.Acts.{Acts, op_of}
 use Rattle.ft_kept.specs.inner.OneAct.{IsOneAct}
 use Rattle.ft_kept.specs.Entries.{HitsHere, IsEntry, IsKept, IsKeptBut, IsOwn, IsRight, hits_here, one_hit, read_here}
 use Rattle.ft_kept.specs.inner.Edits.{StaysBut}
-use Rattle.ft_kept.specs.inner.Stale.{is_next_read, is_read, is_switched, is_switched_as}
+use Rattle.ft_kept.specs.inner.Stale.{is_next_read, is_switched, is_switched_as}
 use Rattle.ft_pairs.specs.Roles.{Admits, op_as, variable_of}
 use Rattle.ft_shelves.specs.Shelves.{Kept}
 use Rattle.ft_shelves.specs.Switches.{differ}
@@ -29,49 +29,11 @@ use Rattle.ft_pairs.specs.Variables.{variable_cmp, variable_cmp_total, variable_
 use Rattle.ft_pairs.specs.declared.role.Role.{Role}
 use Rattle.ft_pairs.specs.declared.role.Role.TheVariants.{Plain, Saves, Reads}
 use Rattle.ft_pairs.specs.declared.role.Variable.{Variable}
-use Rattle.ft_shelves.proofs.Decided.{not_below, not_below_same, itself, tied, untied, at_decided, variable_decided, or_left, or_right, none_not_some}
+use Rattle.ft_pairs.proofs.Local.{same_source, far_source}
+use Rattle.ft_shelves.proofs.Decided.{not_below, not_below_same, itself, tied, untied, at_decided, variable_decided, none_not_some}
+use Rattle.ft_shelves.proofs.Edge.{undiffering}
 
 -- ---- sources
-
-module _ (old new : Ops) (at : At) where
-  same_last : ((q : At) → at_cmp q at ≡ Less → new q ≡ old q) → (last : At) (op : Op) → IsLastBefore old at last op → IsLastBefore new at last op
-  same_last same last op h = record {
-    there = same last h.before ∙ h.there;
-    before = h.before;
-    none = λ q after before. same q before ∙ h.none q after before;
-  }
-
-  -- operations that agree before a place have one source there
-  pub alike_source : ((q : At) → at_cmp q at ≡ Less → new q ≡ old q) → (found : Option At) → IsSource old at found → IsSource new at found
-  alike_source same (Some saved) h = same_last same saved Save h
-  alike_source same None (inl none) = inl (λ q before. same q before ∙ none q before)
-  alike_source same None (inr h) = inr (h.0, same_last same h.0 Read h.1)
-
-  module _ (mid : At) (op : Op) (is : old mid ≡ Some op) (under : at_cmp mid at ≡ Less)
-      (here : new mid ≡ old mid) (same : (q : At) → at_cmp mid q ≡ Less → at_cmp q at ≡ Less → new q ≡ old q) where
-    -- the last operation before the place is not in front of another that is before the place
-    back_last : (last : At) (v : Op) → IsLastBefore old at last v → IsLastBefore new at last v
-    back_last last v h = elim (at_cmp mid last) as (λ o. at_cmp mid last ≡ o → IsLastBefore new at last v) [
-      | Less ↦ λ less. record {
-        there = same last less h.before ∙ h.there;
-        before = h.before;
-        none = λ q after before. same q (at_cmp_total.trans mid last q less after) before ∙ h.none q after before;
-      }
-      | Equal ↦ λ tie.
-          let one : mid ≡ last = at_same mid last tie in
-          record {
-            there = subst (λ q. new q ≡ old q) one here ∙ h.there;
-            before = h.before;
-            none = λ q after before. same q (subst (λ p. at_cmp p q ≡ Less) (sym one) after) before ∙ h.none q after before;
-          }
-      | Greater ↦ λ more. absurd (none_not_some (old mid) op (h.none mid (at_cmp_total.antisymm last mid ∙ ap ordering_reverse more) under) is)
-    ] refl
-
-    -- a change in front of an operation changes no source after it
-    far_source : (found : Option At) → IsSource old at found → IsSource new at found
-    far_source (Some saved) h = back_last saved Save h
-    far_source None (inl none) = absurd (none_not_some (old mid) op (none mid under) is)
-    far_source None (inr h) = inr (h.0, back_last h.0 Read h.1)
 
 module _ (old new : Ops) (c q : At) (same : (p : At) → (p ≡ c → ⊥) → new p ≡ old p) where
   -- where operations differ at one place, the readings differ at most there and at the next operation
@@ -79,7 +41,7 @@ module _ (old new : Ops) (c q : At) (same : (p : At) → (p ≡ c → ⊥) → n
   kept_source next is_next apart reads not_next found h = elim (at_cmp c q) as (λ o. at_cmp c q ≡ o → IsSource new q found) [
     | Equal ↦ λ tie. absurd (apart (sym (at_same c q tie)))
     | Greater ↦ λ more. let before : at_cmp q c ≡ Less = at_cmp_total.antisymm q c ∙ ap ordering_reverse more in
-        alike_source old new q (λ p less. same p (λ e. not_below at_cmp_total c (at_cmp_total.trans c q c (subst (λ x. at_cmp x q ≡ Less) e less) before))) found h
+        same_source old new q (λ p less. same p (λ e. not_below at_cmp_total c (at_cmp_total.trans c q c (subst (λ x. at_cmp x q ≡ Less) e less) before))) found h
     | Less ↦ λ behind. by_next next is_next not_next behind
   ] refl
     where
@@ -97,7 +59,7 @@ module _ (old new : Ops) (c q : At) (same : (p : At) → (p ≡ c → ⊥) → n
         | Greater ↦ λ more. absurd (none_not_some (new q) Read (first.none q behind (at_cmp_total.antisymm q n.0 ∙ ap ordering_reverse more)) there)
         | Less ↦ λ under.
             let away : n.0 ≡ c → ⊥ = (λ e. not_below_same at_cmp_total c n.0 (sym e) first.behind) in
-            far_source old new q n.0 n.1 (sym (same n.0 away) ∙ first.there) under (same n.0 away)
+            far_source old new q n.0 n.1 (sym (same n.0 away) ∙ first.there) first.there under
             (λ p after before. same p (λ e. not_below at_cmp_total c (at_cmp_total.trans c n.0 c first.behind (subst (λ x. at_cmp n.0 x ≡ Less) e after)))) found h
       ] refl
         where
@@ -193,12 +155,6 @@ module _ (values : ValuesBy) where
 own_same : (act : Option (List Part × Traced)) (hits hits' : HitsHere) → ((key : List Part) → hits' key ≡ hits key) → IsOwn act hits → IsOwn act hits'
 own_same act hits hits' same own key = elim (own key) [ inl none ↦ inl (same key ∙ none) | inr h ↦ inr h ]
 
-alike : (a b : Bool) → differ a b ≡ false → b ≡ a
-alike true true e = refl
-alike true false e = absurd (true≢false e)
-alike false true e = absurd (true≢false e)
-alike false false e = refl
-
 pub same_differ : (a b : Bool) → b ≡ a → differ a b ≡ false
 same_differ true true e = refl
 same_differ true false e = absurd (true≢false (sym e))
@@ -237,7 +193,7 @@ module _ (role : ℕ → Role) (values : ValuesBy) (was now : Admits) (before af
       let v : Variable = record { saver = saver; key = b.0 } in
       elim (own_decided (variable_of (role c.trigger) c.trigger act.0) v) [
         | inl own ↦ kept_source (old.ops v) (new.ops v) c q (ops_apart v alike) next (is_next v own) apart (kept.ops v q ∙ op_read role was before q saver b reads at) not_next found h
-        | inr not_own ↦ alike_source (old.ops v) (new.ops v) q (λ p _. ops_others v alike not_own p) found h
+        | inr not_own ↦ same_source (old.ops v) (new.ops v) q (λ p _. ops_others v alike not_own p) found h
       ]
 
   old_right : (q : At) → IsRight role values before old q
@@ -251,7 +207,7 @@ module _ (role : ℕ → Role) (values : ValuesBy) (was now : Admits) (before af
   right_apart q apart not_next not_switched = subst (λ o. IsEntry values new.ops q (role q.trigger) o (hits_here new q) (read_here new q)) (sym (one.elsewhere q apart))
       (entry_same values old.ops new.ops q (role q.trigger) (before q) (hits_here old q) (hits_here new q) (read_here old q) (read_here new q) (stays q apart).0 (stays q apart).1
       (λ saver b reads at. source_kept q apart not_next saver b reads at
-      (alike (was saver b.0) (now saver b.0) (sym (switched saver b reads at) ∙ not_switched))) (old_right q))
+      (undiffering (was saver b.0) (now saver b.0) (sym (switched saver b reads at) ∙ not_switched))) (old_right q))
     where
       switched : (saver : ℕ) (b : List Part × Traced) → role q.trigger ≡ Reads saver → before q ≡ Some b → is_switched role was now after q ≡ differ (was saver b.0) (now saver b.0)
       switched saver b reads at = ap (λ r. is_switched_as was now r (after q)) reads ∙ ap (is_switched_as was now (Reads saver)) (one.elsewhere q apart ∙ at)
@@ -264,7 +220,7 @@ module _ (role : ℕ → Role) (values : ValuesBy) (was now : Admits) (before af
       | inl at ↦ inr (subst (IsRight role values after new) (sym at) right)
       | inr apart ↦ elim (is_next_read next q || is_switched role was now after q) as (λ b. (is_next_read next q || is_switched role was now after q) ≡ b → ((b ≡ true) × IsOwn (after q) (hits_here new q)) ⊎ IsRight role values after new q) [
         | true ↦ λ stale. inl (refl, own_apart q apart)
-        | false ↦ λ nothing. inr (right_apart q apart (or_left (is_next_read next q) (is_switched role was now after q) nothing) (or_right (is_next_read next q) (is_switched role was now after q) nothing))
+        | false ↦ λ nothing. inr (right_apart q apart (or_parts (is_next_read next q) (is_switched role was now after q) nothing).0 (or_parts (is_next_read next q) (is_switched role was now after q) nothing).1)
       ] refl
     ];
   }

@@ -12,10 +12,10 @@ use Rattle.ft_hist.specs.Hist.{Hist}
 use Rattle.ft_hits.specs.declared.mark.Mark.{Mark}
 use Rattle.ft_fields.specs.Orders.{key_cmp_total}
 use Rattle.ft_fields.specs.declared.key.Part.{Part}
+use Rattle.ft_fields.specs.Parts.{same_key}
 use Rattle.ft_pairs.specs.declared.role.Role.{Role}
 use Rattle.ft_pairs.specs.declared.role.Role.TheVariants.{Plain, Reads}
 use Rattle.ft_pairs.specs.declared.role.Variable.{Variable}
-use Rattle.ft_table.specs.Hits.{same_key}
 use Rattle.ft_shelves.specs.declared.saver.Moved.{Moved}
 use Rattle.ft_shelves.specs.Shelves.{FormsStay, Shelves, kept_on, role_on}
 use Rattle.ft_shelves.proofs.Decided.{itself}

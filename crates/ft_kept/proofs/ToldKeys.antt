@@ -9,9 +9,9 @@ use Rattle.ft_hist.specs.Hist.{Hist}
 use Rattle.ft_hist.specs.Made.{counts_made}
 use Rattle.ft_hist.specs.Triggers.{Triggers}
 use Rattle.ft_fields.specs.declared.key.Part.{Part}
+use Rattle.ft_fields.specs.Parts.{same_key}
 use Rattle.ft_pairs.specs.declared.role.Role.{Role}
 use Rattle.ft_pairs.specs.declared.role.Role.TheVariants.{Plain, Saves, Reads}
-use Rattle.ft_table.specs.Hits.{same_key}
 use Rattle.ft_table.specs.Rows.{row_at}
 use Rattle.ft_changes.specs.Reports.{reported_of}
 use Rattle.ft_changes.specs.Rivals.{is_of, rivals, AreTablesButFor, FewRivals, RivalsAreOthers, RivalsDiffer, RowsStayBut}

@@ -8,10 +8,10 @@ use Rattle.std.specs.Ordering.{is_lt, ordering_reverse}
 use Rattle.ft_pairs.specs.Edits.{same_at}
 use Rattle.ft_pairs.specs.Next.{IsNext}
 use Rattle.ft_pairs.specs.Order.{at_cmp, at_cmp_total, at_same}
-use Rattle.ft_pairs.specs.Source.{Ops}
+use Rattle.ft_pairs.specs.Source.{Ops, is_read}
 use Rattle.ft_pairs.specs.declared.at.At.{At}
 use Rattle.ft_pairs.specs.declared.at.Op.{Op}
-use Rattle.ft_kept.specs.inner.Stale.{is_read, reads_at, is_to_come}
+use Rattle.ft_kept.specs.inner.Stale.{reads_at, is_to_come}
 use Rattle.ft_kept.specs.inner.Settling.{Stale, without_next_read}
 use Rattle.ft_kept.proofs.Refreshed.{same_at_itself}
 

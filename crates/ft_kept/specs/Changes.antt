@@ -8,9 +8,9 @@ use Rattle.ft_changes.specs.declared.changed.ReadingChange.{ReadingChange}
 use Rattle.ft_hist.specs.Hist.{Hist}
 use Rattle.ft_hits.specs.declared.mark.Mark.{Mark}
 use Rattle.ft_fields.specs.declared.key.Part.{Part}
+use Rattle.ft_fields.specs.Parts.{same_key}
 use Rattle.ft_pairs.specs.declared.role.Role.{Role}
 use Rattle.ft_pairs.specs.declared.role.Role.TheVariants.{Plain, Saves, Reads}
-use Rattle.ft_table.specs.Hits.{same_key}
 use Rattle.ft_shelves.specs.Shelves.{Shelves, kept_on, role_on}
 use Rattle.ft_kept.specs.contracts.changes.KeyChange as key_change
 use Rattle.ft_kept.specs.declared.changes.KeyChange.{KeyChange}

@@ -3,9 +3,9 @@ use Rattle.std.specs.Prelude.{◌≡◌, ◌⊎◌, ℕ, ℤ, Bool, true, false,
 use Rattle.ft_fields.specs.Traced.{Traced}
 use Rattle.ft_fields.specs.declared.pos.Pos.{Pos}
 use Rattle.ft_fields.specs.declared.key.Part.{Part}
+use Rattle.ft_fields.specs.Parts.{same_key}
 use Rattle.ft_pairs.specs.Source.{Ops, IsSource}
 use Rattle.ft_pairs.specs.declared.at.At.{At}
-use Rattle.ft_table.specs.Hits.{same_key}
 use Rattle.ft_table.specs.Spots.{traced}
 use Rattle.ft_pairs.specs.Roles.{Admits}
 use Rattle.ft_table.specs.Values.{ValuesBy}

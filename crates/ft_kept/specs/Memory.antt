@@ -1,5 +1,5 @@
 -- Which repairs take no memory.
-use Rattle.std.specs.Prelude.{◌≡◌, ℕ, List, Some, None}
+use Rattle.std.specs.Prelude.{◌≡◌, ℕ, List, Some}
 use Rattle.std.specs.FinMap as map
 use Rattle.ft_fields.specs.Traced.{Traced}
 use Rattle.ft_hist.specs.Hist.{Hist}
@@ -8,10 +8,6 @@ use Rattle.ft_hist.specs.Hit.{hit}
 use Rattle.ft_fields.specs.declared.key.Part.{Part}
 use Rattle.ft_pairs.specs.declared.role.Role.TheVariants.{Plain}
 use Rattle.ft_shelves.specs.Shelves.{Shelves, role_on}
-
--- the event is no hit of any of the triggers (kernel: histogram.rst, hist triggers)
-abbrev pub IsNoHit : Triggers → Traced → Type 0
-IsNoHit triggers event = (id : ℕ) (hist : Hist) → map.get triggers id ≡ Some hist → hit hist event ≡ None
 
 -- where the event is a hit of a trigger, the trigger with this id has no variable (kernel: histogram.rst, inter-event hist triggers)
 abbrev pub ActsPlainly : Shelves → ℕ → Hist → Traced → Type 0

@@ -4,13 +4,13 @@ use Rattle.ft_fields.specs.Traced.{Traced}
 use Rattle.ft_fields.specs.declared.pos.Pos.{Pos}
 use Rattle.ft_hist.specs.Hist.{Hist}
 use Rattle.ft_hist.specs.Triggers.{Triggers}
-use Rattle.ft_hist.specs.Hit.{hit}
+use Rattle.ft_hist.specs.Hit.{hit, IsNoHit}
 use Rattle.ft_fields.specs.declared.key.Part.{Part}
 use Rattle.ft_pairs.specs.Source.{Ops, IsSource}
 use Rattle.ft_pairs.specs.declared.at.At.{At}
 use Rattle.ft_shelves.specs.Shelves.{Shelves}
 use Rattle.ft_kept.specs.Bounds.{TableEdit, with_hit_of, without_hit_of}
-use Rattle.ft_kept.specs.Memory.{ActsPlainly, IsNoHit, AllActPlainly}
+use Rattle.ft_kept.specs.Memory.{ActsPlainly, AllActPlainly}
 use Rattle.ft_shelves.specs.declared.sign.Sign.{Sign}
 use Rattle.ft_shelves.specs.declared.sign.Sign.TheVariants.{Insert, Retract}
 

@@ -2,7 +2,7 @@
 
 ghost use Rattle.std.specs.Prelude.{◌≡◌, ◌++◌, IfOk, OnOk};
 ghost use Rattle.std.specs.List.{IsDistinct};
-ghost use Rattle.ft_table.specs.Hits.{same_key};
+ghost use Rattle.ft_fields.specs.Parts.{same_key};
 ghost use Rattle.ft_kept.specs.Changes.{is_for, keys_for};
 ghost use Rattle.ft_kept.specs.Report.{keys_reported, report_of, rows_at};
 ghost use Rattle.ft_kept.specs.Touched.{each_once, with_new_key, rivals_on, named_keys};

@@ -1,6 +1,6 @@
 -- Slots for the events of a load, one by one: they stand for the lanes that a load gives, and removing them again leaves the old ones.
 use mathlib.Core.Bool.{false≢true}
-use Rattle.std.proofs.Common.{◌≡◌, ℕ, ◌+◌, ◌<◌, ◌≤◌, zero, suc, Bool, true, false, cond, ◌==◌, ◌||◌, List, [], ◌∷◌, ◌++◌, length, get_or, drop, filter, fold, refl, sym, ap, ◌∙◌, subst, Option, Some, None, is_some, option_map, unwrap_or, ⊎_elim, append_assoc, arith}
+use Rattle.std.proofs.Common.{◌≡◌, ℕ, ◌+◌, ◌<◌, ◌≤◌, zero, suc, Bool, true, false, cond, ◌==◌, ◌||◌, List, [], ◌∷◌, ◌++◌, length, get_or, drop, filter, fold, refl, sym, ap, ◌∙◌, subst, Option, Some, None, option_map, unwrap_or, ⊎_elim, append_assoc, arith}
 use Rattle.std.specs.List.{enumerate_from}
 use Rattle.std.specs.List as list
 use Rattle.std.specs.Ordering.{nat_cmp}
@@ -12,6 +12,7 @@ use Rattle.std.proofs.lemmas.List.{append-nil, length_push, at_drop_more, at_dro
 use Rattle.std.proofs.Math.Seq.{drop-append_seam}
 use Rattle.std.proofs.lemmas.List.Elements.{filter-append}
 use Rattle.std.proofs.lemmas.List.Folds.{list_any-append}
+use Rattle.std.proofs.option.Match.{None-if_not_some}
 use Rattle.ft_fields.specs.Traced.{Traced}
 use Rattle.ft_lanes.specs.Held.{Lane, Lanes, number_limit, event_limit}
 use Rattle.ft_lanes.specs.Loaded.{lane_of, with_lanes, first_held}
@@ -21,6 +22,7 @@ use Rattle.ft_lanes.specs.inner.Slots.{SlotsOf, AllSlots, no_slots, slots_with, 
 use Rattle.ft_lanes.proofs.Each.{within-longer, within-with}
 use Rattle.ft_lanes.proofs.Views.{held-slots_of, lanes-with, lanes-appended, lane-found}
 use Rattle.ft_maps.specs.Entries.{get-insert_same, get-insert_other, get-remove_same, get-remove_other}
+use Rattle.ft_maps.proofs.Common.{cond_same}
 
 -- ---- the numbers that are left
 
@@ -151,10 +153,6 @@ lane_at-all lanes m done [] all free is now q = now q ∙ ap (λ es. lane_at lan
 lane_at-all lanes m done (e ∷ es) all free is now q =
     lane_at-all lanes (lanes_with m e) (done ++ e ∷ []) es all (λ k h. free k (or_right _ _ h)) (append_assoc done (e ∷ []) es ∙ is) (lane_at-push lanes m done e (free e.cpu (or_left _ _ (eq-eqb e.cpu e.cpu refl))) now) q
 
-cond-same : {X : Type 0} (b : Bool) (x : X) → cond b x x ≡ x
-cond-same true x = refl
-cond-same false x = refl
-
 -- and so does `with_lanes`
 each_lane : (all : List Traced) (m : Lanes) (es : List Traced) (q : ℕ) → map.get (fold (λ n e. map.insert n e.cpu (lane_of e.cpu all)) m es) q ≡ cond (has_cpu es q) (Some (lane_of q all)) (map.get m q)
 each_lane all m [] q = refl
@@ -163,7 +161,7 @@ each_lane all m (e ∷ es) q =
     ∙ ⊎_elim
     (λ s.
     ap (λ o. cond (has_cpu es q) (Some (lane_of q all)) o) (ap (map.get (map.insert m e.cpu (lane_of e.cpu all))) s ∙ get-insert_same nat_cmp_total m e.cpu _ ∙ ap (λ k. Some (lane_of k all)) (sym s))
-    ∙ cond-same (has_cpu es q) _
+    ∙ cond_same (has_cpu es q) _
     ∙ ap (λ b. cond (b || has_cpu es q) (Some (lane_of q all)) (map.get m q)) (sym (eq-eqb e.cpu q (sym s))))
     (λ ne.
     ap (λ o. cond (has_cpu es q) (Some (lane_of q all)) o) (get-insert_other nat_cmp_total nat_cmp-IsAntisymmetric m e.cpu _ q ne)
@@ -203,10 +201,6 @@ first_held-cpu lanes es = refl
 pub first_held-slots : (f : ℕ → Traced) (all : AllSlots) (es : List Traced) → first_cpu (map.contains_key all) es ≡ first_held (lanes_by f all) es
 first_held-slots f all es = first_cpu-same _ _ (λ cpu. sym (held-slots_of f all cpu)) es ∙ sym (first_held-cpu (lanes_by f all) es)
 
-pub missing : {X : Type 0} (o : Option X) → is_some o ≡ false → o ≡ None
-missing None e = refl
-missing (Some x) e = cc
-
 free-step : (has : Bool) (cpu : ℕ) (rest : Option ℕ) → cond has (Some cpu) rest ≡ None → (has ≡ false) × (rest ≡ None)
 free-step true cpu rest none = cc
 free-step false cpu rest none = (refl, none)
@@ -216,7 +210,7 @@ pub free-from : {X : Type 0} (m : FinMap nat_cmp X) (es : List Traced) → first
 free-from m [] none q is = cc
 free-from m (e ∷ es) none q is =
     let step = free-step _ e.cpu _ (sym (first_cpu-cons (map.contains_key m) e es) ∙ none) in
-    ⊎_elim (λ h. ap (map.get m) (sym (eqb-true e.cpu q h)) ∙ missing _ step.0) (λ h. free-from m es step.1 q h) (or_cases _ _ is)
+    ⊎_elim (λ h. ap (map.get m) (sym (eqb-true e.cpu q h)) ∙ None-if_not_some _ step.0) (λ h. free-from m es step.1 q h) (or_cases _ _ is)
 
 pub free-held : (lanes : Lanes) (es : List Traced) → first_held lanes es ≡ None → IsFree lanes es
 free-held lanes es none = free-from lanes es (sym (first_held-cpu lanes es) ∙ none)
@@ -236,7 +230,7 @@ remove-at m (e ∷ es) q =
     ∙ ⊎_elim
     (λ s.
     ap (λ o. cond (has_cpu es q) None o) (ap (map.get (map.remove m e.cpu)) s ∙ get-remove_same nat_cmp_total m e.cpu)
-    ∙ cond-same (has_cpu es q) None
+    ∙ cond_same (has_cpu es q) None
     ∙ ap (λ b. cond (b || has_cpu es q) None (map.get m q)) (sym (eq-eqb e.cpu q (sym s))))
     (λ ne.
     ap (λ o. cond (has_cpu es q) None o) (get-remove_other nat_cmp_total nat_cmp-IsAntisymmetric m e.cpu q ne)

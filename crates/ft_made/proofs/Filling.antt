@@ -16,15 +16,17 @@ use Rattle.ft_hist.specs.Hist.{Hist}
 use Rattle.ft_hist.specs.Made.{made_event, made_of}
 use Rattle.ft_hits.specs.declared.spot.Spot.{Spot}
 use Rattle.ft_maps.specs.Entries.{entries-empty, same_from_tie}
+use Rattle.ft_maps.proofs.Common.{all_map}
 use Rattle.ft_table.specs.Marks.{mark_cmp}
 use Rattle.ft_table.specs.Tabled.{Tabled}
 use Rattle.ft_changes.specs.Findings.{Findings, after_change, Lead}
 use Rattle.ft_changes.specs.declared.changed.ReadingChange.{ReadingChange}
 use Rattle.ft_hist.specs.Triggers.{Triggers}
-use Rattle.ft_base.proofs.Apart.{AreApart, all_map, entries_apart, entries_found}
+use Rattle.ft_base.proofs.Apart.{AreApart, entries_apart, entries_found}
 use Rattle.ft_replay.specs.Found.{pairs_in}
 use Rattle.ft_replay.specs.Merged.{Events}
 use Rattle.ft_replay.specs.declared.pair.Pair.{Pair}
+use Rattle.ft_replay.proofs.KeptMaps.{paired}
 use Rattle.ft_made.specs.MadeEvents.{made_by}
 use Rattle.ft_made.specs.MadeHits.{values_of_made}
 use Rattle.ft_made.specs.MadeTables.{IsMadeTable, AreInOrder, ArePairsOf, found_in}
@@ -34,9 +36,6 @@ use Rattle.ft_made.proofs.Turned.{makes}
 use Rattle.ft_made.proofs.Views.{nothing}
 
 -- ---- one trigger's readings
-
-abbrev pair_from : Pos × Pos → Pair
-pair_from e = record { saved = e.1; read = e.0 }
 
 -- nothing is kept where one is found, and where none is
 none_of : (o : Option Pos) → option_map_or (λ (saved : Pos). None) o o ≡ None
@@ -49,7 +48,7 @@ module _ (id : ℕ) (now : Findings) where
   without es q pos = if q == id then option_map_or (λ (saved : Pos). None) (find pos_cmp pos es) (now q pos) else now q pos
 
   abbrev change_at : Pos × Pos → ReadingChange
-  change_at e = first_change id (pair_from e)
+  change_at e = first_change id (paired e)
 
   -- once the first of these finds its saving, the others are left
   one_less : (e : Pos × Pos) (es : List (Pos × Pos)) → AllByRecursion (λ q. pos_cmp e.0 q.0 ≡ Less) es → now id e.0 ≡ Some e.1
@@ -69,12 +68,12 @@ module _ (id : ℕ) (now : Findings) where
       ] refl
 
   -- their changes lead from there
-  lead_first : (es : List (Pos × Pos)) → AreApart pos_cmp es → AllByRecursion (λ e. now id e.0 ≡ Some e.1) es → Lead (list_map (first_change id) (list_map pair_from es)) (without es) now
+  lead_first : (es : List (Pos × Pos)) → AreApart pos_cmp es → AllByRecursion (λ e. now id e.0 ≡ Some e.1) es → Lead (list_map (first_change id) (list_map paired es)) (without es) now
   lead_first [] apart there = λ q pos. elim (q == id) as (λ b. now q pos ≡ (if b then now q pos else now q pos)) [ true ↦ refl | false ↦ refl ]
   lead_first (e ∷ es) apart there = (
     ap (λ b. if b then option_map_or (λ (saved : Pos). None) (find pos_cmp e.0 (e ∷ es)) (now id e.0) else now id e.0) (eq-eqb id id refl)
         ∙ ap (λ b. option_map_or (λ (saved : Pos). None) (cond b (Some e.1) (find pos_cmp e.0 es)) (now id e.0)) ((eq_by_cmp_equiv pos_cmp_total).refl e.0),
-    subst (λ (found : Findings). Lead (list_map (first_change id) (list_map pair_from es)) found now) (λ i q pos. sym (one_less e es apart.0 there.0 q pos) i) (lead_first es apart.1 there.1),
+    subst (λ (found : Findings). Lead (list_map (first_change id) (list_map paired es)) found now) (λ i q pos. sym (one_less e es apart.0 there.0 q pos) i) (lead_first es apart.1 there.1),
   )
 
 -- ---- all triggers' readings
@@ -127,7 +126,7 @@ module _ (triggers : Triggers) (pairs : ℕ → List Pair) where
   abbrev pub readings_of : ℕ → FinMap pos_cmp Pos
   readings_of id = map.from_entries (list_map (λ pair. (pair.read, pair.saved)) (pairs id))
 
-  back_from : (es : List (Pos × Pos)) → list_map (λ (pair : Pair). (pair.read, pair.saved)) (list_map pair_from es) ≡ es
+  back_from : (es : List (Pos × Pos)) → list_map (λ (pair : Pair). (pair.read, pair.saved)) (list_map paired es) ≡ es
   back_from [] = refl
   back_from (e ∷ es) = ap (λ (more : List (Pos × Pos)). e ∷ more) (back_from es)
 
@@ -151,7 +150,7 @@ module _ (triggers : Triggers) (pairs : ℕ → List Pair) where
 
     changes-are : (t : ℕ × Hist) → map.get triggers t.0 ≡ Some t.1 → first_changes pairs t ≡ list_map (first_change t.0) (pairs_in (making t))
     changes-are t attached = elim t.1.onmatch as (λ o. option_map_or (λ onmatch. list_map (first_change t.0) (pairs t.0)) o [] ≡ list_map (first_change t.0) (pairs_in (option_map_or (λ onmatch. found t.0) o map.empty))) [
-      | None ↦ sym (ap (λ (es : List (Pos × Pos)). list_map (first_change t.0) (list_map pair_from es)) (entries-empty pos_cmp))
+      | None ↦ sym (ap (λ (es : List (Pos × Pos)). list_map (first_change t.0) (list_map paired es)) (entries-empty pos_cmp))
       | Some onmatch ↦ ap (list_map (first_change t.0)) (are t.0 t.1 attached)
     ]
 

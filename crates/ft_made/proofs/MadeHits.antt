@@ -12,6 +12,7 @@ use Rattle.ft_fields.specs.declared.key.Part.{Part}
 use Rattle.ft_hist.specs.Hist.{Hist}
 use Rattle.ft_hist.specs.Hit.{hit}
 use Rattle.ft_maps.specs.Entries.{strictly_sorted}
+use Rattle.ft_maps.proofs.Common.{all_map, none_then}
 use Rattle.ft_hits.specs.declared.mark.Mark.{Mark}
 use Rattle.ft_hits.specs.declared.spot.Spot.{Spot}
 use Rattle.ft_table.specs.Growth.{InGrows, RowsGrow, TotalsGrow}
@@ -20,7 +21,7 @@ use Rattle.ft_table.specs.Marks.{mark_cmp_total, mark_same}
 use Rattle.ft_table.specs.Spots.{spot_cmp, spot_cmp_total}
 use Rattle.ft_table.specs.Tabled.{Tabled}
 use Rattle.ft_hist.specs.Triggers.{Triggers}
-use Rattle.ft_base.proofs.Apart.{all_map, entries_found}
+use Rattle.ft_base.proofs.Apart.{entries_found}
 use Rattle.ft_replay.specs.Merged.{Events}
 use Rattle.ft_replay.specs.Hits.{TriggerHit, entry_of, pair_of, table_for}
 use Rattle.ft_replay.specs.Tally.{Tally, empty_tally, tally_of}
@@ -39,10 +40,6 @@ use Rattle.ft_made.proofs.MadeTables.{hit_under}
 use Rattle.ft_made.proofs.Order.{get-made}
 use Rattle.ft_made.proofs.Same.{made_found}
 use Rattle.ft_made.proofs.Views.{fold_option}
-
-none_then : {X Y : Type 0} (f : X → Option Y) (o : Option X) → is_some o ≡ false → option_and_then f o ≡ None
-none_then f None none = refl
-none_then f (Some x) none = absurd cc
 
 module _ (triggers : Triggers) (events : Events) (hist : Hist) where
   abbrev hit_of : Spot → Option TriggerHit

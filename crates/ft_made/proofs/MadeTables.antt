@@ -5,21 +5,20 @@ use Rattle.std.proofs.lemmas.Bool.{true≢false}
 use Rattle.std.specs.Option.{option_map_or}
 use Rattle.std.specs.Ordering.{is_eq, eq_by_cmp, ordering_then}
 use Rattle.std.proofs.lemmas.Cmp.{tied_itself}
-use Rattle.std.specs.Cmp.{eq_by_cmp_equiv}
+use Rattle.std.specs.Cmp.{eq_by_cmp_equiv, tied_then}
 use Rattle.std.specs.FinMap as map
 use Rattle.std.specs.FinMap.{get-insert, get-remove}
 use Rattle.ft_fields.specs.Traced.{Traced}
 use Rattle.ft_hist.specs.Fitting.{KeyFits}
 use Rattle.ft_hist.specs.Hist.{Hist}
 use Rattle.ft_hist.specs.Hit.{hit}
-use Rattle.ft_fields.specs.Parts.{key_cmp}
+use Rattle.ft_fields.specs.Parts.{key_cmp, same_key}
 use Rattle.ft_fields.specs.declared.key.Part.{Part}
 use Rattle.ft_fields.specs.Ties.{key_same}
 use Rattle.ft_maps.specs.Entries.{same_from_tie}
 use Rattle.ft_hits.specs.declared.mark.Mark.{Mark}
 use Rattle.ft_hits.specs.declared.spot.Spot.{Spot}
 use Rattle.ft_table.specs.Growth.{with_hit}
-use Rattle.ft_table.specs.Hits.{same_key}
 use Rattle.ft_table.specs.Marks.{mark_cmp_total}
 use Rattle.ft_table.specs.OneKey.{without_hit}
 use Rattle.ft_table.specs.Spots.{spot_cmp, spot_cmp_total, spot_same}
@@ -28,7 +27,6 @@ use Rattle.ft_table.specs.Values.{values_at}
 use Rattle.ft_hist.specs.Triggers.{Triggers}
 use Rattle.ft_replay.specs.Hits.{TriggerHit}
 use Rattle.ft_replay.specs.Merged.{Events}
-use Rattle.ft_replay.proofs.Places.{tied_then}
 use Rattle.ft_made.specs.Laws.{MadeTablesChange, MadeTablesFit, PutMadeChanges, TakeMadeChanges}
 use Rattle.ft_made.specs.MadeEvents.{made_by}
 use Rattle.ft_made.specs.MadeHits.{made_hit, values_of_made}
@@ -112,7 +110,7 @@ module _ (hist : Hist) where
   put_other table s made mark other = elim (option_and_then (made_hit hist s) made) as (λ o. map.get (option_map_or (with_found s table) o table).hits mark ≡ map.get table.hits mark) [
     | None ↦ refl
     | Some found ↦ get-insert mark_cmp_total table.hits (record { spot = s; key = found.key }) found.values mark
-        ∙ ap (λ b. cond b (Some found.values) (map.get table.hits mark)) (tied_then (spot_cmp mark.spot s) (key_cmp mark.key found.key) ∙ ap (λ b. b && same_key mark.key found.key) other)
+        ∙ ap (λ b. cond b (Some found.values) (map.get table.hits mark)) (sym (tied_then (spot_cmp mark.spot s) (key_cmp mark.key found.key)) ∙ ap (λ b. b && same_key mark.key found.key) other)
   ]
 
   put_size : (table : Tabled) (s : Spot) (made : Option Traced) → (with_made hist s made table).size ≡ table.size
@@ -156,7 +154,7 @@ module _ (hist : Hist) (spot : Spot) (made : Option Traced) (table : Tabled) whe
   take_elsewhere mark apart = elim (option_and_then (made_hit hist spot) made) as (λ o. map.get (option_map_or without_found o table).hits mark ≡ map.get table.hits mark) [
     | None ↦ refl
     | Some found ↦ get-remove mark_cmp_total table.hits (record { spot = spot; key = found.key }) mark
-        ∙ ap (λ b. cond b None (map.get table.hits mark)) (tied_then (spot_cmp mark.spot spot) (key_cmp mark.key found.key) ∙ ap (λ b. b && same_key mark.key found.key) (not_tied mark.spot spot apart))
+        ∙ ap (λ b. cond b None (map.get table.hits mark)) (sym (tied_then (spot_cmp mark.spot spot) (key_cmp mark.key found.key)) ∙ ap (λ b. b && same_key mark.key found.key) (not_tied mark.spot spot apart))
   ]
 
   take_size : (without_made hist spot made table).size ≡ table.size

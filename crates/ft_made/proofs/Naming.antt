@@ -4,6 +4,7 @@ use Rattle.std.specs.Prelude.{◌&&◌, fold, filter, if◌then◌else◌, optio
 use Rattle.std.specs.List.{list_any}
 use Rattle.std.specs.Option.{option_map_or}
 use Rattle.std.specs.FinMap as map
+use Rattle.std.proofs.lemmas.Bool.{or_parts}
 use Rattle.ft_fields.specs.Traced.{Traced, name_of}
 use Rattle.ft_fields.specs.declared.pos.Pos.{Pos}
 use Rattle.ft_fields.specs.declared.key.Part.{Part}
@@ -15,7 +16,7 @@ use Rattle.ft_base.specs.Roles.{role_of}
 use Rattle.ft_replay.specs.Merged.{Events}
 use Rattle.ft_replay.specs.Named.{is_on, is_named, named}
 use Rattle.ft_replay.specs.Replay.{growth_by, act, act_at}
-use Rattle.ft_replay.proofs.Naming.{either-left, either-right, is_kept, entries-named}
+use Rattle.ft_replay.proofs.Naming.{is_kept, entries-named}
 use Rattle.ft_made.specs.Making.{saving_read, goes_past}
 use Rattle.ft_made.specs.ReplayMaking.{StateMaking, act_making, step_making, replay_making}
 
@@ -37,8 +38,8 @@ module _ (triggers : Triggers) where
   all_idle entry state (t ∷ ts) none =
       let here = same_name t.1.event (name_of entry.1.body) in
       let rest = list_any (λ (attached : ℕ × Hist). same_name attached.1.event (name_of entry.1.body)) ts in
-      ap (λ (s : StateMaking). fold (act_making triggers entry) s ts) (idle entry state t (either-left here rest none))
-      ∙ all_idle entry state ts (either-right here rest none)
+      ap (λ (s : StateMaking). fold (act_making triggers entry) s ts) (idle entry state t (or_parts here rest none).0)
+      ∙ all_idle entry state ts (or_parts here rest none).1
 
   unnamed_step : (state : StateMaking) (entry : Pos × Traced) → is_named triggers entry.1 ≡ false → step_making triggers state entry ≡ state
   unfolding step_making is_on

@@ -1,6 +1,7 @@
 -- Made events stand in order of their spots, one at each, and by spot they are what readings make.
 use Rattle.std.proofs.Common.{◌≡◌, ℕ, Bool, true, false, cond, List, [], ◌∷◌, map as list_map, refl, sym, ap, ◌∙◌, Some, None, Option}
 use Rattle.std.specs.Prelude.{◌&&◌, ◌||◌, is_some}
+use Rattle.std.specs.Cmp.{tied_then}
 use Rattle.std.specs.List.{AllByRecursion, flat_map, list_any}
 use Rattle.std.specs.List.Sorted.{IsStrictlySortedBy}
 use Rattle.std.specs.Map.{keys_of}
@@ -17,12 +18,12 @@ use Rattle.ft_fields.specs.declared.pos.Pos.{Pos}
 use Rattle.ft_fields.specs.Places.{pos_cmp, pos_cmp_total}
 use Rattle.ft_hist.specs.Hist.{Hist}
 use Rattle.ft_maps.specs.Entries.{entries-from_entries}
+use Rattle.ft_maps.proofs.Common.{all_map}
 use Rattle.ft_hits.specs.declared.spot.Spot.{Spot}
 use Rattle.ft_table.specs.Spots.{spot_cmp, spot_cmp_total, spot_same}
 use Rattle.ft_hist.specs.Triggers.{Triggers}
-use Rattle.ft_base.proofs.Apart.{AreApart, entries_apart, all_of, all_map}
+use Rattle.ft_base.proofs.Apart.{AreApart, entries_apart, all_of}
 use Rattle.ft_replay.specs.Merged.{Events}
-use Rattle.ft_replay.proofs.Places.{tied_then}
 use Rattle.ft_made.specs.MadeEvents.{made_at, spots_at, spots, made_list, made_events}
 use Rattle.ft_made.proofs.Views.{nothing}
 use Rattle.ft_made.proofs.Sorted.{standing_sorted, find-standing, sorted_append, all_list_map, all_flat_map}
@@ -68,7 +69,7 @@ module _ (triggers : Triggers) (q : Spot) where
   in_place : (e : Pos × Traced) → eq_by_cmp pos_cmp q.pos e.0 ≡ true → (ts : List (ℕ × Hist)) → is_some (find nat_cmp q.maker ts) ≡ true → list_any ties (list_map (spot_at e) ts) ≡ true
   in_place e tie [] found = absurd (true≢false (sym found))
   in_place e tie (t ∷ ts) found =
-      ap (λ b. b || list_any ties (list_map (spot_at e) ts)) (tied_then (pos_cmp q.pos e.0) (nat_cmp q.maker t.0) ∙ ap (λ b. b && eq_by_cmp nat_cmp q.maker t.0) tie)
+      ap (λ b. b || list_any ties (list_map (spot_at e) ts)) (sym (tied_then (pos_cmp q.pos e.0) (nat_cmp q.maker t.0)) ∙ ap (λ b. b && eq_by_cmp nat_cmp q.maker t.0) tie)
       ∙ elim (eq_by_cmp nat_cmp q.maker t.0) as (λ b. is_some (cond b (Some t.1) (find nat_cmp q.maker ts)) ≡ true → (b || list_any ties (list_map (spot_at e) ts)) ≡ true) [
         | true ↦ λ _. refl
         | false ↦ λ later. in_place e tie ts later

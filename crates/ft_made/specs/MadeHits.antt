@@ -2,11 +2,12 @@
 use Rattle.std.specs.Prelude.{ℤ, List, Option, Some, None, option_map, option_and_then, filter_map, map as list_map, if◌then◌else◌}
 use Rattle.std.specs.FinMap as map
 use Rattle.ft_fields.specs.Traced.{Traced}
+use Rattle.ft_fields.specs.Parts.{same_key}
 use Rattle.ft_hist.specs.Hist.{Hist}
 use Rattle.ft_hist.specs.Hit.{hit}
 use Rattle.ft_hits.specs.declared.mark.Mark.{Mark}
 use Rattle.ft_hits.specs.declared.spot.Spot.{Spot}
-use Rattle.ft_table.specs.Hits.{Hits, same_key}
+use Rattle.ft_table.specs.Hits.{Hits}
 use Rattle.ft_table.specs.Values.{values_at}
 use Rattle.ft_hist.specs.Triggers.{Triggers}
 use Rattle.ft_replay.specs.Merged.{Events}

@@ -6,13 +6,14 @@ use Rattle.std.specs.FinMap.{get-empty, get-insert, get-remove}
 use Rattle.ft_fields.specs.declared.key.Part.{Part}
 use Rattle.ft_fields.specs.Orders.{key_cmp_total}
 use Rattle.ft_fields.specs.Ties.{key_same}
+use Rattle.ft_fields.specs.Parts.{same_key}
 use Rattle.ft_maps.specs.Entries.{same_from_tie}
 use Rattle.ft_pairs.specs.declared.at.At.{At}
 use Rattle.ft_pairs.specs.declared.at.Op.{Op}
 use Rattle.ft_pairs.specs.Order.{at_cmp, at_cmp_total}
 use Rattle.ft_pairs.specs.Source.{Ops}
 use Rattle.ft_pairs.specs.Edits.{with_op, without_op, if_read, same_at}
-use Rattle.ft_pairs.specs.ByKey.{KeyOps, OpsByKey, ops_of, same_key, ChangesKey}
+use Rattle.ft_pairs.specs.ByKey.{KeyOps, OpsByKey, ops_of, ChangesKey}
 
 -- what stands at places, of what a map has at a key
 abbrev pub found_in : Option KeyOps → Ops

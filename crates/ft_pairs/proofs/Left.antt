@@ -2,30 +2,19 @@
 use Rattle.std.proofs.Common.{◌≡◌, ◌<◌, ◌≤◌, Bool, true, false, cond, List, [], ◌∷◌, length, refl, sym, ap, ◌∙◌, arith, Some, None, Option}
 use Rattle.std.specs.Prelude.{is_some}
 use Rattle.std.specs.List.{filter}
-use Rattle.std.proofs.lemmas.Bool.{true≢false, false≢true}
-use Rattle.std.specs.declared.cmp.Ordering.{Ordering}
-use Rattle.std.specs.declared.cmp.Ordering.TheVariants.{Less, Equal, Greater}
-use Rattle.std.specs.Ordering.{is_lt, is_eq}
+use Rattle.std.proofs.lemmas.Bool.{true≢false}
+use Rattle.std.specs.Ordering.{is_lt}
 use Rattle.std.specs.Cmp.{eq_by_cmp_equiv}
 use Rattle.std.specs.FinMap as map
 use Rattle.std.specs.FinMap.{find, get-entries}
 use Rattle.ft_maps.specs.Entries.{same_from_tie}
+use Rattle.ft_maps.proofs.Common.{is_less, not_below}
 use Rattle.ft_pairs.specs.declared.at.At.{At}
 use Rattle.ft_pairs.specs.declared.at.Op.{Op}
 use Rattle.ft_pairs.specs.Order.{at_cmp, at_cmp_total, at_same}
 use Rattle.ft_pairs.specs.Next.{IsBehind}
 use Rattle.ft_pairs.specs.Edits.{same_at}
 use Rattle.ft_pairs.specs.ByKey.{KeyOps, is_behind}
-
-is_less : (o : Ordering) → is_lt o ≡ true → o ≡ Less
-is_less Less h = refl
-is_less Equal h = absurd (false≢true h)
-is_less Greater h = absurd (false≢true h)
-
-not_itself : (o : Ordering) → is_eq o ≡ true → is_lt o ≡ false
-not_itself Less h = absurd (false≢true h)
-not_itself Equal h = refl
-not_itself Greater h = absurd (false≢true h)
 
 behind_true : (after : Option At) (q : At) → IsBehind after q → is_behind after q ≡ true
 behind_true None q h = refl
@@ -82,4 +71,4 @@ pub fewer_left : (ops : KeyOps) (after : Option At) (n : At) (op : Op) → IsBeh
     → length (filter (λ (e : At × Op). is_behind (Some n) e.0) (map.entries ops)) < length (filter (λ (e : At × Op). is_behind after e.0) (map.entries ops))
 fewer_left ops after n op behind there =
     fewer (is_behind (Some n)) (is_behind after) (λ q more. behind_too after n q behind more) n op
-    (not_itself (at_cmp n n) ((eq_by_cmp_equiv at_cmp_total).refl n)) (behind_true after n behind) (map.entries ops) (sym (get-entries ops n) ∙ there)
+    (not_below (at_cmp n n) ((eq_by_cmp_equiv at_cmp_total).refl n)) (behind_true after n behind) (map.entries ops) (sym (get-entries ops n) ∙ there)

@@ -18,6 +18,7 @@ use Rattle.std.proofs.lemmas.Map.Keys.{IsDistinct-from_sorted}
 use Rattle.ft_fields.specs.declared.key.Part.{Part}
 use Rattle.ft_fields.specs.Orders.{key_cmp_total}
 use Rattle.ft_fields.specs.Ties.{key_same}
+use Rattle.ft_fields.specs.Parts.{same_key}
 use Rattle.ft_maps.specs.Entries.{same_from_tie}
 use Rattle.ft_maps.specs.Seen.{seen, get-seen}
 use Rattle.ft_pairs.specs.declared.at.At.{At}
@@ -25,7 +26,7 @@ use Rattle.ft_pairs.specs.declared.at.Op.{Op}
 use Rattle.ft_pairs.specs.declared.at.Op.TheVariants.{Read}
 use Rattle.ft_pairs.specs.Order.{at_cmp, at_cmp_total}
 use Rattle.ft_pairs.specs.Source.{Ops}
-use Rattle.ft_pairs.specs.ByKey.{KeyOps, OpsByKey, ops_of, same_key, PartlyChangesKey}
+use Rattle.ft_pairs.specs.ByKey.{KeyOps, OpsByKey, ops_of, PartlyChangesKey}
 use Rattle.ft_pairs.specs.Edits.{same_at}
 use Rattle.ft_pairs.specs.Runs.{with_reads, SomeReads}
 use Rattle.ft_pairs.specs.inner.Met.{as_reads}

@@ -9,15 +9,16 @@ use Rattle.std.specs.Cmp.{eq_by_cmp_equiv}
 use Rattle.ft_fields.specs.declared.key.Part.{Part}
 use Rattle.ft_fields.specs.Orders.{key_cmp_total}
 use Rattle.ft_fields.specs.Ties.{key_same}
+use Rattle.ft_fields.specs.Parts.{same_key}
 use Rattle.ft_maps.specs.Entries.{same_from_tie}
 use Rattle.ft_pairs.specs.declared.at.At.{At}
 use Rattle.ft_pairs.specs.declared.at.Op.{Op}
 use Rattle.ft_pairs.specs.declared.at.Op.TheVariants.{Save, Read}
 use Rattle.ft_pairs.specs.Order.{at_cmp, at_cmp_total, at_same}
-use Rattle.ft_pairs.specs.Source.{Ops, IsSource}
+use Rattle.ft_pairs.specs.Source.{Ops, IsSource, is_read}
 use Rattle.ft_pairs.specs.Next.{IsNext}
 use Rattle.ft_pairs.specs.Edits.{KeepsSource, with_op, without_op, reads_alone, if_read, same_at}
-use Rattle.ft_pairs.specs.ByKey.{OpsByKey, ChangesKey, ops_of, same_key}
+use Rattle.ft_pairs.specs.ByKey.{OpsByKey, ChangesKey, ops_of}
 use Rattle.ft_pairs.proofs.Local.{same_source, far_source, there_not_none}
 use Rattle.ft_pairs.proofs.Nexts.{same_step}
 
@@ -112,10 +113,6 @@ module _ (old new : OpsByKey) (key : List Part) (edit : Ops → Ops) (is : Chang
       → (k : List Part) (q : At) (op : Op) → ops_of new k q ≡ Some op → ((k ≡ key) × (next ≡ Some (q, op))) ⊎ KeepsSource (ops_of old k) (ops_of new k) q
   but_next_of_key at one next first = of_one_key (λ q op. next ≡ Some (q, op))
       (but_next (ops_of old key) (ops_of new key) at (λ q apart. edited q ∙ one (ops_of old key) q apart) next first)
-
-abbrev is_read : Op → Bool
-is_read Save = false
-is_read Read = true
 
 save_not_read : Save ≡ Read → ⊥
 save_not_read e = true≢false (sym (ap is_read e))

@@ -1,11 +1,11 @@
 -- Operations by key and place, and what edits of one key make of them.
 use Rattle.std.specs.Prelude.{◌≡◌, ◌⊎◌, ℕ, Bool, true, List, length, Option, Some, None, option_and_then, unwrap_or, if◌then◌else◌}
 use Rattle.std.specs.List.{filter}
-use Rattle.std.specs.Ordering.{eq_by_cmp, is_lt}
+use Rattle.std.specs.Ordering.{is_lt}
 use Rattle.std.specs.FinMap as map
 use Rattle.std.specs.FinMap.{FinMap}
 use Rattle.ft_fields.specs.declared.key.Part.{Part}
-use Rattle.ft_fields.specs.Parts.{key_cmp}
+use Rattle.ft_fields.specs.Parts.{key_cmp, same_key}
 use Rattle.ft_pairs.specs.declared.at.At.{At}
 use Rattle.ft_pairs.specs.declared.at.Op.{Op}
 use Rattle.ft_pairs.specs.Order.{at_cmp}
@@ -22,10 +22,6 @@ OpsByKey = FinMap key_cmp KeyOps
 -- the operations of a key
 abbrev pub ops_of : OpsByKey → List Part → Ops
 ops_of pairs key at = option_and_then (λ ops. map.get ops at) (map.get pairs key)
-
--- whether two keys are the same
-abbrev pub same_key : List Part → List Part → Bool
-same_key = eq_by_cmp key_cmp
 
 -- one key's operations become what an edit makes of them, and those of other keys stay
 abbrev pub ChangesKey : List Part → (Ops → Ops) → OpsByKey → OpsByKey → Type 0

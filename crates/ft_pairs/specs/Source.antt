@@ -1,5 +1,5 @@
 -- What a reading of a variable finds (kernel: histogram.rst, inter-event hist triggers).
-use Rattle.std.specs.Prelude.{◌≡◌, ◌⊎◌, Option, Some, None}
+use Rattle.std.specs.Prelude.{◌≡◌, ◌⊎◌, Bool, true, false, Option, Some, None}
 use Rattle.std.specs.declared.cmp.Ordering.TheVariants.{Less}
 use Rattle.ft_pairs.specs.declared.at.At.{At}
 use Rattle.ft_pairs.specs.declared.at.Op.{Op}
@@ -9,6 +9,11 @@ use Rattle.ft_pairs.specs.Order.{at_cmp}
 -- the operations on a variable, by where they stand
 abbrev pub Ops : Type 0
 Ops = At → Option Op
+
+-- an operation is a read
+abbrev pub is_read : Op → Bool
+is_read Save = false
+is_read Read = true
 
 -- no operation stands before a place
 abbrev pub HasNoneBefore : Ops → At → Type 0

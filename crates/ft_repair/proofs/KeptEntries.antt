@@ -4,16 +4,17 @@ use Rattle.std.specs.Prelude.{ℤ, if◌then◌else◌, option_map, option_and_t
 use Rattle.std.specs.Option.{option_map_or}
 use Rattle.std.specs.Ordering.{eq_by_cmp}
 use Rattle.std.specs.FinMap as map
+use Rattle.ft_maps.proofs.Common.{cond_same}
 use Rattle.ft_fields.specs.Traced.{Traced}
 use Rattle.ft_fields.specs.declared.pos.Pos.{Pos}
 use Rattle.ft_hist.specs.Hist.{Hist}
 use Rattle.ft_hist.specs.Hit.{hit}
 use Rattle.ft_fields.specs.declared.key.Part.{Part}
+use Rattle.ft_fields.specs.Parts.{same_key}
 use Rattle.ft_pairs.specs.Source.{Ops, IsSource}
 use Rattle.ft_pairs.specs.declared.at.At.{At}
 use Rattle.ft_pairs.specs.declared.at.Op.{Op}
 use Rattle.ft_pairs.specs.declared.at.Op.TheVariants.{Save}
-use Rattle.ft_table.specs.Hits.{same_key}
 use Rattle.ft_table.specs.Spots.{traced}
 use Rattle.ft_kept.specs.Acts.{acts_of, op_of}
 use Rattle.ft_kept.specs.Entries.{Finds, IsEntry, IsKept, hits_here, one_hit, read_here}
@@ -53,10 +54,6 @@ pub record IsReplayedAt (triggers : Triggers) (events : Events) (kept : Kept) (i
 place_back : (saver : ℕ) (o : Option Pos) → option_map (λ (saved : At). saved.pos) (option_map (λ place. record { pos = place; trigger = saver }) o) ≡ o
 place_back saver None = refl
 place_back saver (Some place) = refl
-
-none_either : {X : Type 0} (b : Bool) → ◌≡◌ {A = Option X} (cond b None None) None
-none_either true = refl
-none_either false = refl
 
 -- an act: a key, with its event
 abbrev with_event : Traced → List Part → List Part × Traced
@@ -173,7 +170,7 @@ module _ (triggers : Triggers) (events : Events) (admits : Admits) (kept : Kept)
         found : (o : Option Pos) → read_here kept at ≡ o → IsReplayedAt triggers events kept id pos
         found None none =
             of_hit None (as_found None none)
-            (λ k. e.1 k ∙ ap (λ (o : Option Pos). one_hit key (option_map (λ saved. values_by triggers id pos event (Some saved)) o) k) none ∙ none_either (same_key k key)) none
+            (λ k. e.1 k ∙ ap (λ (o : Option Pos). one_hit key (option_map (λ saved. values_by triggers id pos event (Some saved)) o) k) none ∙ cond_same (same_key k key) None) none
         found (Some saved) some =
             of_hit _ (as_found (Some saved) some)
             (λ k. e.1 k ∙ ap (λ (o : Option Pos). one_hit key (option_map (λ saved. values_by triggers id pos event (Some saved)) o) k) some ∙ one_hit-values event key (Some saved) k) some

@@ -10,6 +10,7 @@ use Rattle.ft_hist.specs.Hist.{Hist}
 use Rattle.ft_hist.specs.Hit.{hit}
 use Rattle.ft_fields.specs.Ties.{key_same}
 use Rattle.ft_fields.specs.declared.key.Part.{Part}
+use Rattle.ft_fields.specs.Parts.{same_key}
 use Rattle.ft_kept.specs.Shelves.{Shelved, Shelves, admits_on, is_saver, kept_on}
 use Rattle.ft_pairs.specs.declared.at.At.{At}
 use Rattle.ft_pairs.specs.declared.role.Role.{Role}
@@ -17,7 +18,7 @@ use Rattle.ft_pairs.specs.declared.role.Role.TheVariants.{Saves, Reads}
 use Rattle.ft_pairs.specs.declared.role.Variable.{Variable}
 use Rattle.ft_maps.specs.Entries.{same_from_tie}
 use Rattle.ft_table.specs.Growth.{InGrows, RowsGrow, TotalsGrow}
-use Rattle.ft_table.specs.Hits.{Hits, same_key}
+use Rattle.ft_table.specs.Hits.{Hits}
 use Rattle.ft_table.specs.Rows.{AllFit}
 use Rattle.ft_table.specs.Tabled.{Tabled, is_in}
 use Rattle.ft_hits.specs.declared.mark.Mark.{Mark}

@@ -24,11 +24,12 @@ use Rattle.ft_shelves.proofs.Decided.{itself}
 use Rattle.ft_lanes.specs.Held.{Lane, Lanes, event_at}
 use Rattle.ft_lanes.specs.Walks.{traced_line}
 use Rattle.ft_maps.specs.Entries.{get-remove_same, strictly_sorted}
+use Rattle.ft_maps.proofs.Common.{all_map}
 use Rattle.ft_store.specs.Stored.{held}
 use Rattle.ft_store.specs.declared.stored.Stored.{Stored}
 use Rattle.ft_base.specs.Base.{Triggers}
 use Rattle.ft_base.specs.Reachable.{HasSavers}
-use Rattle.ft_base.proofs.Apart.{all_map, entries_found}
+use Rattle.ft_base.proofs.Apart.{entries_found}
 use Rattle.ft_answers.specs.Deferral.{IsPlainLane}
 use Rattle.ft_replay.specs.Merged.{merged, place_of}
 use Rattle.ft_replay.proofs.Places.{merged_at}

@@ -9,6 +9,7 @@ use Rattle.std.specs.FinMap as map
 use Rattle.std.specs.FinMap.{find, get-entries, same_map, nat_cmp-IsAntisymmetric}
 use Rattle.std.proofs.lemmas.List.Sums.{sum_by-cons}
 use Rattle.std.proofs.lemmas.Map.Entries.{option_filter}
+use Rattle.ft_maps.proofs.Common.{all_map}
 use Rattle.ft_fields.specs.Traced.{Traced}
 use Rattle.ft_fields.specs.Places.{pos_cmp, pos_cmp_total}
 use Rattle.ft_fields.specs.declared.pos.Pos.{Pos}
@@ -26,7 +27,7 @@ use Rattle.ft_repair.specs.KeptShelves.{AreKept}
 use Rattle.ft_replay.specs.Chosen.{is_among, lanes_of, lanes_but}
 use Rattle.ft_replay.specs.Merged.{Events, merged, held_at}
 use Rattle.ft_replay.specs.Named.{is_named, named}
-use Rattle.ft_base.proofs.Apart.{all_map, entries_found}
+use Rattle.ft_base.proofs.Apart.{entries_found}
 use Rattle.ft_base.proofs.Loading.{held-stays}
 use Rattle.ft_replay.proofs.Choosing.{get-chosen}
 use Rattle.ft_replay.proofs.Naming.{named_all}

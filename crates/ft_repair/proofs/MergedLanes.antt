@@ -3,7 +3,7 @@ use Rattle.std.proofs.Common.{◌≡◌, ℕ, Bool, true, false, cond, refl, sym
 use Rattle.std.specs.Prelude.{◌==◌, ◌&&◌, if◌then◌else◌, option_and_then}
 use Rattle.std.specs.Option.{option_map_or}
 use Rattle.std.specs.Ordering.{nat_cmp, is_eq, eq_by_cmp, ordering_then}
-use Rattle.std.specs.Cmp.{nat_cmp_total, nat_eq_equiv, unsigned_tied, eq_by_cmp_equiv}
+use Rattle.std.specs.Cmp.{nat_cmp_total, nat_eq_equiv, unsigned_tied, eq_by_cmp_equiv, tied_then}
 use Rattle.std.specs.FinMap as map
 use Rattle.std.specs.FinMap.{get-empty, get-insert, get-remove, same_map, nat_cmp-IsAntisymmetric}
 use Rattle.std.proofs.lemmas.Bool.{and_parts, eq-eqb}
@@ -16,7 +16,7 @@ use Rattle.ft_maps.specs.Entries.{same_from_tie}
 use Rattle.ft_base.specs.Base.{Base}
 use Rattle.ft_replay.specs.Merged.{Events, merged, held_at}
 use Rattle.ft_base.specs.Reachable.{IsReachable}
-use Rattle.ft_replay.proofs.Places.{merged_at, tied_then}
+use Rattle.ft_replay.proofs.Places.{merged_at}
 
 -- numbers that tie are one
 pub tie_nat : (a b : ℕ) → eq_by_cmp nat_cmp a b ≡ true → a ≡ b
@@ -69,8 +69,8 @@ event_without lanes cpu line c l =
 -- a place ties where its stamp, its CPU and its line do
 pub tie_at : (q pos : Pos) → eq_by_cmp pos_cmp q pos ≡ (is_eq (nat_cmp q.stamp pos.stamp) && (eq_by_cmp nat_cmp q.cpu pos.cpu && eq_by_cmp nat_cmp q.line pos.line))
 tie_at q pos =
-    tied_then (nat_cmp q.stamp pos.stamp) (ordering_then (nat_cmp q.cpu pos.cpu) (nat_cmp q.line pos.line))
-    ∙ ap (λ (b : Bool). is_eq (nat_cmp q.stamp pos.stamp) && b) (tied_then (nat_cmp q.cpu pos.cpu) (nat_cmp q.line pos.line))
+    sym (tied_then (nat_cmp q.stamp pos.stamp) (ordering_then (nat_cmp q.cpu pos.cpu) (nat_cmp q.line pos.line)))
+    ∙ ap (λ (b : Bool). is_eq (nat_cmp q.stamp pos.stamp) && b) (sym (tied_then (nat_cmp q.cpu pos.cpu) (nat_cmp q.line pos.line)))
 
 -- an event, where it has this stamp
 abbrev pub on_stamp : ℕ → Traced → Option Traced

@@ -29,9 +29,10 @@ use Rattle.ft_kept.specs.Views.{triggers_of}
 use Rattle.ft_shelves.specs.declared.sign.Sign.TheVariants.{Insert, Retract}
 use Rattle.ft_lanes.specs.Held.{Lanes}
 use Rattle.ft_maps.specs.Entries.{strictly_sorted}
+use Rattle.ft_maps.proofs.Common.{all_map}
 use Rattle.ft_pairs.specs.declared.at.At.{At}
 use Rattle.ft_base.specs.Base.{Triggers}
-use Rattle.ft_base.proofs.Apart.{all_map, entries_found}
+use Rattle.ft_base.proofs.Apart.{entries_found}
 use Rattle.ft_replay.specs.Merged.{Events, merged}
 use Rattle.ft_replay.specs.Named.{is_on, is_named, events_on}
 use Rattle.ft_replay.proofs.Placing.{find-moved, get-on}

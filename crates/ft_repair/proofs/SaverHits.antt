@@ -1,10 +1,10 @@
 -- A saver's hits are its hits at each event, so its table follows the events one by one.
 use Rattle.std.proofs.Common.{◌≡◌, ℕ, Bool, true, false, cond, List, refl, sym, ap, ◌∙◌, Some, None, Option}
-use Rattle.std.specs.Prelude.{ℤ, if◌then◌else◌, option_and_then}
+use Rattle.std.specs.Prelude.{ℤ, if◌then◌else◌, option_and_then, ◌&&◌}
 use Rattle.std.specs.Option.{option_map_or}
 use Rattle.std.specs.declared.cmp.Ordering.{Ordering}
 use Rattle.std.specs.Ordering.{is_eq, eq_by_cmp, ordering_then}
-use Rattle.std.specs.Cmp.{IsTotalOrder}
+use Rattle.std.specs.Cmp.{IsTotalOrder, tied_then}
 use Rattle.std.specs.FinMap as map
 use Rattle.std.specs.FinMap.{FinMap, IsAntisymmetric, get-insert, get-remove, same_map}
 use Rattle.ft_fields.specs.Places.{pos_cmp, pos_cmp_total, pos_same}
@@ -12,14 +12,14 @@ use Rattle.ft_fields.specs.Traced.{Traced}
 use Rattle.ft_fields.specs.declared.pos.Pos.{Pos}
 use Rattle.ft_hist.specs.Hist.{Hist}
 use Rattle.ft_hist.specs.Hit.{hit}
-use Rattle.ft_fields.specs.Parts.{key_cmp}
+use Rattle.ft_fields.specs.Parts.{key_cmp, same_key}
 use Rattle.ft_fields.specs.declared.key.Part.{Part}
 use Rattle.ft_kept.specs.Bounds.{with_hit_of, without_hit_of}
 use Rattle.ft_table.specs.Values.{values_at}
 use Rattle.ft_pairs.specs.declared.role.Role.TheVariants.{Saves}
 use Rattle.ft_maps.specs.Entries.{get-insert_other, same_from_tie}
 use Rattle.ft_table.specs.Growth.{with_hit}
-use Rattle.ft_table.specs.Hits.{AreTraced, same_key}
+use Rattle.ft_table.specs.Hits.{AreTraced}
 use Rattle.ft_table.specs.Marks.{mark_cmp, mark_cmp_total, mark_same}
 use Rattle.ft_table.specs.OneKey.{without_hit}
 use Rattle.ft_table.specs.Spots.{traced}
@@ -32,7 +32,7 @@ use Rattle.ft_base.specs.Roles.{role_of}
 use Rattle.ft_repair.proofs.ByRole.{no_event, no_key, by_role}
 use Rattle.ft_repair.proofs.Spots.{mark_at, same_traced, hits_traced}
 use Rattle.ft_replay.proofs.Spots.{traced-cmp}
-use Rattle.ft_replay.proofs.Listed.{get-replayed_hits, tied_then, values_under}
+use Rattle.ft_replay.proofs.Listed.{get-replayed_hits, values_under}
 
 -- what was put in where nothing stood, and taken out again, changes nothing
 pub taken_again : {K X : Type 0} {R : K → K → Ordering} → IsTotalOrder R → IsAntisymmetric R → (m : FinMap R X) (k : K) (v : X) → map.get m k ≡ None → map.remove (map.insert m k v) k ≡ m
@@ -101,8 +101,8 @@ module _ (triggers : Triggers) (id : ℕ) (hist : Hist) (attached : map.get trig
           ∙ sym (get-insert mark_cmp_total (replayed_hits triggers events id) mark values (mark_at p k)
           ∙ (λ i. cond (tie_at p k i) (Some values) (get-replayed_hits triggers events id (mark_at p k) i)))))
         where
-          tie_at : (p : Pos) (k : List Part) → eq_by_cmp mark_cmp (mark_at p k) mark ≡ cond (eq_by_cmp pos_cmp p pos) (same_key k key) false
-          tie_at p k = ap (λ o. is_eq (ordering_then o (key_cmp k key))) (traced-cmp p pos) ∙ tied_then (pos_cmp p pos) (key_cmp k key)
+          tie_at : (p : Pos) (k : List Part) → eq_by_cmp mark_cmp (mark_at p k) mark ≡ (eq_by_cmp pos_cmp p pos && same_key k key)
+          tie_at p k = ap (λ o. is_eq (ordering_then o (key_cmp k key))) (traced-cmp p pos) ∙ sym (tied_then (pos_cmp p pos) (key_cmp k key))
 
           with_traced : AreTraced (map.insert (replayed_hits triggers events id) mark values)
           with_traced m made =
@@ -112,7 +112,7 @@ module _ (triggers : Triggers) (id : ℕ) (hist : Hist) (attached : map.get trig
           same_values : (p : Pos) (k : List Part) → p ≡ pos → added_by event p k (Some key) ≡ cond (same_key k key) (Some values) None
           same_values p k at = ap (λ (p : Pos). cond (same_key k key) (Some (values_at hist p event None)) None) at
 
-          from : (p : Pos) (k : List Part) (b : Bool) → eq_by_cmp pos_cmp p pos ≡ b → values_found triggers more id (mark_at p k) ≡ cond (cond b (same_key k key) false) (Some values) (found_before p k)
+          from : (p : Pos) (k : List Part) (b : Bool) → eq_by_cmp pos_cmp p pos ≡ b → values_found triggers more id (mark_at p k) ≡ cond (b && same_key k key) (Some values) (found_before p k)
           from p k true tie =
               values_here more event p k (there p k tie) (Some key) is ∙ same_values p k (same_from_tie pos_same p pos tie)
               ∙ sym (ap (cond (same_key k key) (Some values)) (none_there p k tie))

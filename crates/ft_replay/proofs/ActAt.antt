@@ -1,10 +1,10 @@
 -- The act at a place, by what is held and attached.
-use Rattle.std.proofs.Common.{◌≡◌, ℕ, Bool, true, false, cond, List, [], ◌∷◌, ◌++◌, map as list_map, refl, sym, ap, subst, ◌∙◌, Some, None, Option}
+use Rattle.std.proofs.Common.{◌≡◌, ℕ, true, false, cond, List, [], ◌∷◌, ◌++◌, map as list_map, refl, sym, ap, subst, ◌∙◌, Some, None, Option}
 use Rattle.std.specs.Prelude.{◌&&◌, option_map, option_and_then}
 use Rattle.std.specs.List.{AllByRecursion, cons_option, flat_map, filter_map}
 use Rattle.std.specs.declared.cmp.Ordering.TheVariants.{Less}
 use Rattle.std.specs.Ordering.{nat_cmp, eq_by_cmp, is_eq}
-use Rattle.std.specs.Cmp.{eq_by_cmp_equiv}
+use Rattle.std.specs.Cmp.{eq_by_cmp_equiv, tied_then}
 use Rattle.std.specs.FinMap as map
 use Rattle.std.specs.FinMap.{find, get-entries, nat_cmp-IsAntisymmetric}
 use Rattle.ft_fields.specs.Traced.{Traced}
@@ -18,7 +18,7 @@ use Rattle.ft_pairs.specs.declared.at.At.{At}
 use Rattle.ft_pairs.specs.Order.{at_cmp}
 use Rattle.ft_base.specs.Base.{Triggers}
 use Rattle.ft_replay.specs.Merged.{Events}
-use Rattle.ft_replay.proofs.Places.{or_none, tied_then}
+use Rattle.ft_replay.proofs.Places.{or_none}
 use Rattle.ft_replay.proofs.Acts.{Act, made, act_of, acts_at, acts_in}
 use Rattle.ft_base.proofs.Apart.{AreApart, entries_apart}
 
@@ -28,16 +28,12 @@ by_place acts = list_map (λ a. (a.at, a)) acts
 
 -- ---- places that are apart
 
-and_false : (b : Bool) → (b && false) ≡ false
-and_false true = refl
-and_false false = refl
-
 apart_place : (at : At) (pos : Pos) (id : ℕ) → eq_by_cmp pos_cmp at.pos pos ≡ false → eq_by_cmp at_cmp at (record { pos = pos; trigger = id }) ≡ false
-apart_place at pos id h = tied_then (pos_cmp at.pos pos) (nat_cmp at.trigger id) ∙ ap (λ b. b && is_eq (nat_cmp at.trigger id)) h
+apart_place at pos id h = sym (tied_then (pos_cmp at.pos pos) (nat_cmp at.trigger id)) ∙ ap (λ b. b && is_eq (nat_cmp at.trigger id)) h
 
 same_place : (at : At) (pos : Pos) (id : ℕ) → at.pos ≡ pos → eq_by_cmp at_cmp at (record { pos = pos; trigger = id }) ≡ eq_by_cmp nat_cmp at.trigger id
 same_place at pos id same =
-    tied_then (pos_cmp at.pos pos) (nat_cmp at.trigger id)
+    sym (tied_then (pos_cmp at.pos pos) (nat_cmp at.trigger id))
     ∙ ap (λ b. b && is_eq (nat_cmp at.trigger id)) (ap (eq_by_cmp pos_cmp at.pos) (sym same) ∙ (eq_by_cmp_equiv pos_cmp_total).refl at.pos)
 
 -- ---- the first of two lists that has the place

@@ -10,6 +10,7 @@ use Rattle.std.specs.Cmp.{nat_cmp_total, eq_by_cmp_equiv, tied_itself}
 use Rattle.std.specs.FinMap as map
 use Rattle.std.specs.FinMap.{get-insert}
 use Rattle.std.proofs.lemmas.List.Sums.{fold-append}
+use Rattle.ft_maps.proofs.Common.{all_map}
 use Rattle.ft_fields.specs.Traced.{Traced}
 use Rattle.ft_fields.specs.declared.pos.Pos.{Pos}
 use Rattle.ft_fields.specs.Places.{pos_cmp, pos_cmp_total}
@@ -25,7 +26,7 @@ use Rattle.ft_base.specs.Roles.{role_of, role_at}
 use Rattle.ft_replay.specs.Tally.{empty_tally}
 use Rattle.ft_replay.specs.Replay.{Tallies, State, act, growth_by, act_at, step, started, replay}
 use Rattle.ft_replay.proofs.Acts.{Act, made, act_of, acts_at, acts_in, size_at, growth_at, run}
-use Rattle.ft_base.proofs.Apart.{AreApart, entries_apart, entries_found, all_of, all_map, all_append}
+use Rattle.ft_base.proofs.Apart.{AreApart, entries_apart, entries_found, all_of, all_append}
 
 module _ (triggers : Triggers) where
   abbrev pub go : State → List Act → State

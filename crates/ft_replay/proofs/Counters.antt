@@ -18,6 +18,7 @@ use Rattle.ft_hist.specs.Hit.{hit}
 use Rattle.ft_fields.specs.declared.key.Part.{Part}
 use Rattle.ft_maps.specs.Entries.{strictly_sorted, insert_same}
 use Rattle.ft_maps.specs.Mapped.{map_by, map_by-insert, map_by-empty, get-map_by}
+use Rattle.ft_maps.proofs.Common.{all_map}
 use Rattle.ft_pairs.specs.declared.at.At.{At}
 use Rattle.ft_table.specs.Growth.{ComesLast, InGrows, RowsGrow, TotalsGrow, with_hit}
 use Rattle.ft_table.specs.Marks.{mark_cmp}
@@ -37,7 +38,7 @@ use Rattle.ft_pairs.specs.declared.role.Role.{Role}
 use Rattle.ft_pairs.specs.declared.role.Role.TheVariants.{Plain, Saves, Reads}
 use Rattle.ft_pairs.specs.declared.role.Variable.{Variable}
 use Rattle.ft_replay.proofs.Counting.{after_act-no_hit, after_act-hit}
-use Rattle.ft_base.proofs.Apart.{all_map, entries_found}
+use Rattle.ft_base.proofs.Apart.{entries_found}
 use Rattle.ft_replay.proofs.Growing.{place_is_counted, in_where_counted, tally_grows_with, tally-empty}
 use Rattle.ft_replay.proofs.Standing.{comes_last, none_before, each_counter}
 use Rattle.ft_replay.proofs.Places.{merged_at, none_later}

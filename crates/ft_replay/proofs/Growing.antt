@@ -2,20 +2,21 @@
 use Rattle.std.proofs.Common.{◌≡◌, ℕ, zero, suc, take, drop, ◌+◌, Bool, true, false, cond, List, [], ◌∷◌, length, map as list_map, refl, sym, ap, ◌∙◌, Some, None, Option, arith, nat_lt, unwrap_or}
 use Rattle.std.specs.Prelude.{ℤ, ◌||◌, ◌&&◌, if◌then◌else◌, is_some}
 use Rattle.std.specs.List.{AllByRecursion, IsDistinct, list_any, sum_by}
-use Rattle.std.specs.Cmp.{eq_by_cmp_equiv}
 use Rattle.std.specs.FinMap as map
 use Rattle.std.specs.FinMap.{find, get-empty, get-from_entries, get-insert, len-insert, len-empty, same_map}
 use Rattle.ft_fields.specs.declared.pos.Pos.{Pos}
 use Rattle.ft_fields.specs.declared.key.Part.{Part}
-use Rattle.ft_fields.specs.Parts.{key_cmp}
+use Rattle.ft_fields.specs.Parts.{key_cmp, same_key}
 use Rattle.ft_fields.specs.Orders.{key_cmp_total}
 use Rattle.ft_fields.specs.Ties.{key_same}
 use Rattle.ft_maps.specs.Entries.{same_from_tie, entries-empty}
+use Rattle.ft_maps.proofs.Common.{and_true, and_false, cond_same}
 use Rattle.ft_hits.specs.declared.mark.Mark.{Mark}
+use Rattle.ft_hits.proofs.Flat.{same_itself}
 use Rattle.ft_table.specs.declared.row.Totals.{Totals}
 use Rattle.ft_table.specs.Counted.{Counted}
 use Rattle.ft_table.specs.Growth.{ComesLast, with_hit, has_room, is_counted, empty_row, grown, InGrows, RowsGrow, TotalsGrow}
-use Rattle.ft_table.specs.Hits.{Hits, same_key, hitcount}
+use Rattle.ft_table.specs.Hits.{Hits, hitcount}
 use Rattle.ft_table.specs.Marks.{mark_cmp, mark_cmp_total, mark_same}
 use Rattle.ft_table.specs.Rows.{counted_row, row_at, totals_of}
 use Rattle.ft_table.specs.Tabled.{Tabled, is_first, first_hits, order_of, keys_in, is_in}
@@ -96,10 +97,6 @@ module _ (table : Tabled) (pairs : List Pair) where
   unfolding tally_of
   pairs-tally = refl
 
-none_either : (b : Bool) → ◌≡◌ {A = Option (List ℤ)} (cond b None None) None
-none_either true = refl
-none_either false = refl
-
 no_keys : (size : ℕ) (order : List Mark) → order ≡ [] → list_map (λ (m : Mark). m.key) (take size order) ≡ []
 no_keys zero order none = refl
 no_keys (suc size) order none = ap (λ (ms : List Mark). list_map (λ (m : Mark). m.key) (take (suc size) ms)) none
@@ -110,7 +107,7 @@ no_keys_out (suc size) order none = ap (λ (ms : List Mark). list_map (λ (m : M
 
 none_first : first_hits map.empty ≡ map.empty
 unfolding first_hits
-none_first = same_map mark_cmp_total mark_same _ _ (λ q. get-first_hits map.empty q ∙ ap (λ o. cond (is_first map.empty q) o None) (get-empty mark_cmp q) ∙ none_either (is_first map.empty q) ∙ sym (get-empty mark_cmp q))
+none_first = same_map mark_cmp_total mark_same _ _ (λ q. get-first_hits map.empty q ∙ ap (λ o. cond (is_first map.empty q) o None) (get-empty mark_cmp q) ∙ cond_same (is_first map.empty q) None ∙ sym (get-empty mark_cmp q))
 
 -- an empty table's tally is the empty one
 pub tally-empty : (size : ℕ) → tally_of (record { hits = map.empty; size = size }) [] ≡ empty_tally
@@ -131,17 +128,6 @@ tally-pair table at None pairs = refl
 tally-pair table at (Some saved) pairs = refl
 
 -- ---- a hit after all others
-
-same_itself : (key : List Part) → same_key key key ≡ true
-same_itself key = (eq_by_cmp_equiv key_cmp_total).refl key
-
-and_none : (b : Bool) → (b && false) ≡ false
-and_none true = refl
-and_none false = refl
-
-and_all : (b : Bool) → (b && true) ≡ b
-and_all true = refl
-and_all false = refl
 
 module _ (rows : RowsGrow) (totals : TotalsGrow) (members : InGrows) (table : Tabled) (m : Mark) (v : List ℤ) (last : ComesLast table m) where
   abbrev after : Tabled
@@ -178,14 +164,14 @@ module _ (rows : RowsGrow) (totals : TotalsGrow) (members : InGrows) (table : Ta
     rows_counted : is_counted table m.key ≡ true → (tally_of after pairs).table ≡ map.insert before.table m.key (grow v m.key (map.get before.table m.key))
     rows_counted counts = same_map key_cmp_total key_same _ _ (λ q.
         get-tally after pairs q ∙ row_after q (same_key q m.key) true refl counts
-        ∙ ap (λ b. cond b (Some (grow v m.key (row_at table m.key))) (row_at table q)) (and_all (same_key q m.key))
+        ∙ ap (λ b. cond b (Some (grow v m.key (row_at table m.key))) (row_at table q)) (and_true (same_key q m.key))
         ∙ sym (get-insert key_cmp_total before.table m.key (grow v m.key (map.get before.table m.key)) q
         ∙ (λ i. cond (same_key q m.key) (Some (grow v m.key (get-tally table pairs m.key i))) (get-tally table pairs q i))))
 
     rows_dropped : is_counted table m.key ≡ false → (tally_of after pairs).table ≡ before.table
     rows_dropped none = same_map key_cmp_total key_same _ _ (λ q.
         get-tally after pairs q ∙ row_after q (same_key q m.key) false refl none
-        ∙ ap (λ b. cond b (Some (grow v m.key (row_at table m.key))) (row_at table q)) (and_none (same_key q m.key))
+        ∙ ap (λ b. cond b (Some (grow v m.key (row_at table m.key))) (row_at table q)) (and_false (same_key q m.key))
         ∙ sym (get-tally table pairs q))
 
     grows_by : (counts : Bool) → is_counted table m.key ≡ counts → tally_of after pairs ≡ (if counts then record before { table = map.insert before.table m.key (grow v m.key (map.get before.table m.key)) } else record before { dropped = before.dropped + 1 })

@@ -71,7 +71,7 @@ readings_ascend (found ∷ hits) up is = from found.saved (readings_ascend hits 
     from (Some saved) rest = (readings_behind found.spot hits is.0 is.1 up.0, rest)
 
 -- the pair of a reading's two places
-abbrev paired : Pos × Pos → Pair
+abbrev pub paired : Pos × Pos → Pair
 paired e = record { saved = e.1; read = e.0 }
 
 pairs-readings : (hits : List TriggerHit) → list_map paired (filter_map reading hits) ≡ filter_map pair_of hits

@@ -1,11 +1,11 @@
 -- A trigger's hits as a list that ascends, and what look-ups find in it.
 use Rattle.std.proofs.Common.{◌≡◌, ℕ, Bool, true, false, cond, List, [], ◌∷◌, map as list_map, refl, sym, ap, subst, ◌∙◌, Some, None, Option, eqb-true}
-use Rattle.std.specs.Prelude.{ℤ, ◌==◌, filter_map, IfSome, ◌||◌, if◌then◌else◌, is_some, option_and_then, option_map}
+use Rattle.std.specs.Prelude.{ℤ, ◌==◌, filter_map, IfSome, ◌||◌, if◌then◌else◌, option_and_then, option_map, ◌&&◌}
+use Rattle.std.specs.Cmp.{tied_then}
 use Rattle.std.specs.List.{AllByRecursion, cons_option, list_any}
 use Rattle.std.specs.List.Sorted.{IsStrictlySortedBy}
-use Rattle.std.specs.declared.cmp.Ordering.{Ordering}
-use Rattle.std.specs.declared.cmp.Ordering.TheVariants.{Less, Equal, Greater}
-use Rattle.std.specs.Ordering.{is_eq, eq_by_cmp, ordering_then}
+use Rattle.std.specs.declared.cmp.Ordering.TheVariants.{Less}
+use Rattle.std.specs.Ordering.{is_eq, eq_by_cmp}
 use Rattle.std.specs.FinMap as map
 use Rattle.std.specs.FinMap.{contains_key-keys, entries_sorted, find, get-from_entries}
 use Rattle.std.proofs.lemmas.Map.Keys.{sorted_head, sorted_tail}
@@ -15,11 +15,11 @@ use Rattle.ft_fields.specs.Places.{pos_cmp}
 use Rattle.ft_fields.specs.declared.key.Part.{Part}
 use Rattle.ft_hist.specs.Hist.{Hist}
 use Rattle.ft_hist.specs.Hit.{hit}
-use Rattle.ft_fields.specs.Parts.{key_cmp}
+use Rattle.ft_fields.specs.Parts.{key_cmp, same_key}
 use Rattle.ft_maps.specs.Entries.{strictly_sorted, same_from_tie}
+use Rattle.ft_maps.proofs.Common.{cond_same, none_then}
 use Rattle.ft_hits.specs.declared.mark.Mark.{Mark}
 use Rattle.ft_hits.specs.declared.spot.Spot.{Spot}
-use Rattle.ft_table.specs.Hits.{same_key}
 use Rattle.ft_table.specs.Marks.{mark_cmp, mark_cmp_total}
 use Rattle.ft_table.specs.Spots.{traced, spot_cmp, spot_same}
 use Rattle.ft_base.specs.Base.{Triggers}
@@ -103,21 +103,15 @@ module _ (g : Spot → Option TriggerHit) (here : (at : Spot) → IfSome (g at) 
 abbrev pub values_under : List Part → Option TriggerHit → Option (List ℤ)
 values_under key found = option_and_then (λ found. if same_key key found.key then Some found.values else None) found
 
--- one order after another ties where both do
-pub tied_then : (a b : Ordering) → is_eq (ordering_then a b) ≡ cond (is_eq a) (is_eq b) false
-tied_then Less b = refl
-tied_then Equal b = refl
-tied_then Greater b = refl
-
 -- the values by a mark are those of the hit at its spot, where that is of its key
 pub find-entries : (m : Mark) (hits : List TriggerHit) → Ascend hits → find mark_cmp m (list_map entry_of hits) ≡ values_under m.key (hit_in hits m.spot)
 find-entries m [] up = refl
 find-entries m (found ∷ hits) up =
-    ap (λ b. cond b (Some found.values) (find mark_cmp m (list_map entry_of hits))) (tied_then (spot_cmp m.spot found.spot) (key_cmp m.key found.key))
+    ap (λ b. cond b (Some found.values) (find mark_cmp m (list_map entry_of hits))) (sym (tied_then (spot_cmp m.spot found.spot) (key_cmp m.key found.key)))
     ∙ from (eq_by_cmp spot_cmp m.spot found.spot) refl (find-entries m hits (sorted_tail spot_cmp found.spot (list_map spot_of hits) up))
   where
     from : (b : Bool) → eq_by_cmp spot_cmp m.spot found.spot ≡ b → find mark_cmp m (list_map entry_of hits) ≡ values_under m.key (hit_in hits m.spot)
-        → cond (cond b (same_key m.key found.key) false) (Some found.values) (find mark_cmp m (list_map entry_of hits)) ≡ values_under m.key (cond b (Some found) (hit_in hits m.spot))
+        → cond (b && same_key m.key found.key) (Some found.values) (find mark_cmp m (list_map entry_of hits)) ≡ values_under m.key (cond b (Some found) (hit_in hits m.spot))
     from true tie rest =
         ap (λ o. cond (same_key m.key found.key) (Some found.values) o)
         (rest ∙ ap (values_under m.key) (none_in m.spot hits (subst (λ p. AreBehind p hits) (sym (same_from_tie spot_same m.spot found.spot tie)) (sorted_head spot_cmp found.spot (list_map spot_of hits) up))))
@@ -132,14 +126,6 @@ if_then P f each (Some x) = each x
 if_made : {X Y : Type 0} (P : Y → Type 0) (f : X → Y) → ((x : X) → P (f x)) → (o : Option X) → IfSome (option_map f o) P
 if_made P f each None = tt
 if_made P f each (Some x) = each x
-
-none_then : {X Y : Type 0} (f : X → Option Y) (o : Option X) → is_some o ≡ false → option_and_then f o ≡ None
-none_then f None none = refl
-none_then f (Some x) none = absurd cc
-
-cond_same : {X : Type 0} (b : Bool) (x : X) → cond b x x ≡ x
-cond_same true x = refl
-cond_same false x = refl
 
 is_traced : (s : Spot) → (s.maker == 0) ≡ true → IsTraced s
 is_traced s e = ap (λ n. record { pos = s.pos; maker = n }) (eqb-true s.maker 0 e)

@@ -1,6 +1,6 @@
 -- An event on whose name no trigger is changes nothing.
 use Rattle.std.proofs.Common.{◌≡◌, ℕ, Bool, true, false, cond, List, [], ◌∷◌, refl, sym, ap, subst, ◌∙◌, None}
-use Rattle.std.specs.Prelude.{◌&&◌, ◌||◌, fold, filter, if◌then◌else◌}
+use Rattle.std.specs.Prelude.{◌&&◌, fold, filter, if◌then◌else◌}
 use Rattle.std.specs.List.{list_any, AllByRecursion}
 use Rattle.std.specs.List.Sorted.{IsStrictlySortedBy}
 use Rattle.std.specs.Option.{option_map_or}
@@ -8,6 +8,7 @@ use Rattle.std.specs.Map.{keys_of}
 use Rattle.std.specs.FinMap as map
 use Rattle.std.specs.FinMap.{entries_sorted}
 use Rattle.std.specs.declared.cmp.Ordering.TheVariants.{Less}
+use Rattle.std.proofs.lemmas.Bool.{or_parts}
 use Rattle.ft_fields.specs.Traced.{Traced, name_of}
 use Rattle.ft_fields.specs.declared.event.Name.{Name}
 use Rattle.ft_fields.specs.declared.pos.Pos.{Pos}
@@ -58,14 +59,6 @@ module _ (names : Name → Bool) where
 
 -- ---- those on whose name some trigger is
 
-pub either-left : (a b : Bool) → (a || b) ≡ false → a ≡ false
-either-left true b h = h
-either-left false b h = refl
-
-pub either-right : (a b : Bool) → (a || b) ≡ false → b ≡ false
-either-right true b h = absurd cc
-either-right false b h = h
-
 module _ (triggers : Triggers) where
   -- a trigger that is not on the event's name doesn't act
   idle : (entry : Pos × Traced) (state : State) (attached : ℕ × Hist) → same_name attached.1.event (name_of entry.1.body) ≡ false → act_at triggers entry state attached ≡ state
@@ -80,8 +73,8 @@ module _ (triggers : Triggers) where
   all_idle entry state (t ∷ ts) none =
       let here = same_name t.1.event (name_of entry.1.body) in
       let rest = list_any (λ (attached : ℕ × Hist). same_name attached.1.event (name_of entry.1.body)) ts in
-      ap (λ (s : State). fold (act_at triggers entry) s ts) (idle entry state t (either-left here rest none))
-      ∙ all_idle entry state ts (either-right here rest none)
+      ap (λ (s : State). fold (act_at triggers entry) s ts) (idle entry state t (or_parts here rest none).0)
+      ∙ all_idle entry state ts (or_parts here rest none).1
 
   pub unnamed_step : (state : State) (entry : Pos × Traced) → is_named triggers entry.1 ≡ false → step triggers state entry ≡ state
   unfolding step is_on

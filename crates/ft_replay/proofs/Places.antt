@@ -3,10 +3,9 @@ use Rattle.std.proofs.Common.{◌≡◌, ℕ, Bool, true, false, cond, List, [],
 use Rattle.std.specs.Prelude.{◌&&◌, ◌==◌, if◌then◌else◌, fold, option_and_then}
 use Rattle.std.specs.List.{AllByRecursion}
 use Rattle.std.specs.List.Sorted.{IsStrictlySortedBy}
-use Rattle.std.specs.declared.cmp.Ordering.{Ordering}
-use Rattle.std.specs.declared.cmp.Ordering.TheVariants.{Less, Equal, Greater}
+use Rattle.std.specs.declared.cmp.Ordering.TheVariants.{Less}
 use Rattle.std.specs.Ordering.{nat_cmp, is_eq, eq_by_cmp, ordering_then}
-use Rattle.std.specs.Cmp.{nat_eq_equiv, unsigned_tied}
+use Rattle.std.specs.Cmp.{nat_eq_equiv, unsigned_tied, tied_then}
 use Rattle.std.specs.Map.{keys_of}
 use Rattle.std.specs.FinMap as map
 use Rattle.std.specs.FinMap.{FinMap, find, get-insert, get-empty, get-entries, entries_sorted, nat_cmp-IsAntisymmetric}
@@ -27,12 +26,6 @@ or_else (Some x) y = Some x
 pub or_none : {X : Type 0} (x : Option X) → or_else x None ≡ x
 or_none None = refl
 or_none (Some x) = refl
-
--- two comparisons in turn tie where both do
-pub tied_then : (a b : Ordering) → is_eq (ordering_then a b) ≡ (is_eq a && is_eq b)
-tied_then Less b = refl
-tied_then Equal b = refl
-tied_then Greater b = refl
 
 -- no number above k ties with k
 none_above : {X : Type 0} (k : ℕ) (es : List (ℕ × X)) → AllByRecursion (λ y. nat_cmp k y ≡ Less) (keys_of es) → find nat_cmp k es ≡ None
@@ -56,7 +49,7 @@ module _ (pos : Pos) where
   line_at cpu lines = cond (eq_by_cmp nat_cmp pos.cpu cpu) (option_and_then on_stamp (find nat_cmp pos.line lines)) None
 
   at_place : (cpu : ℕ) (e : ℕ × Traced) → eq_by_cmp pos_cmp pos (place_of cpu e) ≡ (is_eq (nat_cmp pos.stamp e.1.stamp) && (eq_by_cmp nat_cmp pos.cpu cpu && eq_by_cmp nat_cmp pos.line e.0))
-  at_place cpu e = tied_then (nat_cmp pos.stamp e.1.stamp) (ordering_then (nat_cmp pos.cpu cpu) (nat_cmp pos.line e.0)) ∙ ap (λ b. is_eq (nat_cmp pos.stamp e.1.stamp) && b) (tied_then (nat_cmp pos.cpu cpu) (nat_cmp pos.line e.0))
+  at_place cpu e = sym (tied_then (nat_cmp pos.stamp e.1.stamp) (ordering_then (nat_cmp pos.cpu cpu) (nat_cmp pos.line e.0))) ∙ ap (λ b. is_eq (nat_cmp pos.stamp e.1.stamp) && b) (sym (tied_then (nat_cmp pos.cpu cpu) (nat_cmp pos.line e.0)))
 
   one_line : (stamp cpu line : Bool) (e : Traced) (found old : Option Traced) → on_stamp e ≡ cond stamp (Some e) None → (line ≡ true → found ≡ None)
       → or_else (cond cpu (option_and_then on_stamp found) None) (cond (stamp && (cpu && line)) (Some e) old) ≡ or_else (cond cpu (option_and_then on_stamp (cond line (Some e) found)) None) old

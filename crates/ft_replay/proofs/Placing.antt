@@ -5,9 +5,9 @@ use Rattle.std.specs.List.{AllByRecursion, IsDistinct, flat_map}
 use Rattle.std.specs.List.Sorted.{IsSortedByKey, IsStrictlySortedBy}
 use Rattle.std.specs.Option.{option_or}
 use Rattle.std.specs.declared.cmp.Ordering.{Ordering}
-use Rattle.std.specs.declared.cmp.Ordering.TheVariants.{Less, Equal, Greater}
-use Rattle.std.specs.Ordering.{nat_cmp, is_lt, is_eq, eq_by_cmp, ordering_then, ordering_reverse}
-use Rattle.std.specs.Cmp.{IsTotalOrder, eq_by_cmp_equiv}
+use Rattle.std.specs.declared.cmp.Ordering.TheVariants.{Less}
+use Rattle.std.specs.Ordering.{nat_cmp, is_lt, is_eq, eq_by_cmp, ordering_then}
+use Rattle.std.specs.Cmp.{IsTotalOrder, eq_by_cmp_equiv, tied_then}
 use Rattle.std.specs.Map.{keys_of, lookup}
 use Rattle.std.specs.FinMap as map
 use Rattle.std.specs.FinMap.{FinMap, IsAntisymmetric, find, get-entries, get-empty, get-from_entries, get-insert, entries_sorted, same_map}
@@ -17,18 +17,20 @@ use Rattle.std.proofs.lemmas.Map.Entries.{option_filter, lookup-filter-values, l
 use Rattle.std.proofs.lemmas.Map.Keys.{IsDistinct-from_sorted, IsDistinct-head, IsDistinct-tail, IsDistinct-IsPermutation, apart_from_distinct, sorted_from_all_adjacent}
 use Rattle.std.proofs.lemmas.Map.Made.{IsDistinct-keys_filter, keys_of-map_values}
 use Rattle.std.proofs.lemmas.Map.Views.{Contains-from_lookup, lookup-from_Contains}
+use Rattle.ft_hits.proofs.Runs.{or_none}
+use Rattle.ft_table.proofs.Rising.{below}
 use Rattle.ft_fields.specs.Traced.{Traced, name_of}
 use Rattle.ft_fields.specs.declared.event.Name.{Name}
 use Rattle.ft_fields.specs.declared.pos.Pos.{Pos}
 use Rattle.ft_fields.specs.Places.{pos_cmp, pos_cmp_total, pos_same}
 use Rattle.ft_maps.specs.Entries.{entries-from_entries, same_from_tie, strictly_sorted}
 use Rattle.ft_maps.specs.Mapped.{entries_by}
+use Rattle.ft_maps.proofs.Common.{and_false, all_map}
 use Rattle.ft_lanes.specs.Held.{Lane, Lanes}
 use Rattle.ft_base.specs.Base.{Triggers}
 use Rattle.ft_replay.specs.Merged.{Events, place_of, placed, merged}
 use Rattle.ft_replay.specs.Named.{is_on, is_named, named, events_on}
-use Rattle.ft_base.proofs.Apart.{AreApart, entries_apart, all_of, all_map, all_append}
-use Rattle.ft_replay.proofs.Places.{tied_then}
+use Rattle.ft_base.proofs.Apart.{AreApart, entries_apart, all_of, all_append}
 use Rattle.ft_replay.proofs.Naming.{has_one, entries-on, named-on}
 
 pub on_ok : {X E : Type 0} (r : Result X E) (P Q : Type 0) → (P → Q) → OnOk r P → OnOk r Q
@@ -38,11 +40,6 @@ on_ok (Err e) P Q f h = tt
 pub if_ok : {X E : Type 0} (r : Result X E) (P Q : X → Type 0) → ((x : X) → P x → Q x) → IfOk r P → IfOk r Q
 if_ok (Ok x) P Q f h = f x h
 if_ok (Err e) P Q f h = tt
-
-less : (o : Ordering) → is_lt (ordering_reverse o) ≡ false → is_eq o ≡ false → o ≡ Less
-less Less up other = refl
-less Equal up other = absurd cc
-less Greater up other = absurd cc
 
 as_other : {X : Type 0} (a b : Option X) → ((v : X) → a ≡ Some v → b ≡ Some v) → ((v : X) → b ≡ Some v → a ≡ Some v) → a ≡ b
 as_other None None f g = refl
@@ -106,29 +103,25 @@ module _ {K X : Type 0} {R : K → K → Ordering} (total : IsTotalOrder R) (sam
       let within : k + 1 < length (x ∷ xs) = subst (λ n. k + 1 < n) (length-keys_of (x ∷ xs)) inside in
       let at : get_or (keys_of (x ∷ xs)) k x.0 ≡ (get_or (x ∷ xs) k x).0 = get_or-map (λ e. e.0) (x ∷ xs) k x x.0 (omega (arith, within)) in
       let next : get_or (keys_of (x ∷ xs)) (k + 1) x.0 ≡ (get_or (x ∷ xs) (k + 1) x).0 = get_or-map (λ e. e.0) (x ∷ xs) (k + 1) x x.0 within in
-      less (R (get_or (keys_of (x ∷ xs)) k x.0) (get_or (keys_of (x ∷ xs)) (k + 1) x.0))
+      below (R (get_or (keys_of (x ∷ xs)) k x.0) (get_or (keys_of (x ∷ xs)) (k + 1) x.0))
       (ap is_lt (sym (total.antisymm _ _)) ∙ (λ i. is_lt (R (next i) (at i))) ∙ up k x (omega arith) within)
       (apart_from_distinct (eq_by_cmp R) (keys_of (x ∷ xs)) k (k + 1) x.0 distinct (omega arith) inside))
 
 -- ---- the places of held events
-
-never : (a : Bool) → (a && false) ≡ false
-never true = refl
-never false = refl
 
 abbrev IsApart : Pos → Pos → Type 0
 IsApart a b = eq_by_cmp pos_cmp a b ≡ false
 
 on_cpu : (a b : Pos) → nat_cmp a.cpu b.cpu ≡ Less → IsApart a b
 on_cpu a b below =
-    tied_then (nat_cmp a.stamp b.stamp) (ordering_then (nat_cmp a.cpu b.cpu) (nat_cmp a.line b.line))
-    ∙ ap (λ o. is_eq (nat_cmp a.stamp b.stamp) && is_eq (ordering_then o (nat_cmp a.line b.line))) below ∙ never (is_eq (nat_cmp a.stamp b.stamp))
+    sym (tied_then (nat_cmp a.stamp b.stamp) (ordering_then (nat_cmp a.cpu b.cpu) (nat_cmp a.line b.line)))
+    ∙ ap (λ o. is_eq (nat_cmp a.stamp b.stamp) && is_eq (ordering_then o (nat_cmp a.line b.line))) below ∙ and_false (is_eq (nat_cmp a.stamp b.stamp))
 
 on_line : (a b : Pos) → nat_cmp a.line b.line ≡ Less → IsApart a b
 on_line a b below =
-    tied_then (nat_cmp a.stamp b.stamp) (ordering_then (nat_cmp a.cpu b.cpu) (nat_cmp a.line b.line))
-    ∙ ap (λ c. is_eq (nat_cmp a.stamp b.stamp) && c) (tied_then (nat_cmp a.cpu b.cpu) (nat_cmp a.line b.line) ∙ ap (λ o. is_eq (nat_cmp a.cpu b.cpu) && is_eq o) below ∙ never (is_eq (nat_cmp a.cpu b.cpu)))
-    ∙ never (is_eq (nat_cmp a.stamp b.stamp))
+    sym (tied_then (nat_cmp a.stamp b.stamp) (ordering_then (nat_cmp a.cpu b.cpu) (nat_cmp a.line b.line)))
+    ∙ ap (λ c. is_eq (nat_cmp a.stamp b.stamp) && c) (sym (tied_then (nat_cmp a.cpu b.cpu) (nat_cmp a.line b.line)) ∙ ap (λ o. is_eq (nat_cmp a.cpu b.cpu) && is_eq o) below ∙ and_false (is_eq (nat_cmp a.cpu b.cpu)))
+    ∙ and_false (is_eq (nat_cmp a.stamp b.stamp))
 
 -- each is apart from those after it
 abbrev Differ : List (Pos × Traced) → Type 0
@@ -178,10 +171,6 @@ lanes_differ (lane ∷ lanes) h =
     on_lines other.0 (λ q. IsApart (place_of lane.0 e) q.0) (map.entries other.1.events) (all_of _ (λ x. on_cpu (place_of lane.0 e) (place_of other.0 x) below) (map.entries other.1.events))) lanes h.0)) (map.entries lane.1.events)))
 
 -- ---- those of some names
-
-pub or_none : {X : Type 0} (o : Option X) → option_or o None ≡ o
-or_none None = refl
-or_none (Some x) = refl
 
 module _ (names : Name → Bool) (lanes : Lanes) where
   -- all held events, lane by lane

@@ -15,6 +15,7 @@ use Rattle.std.proofs.lemmas.Bool.{true≢false}
 use Rattle.std.proofs.lemmas.List.{append-nil, append_assoc}
 use Rattle.std.proofs.lemmas.List.Elements.{filter-append}
 use Rattle.std.proofs.lemmas.List.Sums.{fold-append}
+use Rattle.ft_maps.proofs.Common.{all_filter, all_map}
 use Rattle.ft_fields.specs.Traced.{Traced}
 use Rattle.ft_fields.specs.declared.pos.Pos.{Pos}
 use Rattle.ft_fields.specs.Places.{pos_cmp, pos_cmp_total, pos_same}
@@ -29,7 +30,7 @@ use Rattle.ft_replay.specs.Hits.{state_before, found_at}
 use Rattle.ft_replay.specs.Replay.{State, act_at, started}
 use Rattle.ft_base.specs.Roles.{role_at}
 use Rattle.ft_replay.proofs.Acts.{Act, made, act_of, acts_at, acts_in, is_before, size_at, growth_at, left_before}
-use Rattle.ft_base.proofs.Apart.{AreApart, entries_apart, entries_found, all_map}
+use Rattle.ft_base.proofs.Apart.{AreApart, entries_apart, entries_found}
 use Rattle.ft_replay.proofs.Acting.{go, one_event, replay-acts, each_at, acts_there, acts_sorted}
 use Rattle.ft_replay.proofs.Telling.{places, none_before, all_told}
 
@@ -42,13 +43,6 @@ all_pass p (x ∷ xs) h = ap (λ b. cond b (x ∷ filter p xs) (filter p xs)) h.
 none_pass : {X : Type 0} (p : X → Bool) (xs : List X) → AllByRecursion (λ x. p x ≡ false) xs → filter p xs ≡ []
 none_pass p [] h = refl
 none_pass p (x ∷ xs) h = ap (λ b. cond b (x ∷ filter p xs) (filter p xs)) h.0 ∙ none_pass p xs h.1
-
-all_filter : {X : Type 0} (P : X → Type 0) (p : X → Bool) (xs : List X) → AllByRecursion P xs → AllByRecursion P (filter p xs)
-all_filter P p [] h = tt
-all_filter P p (x ∷ xs) h = elim (p x) as (λ b. AllByRecursion P (cond b (x ∷ filter p xs) (filter p xs))) [
-  | true ↦ (h.0, all_filter P p xs h.1)
-  | false ↦ all_filter P p xs h.1
-]
 
 pub lower-is : (i j : ℕ) → is_lt (nat_cmp i j) ≡ nat_lt i j
 lower-is i j = elim (nat_lt i j) as (λ b. is_lt (cond b Less (cond (i == j) Equal Greater)) ≡ b) [

@@ -1,7 +1,7 @@
 -- A key that is counted once is in the table for good, and one that found no room is never in it.
-use Rattle.std.proofs.Common.{◌≡◌, ℕ, ◌+◌, Bool, true, false, cond, List, [], ◌∷◌, refl, sym, ap, subst, ◌∙◌, Some, None, nat_lt}
+use Rattle.std.proofs.Common.{◌≡◌, ℕ, ◌+◌, true, false, cond, List, [], ◌∷◌, refl, sym, ap, subst, ◌∙◌, Some, None, nat_lt}
 use Rattle.std.specs.Prelude.{fold, ◌||◌, is_some}
-use Rattle.std.proofs.lemmas.Bool.{true≢false}
+use Rattle.std.proofs.lemmas.Bool.{or_parts, or_right}
 use Rattle.std.specs.Ordering.{nat_cmp, eq_by_cmp}
 use Rattle.std.specs.Cmp.{eq_by_cmp_equiv}
 use Rattle.std.specs.FinMap as map
@@ -14,18 +14,6 @@ use Rattle.ft_maps.specs.Entries.{same_from_tie}
 use Rattle.ft_table.specs.Counted.{Counted}
 use Rattle.ft_replay.specs.Tally.{RowsByKey, Tally, RowGrowth, has_place, count}
 use Rattle.ft_replay.proofs.Acts.{Act, tell_act, told_plain}
-
-or_true : (b : Bool) → (b || true) ≡ true
-or_true true = refl
-or_true false = refl
-
-or_left : (a b : Bool) → (a || b) ≡ false → a ≡ false
-or_left true b h = h
-or_left false b h = refl
-
-or_right : (a b : Bool) → (a || b) ≡ false → b ≡ false
-or_right true b h = absurd (true≢false h)
-or_right false b h = h
 
 contains-insert : (table : RowsByKey) (k : List Part) (x : Counted) (q : List Part) → map.contains_key (map.insert table k x) q ≡ (eq_by_cmp key_cmp q k || map.contains_key table q)
 contains-insert table k x q =
@@ -47,7 +35,7 @@ module _ (size : ℕ → ℕ) (growth : Act → RowGrowth) where
 
   keeps : (a : Act) (t : Tally) (k : List Part) → map.contains_key t.table k ≡ true → map.contains_key (after a t) k ≡ true
   keeps a t k h = elim (has_place (size a.at.trigger) t.table a.key) as (λ b. has_place (size a.at.trigger) t.table a.key ≡ b → map.contains_key (after a t) k ≡ true) [
-    | true ↦ λ room. ap (λ (m : RowsByKey). map.contains_key m k) (in-is a t room) ∙ contains-insert t.table a.key _ k ∙ ap (λ b. eq_by_cmp key_cmp k a.key || b) h ∙ or_true _
+    | true ↦ λ room. ap (λ (m : RowsByKey). map.contains_key m k) (in-is a t room) ∙ contains-insert t.table a.key _ k ∙ or_right _ _ h
     | false ↦ λ full. ap (λ (m : RowsByKey). map.contains_key m k) (out-is a t full) ∙ h
   ] refl
 
@@ -93,5 +81,5 @@ module _ (size : ℕ → ℕ) (growth : Act → RowGrowth) where
         | true ↦ λ room. sym (stays_in a.at.trigger a.key _ xs (
             ap (λ (m : RowsByKey). map.contains_key m a.key) (in-is a t room) ∙ contains-insert t.table a.key _ a.key
             ∙ ap (λ b. b || map.contains_key t.table a.key) ((eq_by_cmp_equiv key_cmp_total).refl a.key)))
-        | false ↦ λ full. sym (stays_out a.at.trigger a.key _ xs (subst (λ (m : RowsByKey). IsShut a.at.trigger m a.key) (sym (out-is a t full)) (or_left _ _ full, or_right _ _ full))).0
+        | false ↦ λ full. sym (stays_out a.at.trigger a.key _ xs (subst (λ (m : RowsByKey). IsShut a.at.trigger m a.key) (sym (out-is a t full)) ((or_parts _ _ full).0, (or_parts _ _ full).1))).0
       ] refl

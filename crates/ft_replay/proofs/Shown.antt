@@ -11,11 +11,11 @@ use Rattle.std.specs.FinMap.Entries.{by_order}
 use Rattle.std.proofs.lemmas.List.Sorted.{IsPermutation-refl, IsPermutation-sym, IsPermutation-trans, IsPermutation-cons, IsPermutation-middle, IsPermutation-map, sum_by-IsPermutation}
 use Rattle.ft_hist.specs.declared.item.SortItem.{SortItem}
 use Rattle.ft_fields.specs.declared.key.Part.{Part}
-use Rattle.ft_fields.specs.Parts.{key_cmp}
+use Rattle.ft_fields.specs.Parts.{key_cmp, same_key}
 use Rattle.ft_fields.specs.Orders.{key_cmp_total}
 use Rattle.ft_maps.specs.Entries.{entries-empty}
 use Rattle.ft_table.specs.Counted.{Counted}
-use Rattle.ft_table.specs.Hits.{Hits, same_key, hitcount}
+use Rattle.ft_table.specs.Hits.{Hits, hitcount}
 use Rattle.ft_table.specs.Rows.{counted_row, rows_of, totals_of}
 use Rattle.ft_table.specs.Sorting.{row_cmp, in_order, HasDistinctKeys}
 use Rattle.ft_table.specs.Tabled.{Tabled, keys_in}

@@ -4,13 +4,13 @@ use Rattle.std.specs.Prelude.{fold, filter, ◌⊎◌, option_and_then, is_some}
 use Rattle.std.specs.List.{AllByRecursion}
 use Rattle.std.specs.List.Sorted.{IsStrictlySortedBy}
 use Rattle.std.specs.Option.{option_map_or}
-use Rattle.std.specs.declared.cmp.Ordering.{Ordering}
-use Rattle.std.specs.declared.cmp.Ordering.TheVariants.{Less, Equal, Greater}
+use Rattle.std.specs.declared.cmp.Ordering.TheVariants.{Less}
 use Rattle.std.specs.Ordering.{eq_by_cmp, is_lt}
 use Rattle.std.specs.Cmp.{eq_by_cmp_equiv}
 use Rattle.std.specs.FinMap.{find}
 use Rattle.std.proofs.lemmas.Bool.{true≢false, false≢true}
 use Rattle.ft_maps.specs.Entries.{same_from_tie}
+use Rattle.ft_maps.proofs.Common.{is_less}
 use Rattle.ft_pairs.specs.declared.at.At.{At}
 use Rattle.ft_pairs.specs.declared.at.Op.{Op}
 use Rattle.ft_pairs.specs.declared.at.Op.TheVariants.{Save, Read}
@@ -25,11 +25,6 @@ use Rattle.ft_replay.proofs.Telling.{places}
 abbrev pub effect : Op → Act → Option At
 effect Save a = Some a.at
 effect Read a = None
-
-less : (o : Ordering) → is_lt o ≡ true → o ≡ Less
-less Less h = refl
-less Equal h = absurd (false≢true h)
-less Greater h = absurd (false≢true h)
 
 module _ (op : Act → Option Op) where
   -- the operation at a place
@@ -105,7 +100,7 @@ module _ (op : Act → Option Op) where
       is = none.0 ∙ ap (λ o. option_map_or (λ w. effect w a) o old) is;
       last = record {
         there = at_itself a acts ∙ is;
-        before = less _ before;
+        before = is_less _ before;
         none = λ q after h. behind a acts q after ∙ none.1 q h;
       };
     })

@@ -1,24 +1,18 @@
 -- Words and numbers as they are written out, and how they are read.
 use Rattle.std.proofs.Common.{◌≡◌, ◌<◌, ◌+◌, ◌^◌, ◌==◌, ℕ, suc, Bool, true, false, not, List, [], ◌∷◌, ◌++◌, length, drop, Some, refl, sym, ap, ◌∙◌, arith, slice_index, reverse, le-leb, ne_eqb, decimal, length-append, append-nil, nat_lt, nat_le}
 use Rattle.std.proofs.Math.Seq.{take-append_seam}
-use Rattle.std.proofs.lemmas.Bool.{and_parts, and_from, not-true, not_from_false}
+use Rattle.std.proofs.lemmas.Bool.{and_parts, not-true, not_from_false}
 use Rattle.std.proofs.lemmas.Fmt.{decimal_is_IsNumeral, decimal_nonempty, length-decimal-le}
 use Rattle.std.proofs.lemmas.List.{reverse-append, reverse-reverse}
 use Rattle.std.proofs.lemmas.List.Folds.{list_all-append}
 use Rattle.std.specs.Char.{is_ascii_digit}
 use Rattle.std.specs.List.{prefix_len, list_all, before_first, after_first}
 use Rattle.ft_text.proofs.Numbers.{digits_all}
+use Rattle.ft_text.proofs.Separators.{all_weaker}
 use Rattle.ft_script.specs.Script.{greatest_number, most_digits, is_space, is_in_word, is_colon, drop_while, trimmed, first_word, after_word, command_number}
 use Rattle.ft_script.specs.Written.{IsCommandNumber, IsStripped, spaced}
 
 -- ---- runs of bytes
-
--- what each byte passes, it passes by a weaker test too
-all_weaker : (p q : ℕ → Bool) → ((byte : ℕ) → p byte ≡ true → q byte ≡ true) → (text : List ℕ) → list_all p text ≡ true → list_all q text ≡ true
-all_weaker p q weaker [] h = refl
-all_weaker p q weaker (byte ∷ text) h =
-    let both = and_parts (p byte) (list_all p text) h in
-    and_from (q byte) (list_all q text) (weaker byte both.0) (all_weaker p q weaker text both.1)
 
 -- a front of bytes that pass is the run
 run_front : (test : ℕ → Bool) (front rest : List ℕ) → list_all test front ≡ true → prefix_len test rest ≡ 0 → prefix_len test (front ++ rest) ≡ length front

@@ -11,11 +11,7 @@ use Rattle.std.specs.FinMap as map
 use Rattle.std.specs.FinMap.{FinMap, find, entries_sorted, get-entries}
 use Rattle.std.proofs.lemmas.Map.Keys.{sorted_head, sorted_tail}
 use Rattle.ft_maps.specs.Entries.{strictly_sorted}
-
--- what follows of each is so of all
-pub all_map : {X : Type 0} (P Q : X → Type 0) → ((x : X) → P x → Q x) → (xs : List X) → AllByRecursion P xs → AllByRecursion Q xs
-all_map P Q f [] p = tt
-all_map P Q f (x ∷ xs) p = (f x p.0, all_map P Q f xs p.1)
+use Rattle.ft_maps.proofs.Common.{all_map}
 
 module _ {K X : Type 0} (R : K → K → Ordering) (total : IsTotalOrder R) where
   -- an entry in front is not found at keys after it

@@ -3,11 +3,12 @@ use Rattle.std.proofs.Common.{◌≡◌, ℕ, zero, suc, Bool, true, false, cond
 use Rattle.std.specs.Prelude.{◌&&◌, ◌||◌, ◌-◌, not, is_some, length, slice_get}
 use Rattle.std.specs.List.{list_any}
 use Rattle.std.specs.Option.{option_map_or}
-use Rattle.std.proofs.lemmas.Bool.{true≢false}
+use Rattle.std.proofs.lemmas.Bool.{and_parts, true≢false, or_right}
+use Rattle.ft_hits.proofs.Flat.{same_itself}
 use Rattle.ft_fields.specs.declared.key.Part.{Part}
 use Rattle.ft_fields.specs.Ties.{key_same}
+use Rattle.ft_fields.specs.Parts.{same_key}
 use Rattle.ft_maps.specs.Entries.{same_from_tie}
-use Rattle.ft_table.specs.Hits.{same_key}
 use Rattle.ft_table.specs.OneKey.{FirstComesIn, FirstIsOut, LastGoesOut}
 use Rattle.ft_table.specs.Tabled.{Tabled, keys_in, is_in}
 use Rattle.ft_shelves.specs.Changes.{is_insert, change_mark, sign_of, table_with}
@@ -17,7 +18,6 @@ use Rattle.ft_shelves.specs.declared.change.HitChange.{HitChange}
 use Rattle.ft_shelves.specs.declared.change.HitChange.TheVariants as changes
 use Rattle.ft_shelves.specs.declared.sign.Sign.{Sign}
 use Rattle.ft_shelves.specs.declared.sign.Sign.TheVariants.{Insert, Retract}
-use Rattle.ft_shelves.proofs.Both.{and_left, and_right, same_itself}
 
 -- ---- keys that are the same or not
 
@@ -37,14 +37,10 @@ not_named k o h is = true≢false (sym (same_itself k) ∙ sym (ap (λ x. option
 
 -- ---- the last key in a table is in it
 
-any_or : (a b : Bool) → b ≡ true → (a || b) ≡ true
-any_or true b h = refl
-any_or false b h = h
-
 in_list : (k : List Part) (ks : List (List Part)) (n : ℕ) → slice_get ks n ≡ Some k → list_any (same_key k) ks ≡ true
 in_list k [] n is = absurd (true≢false (sym (ap is_some is)))
 in_list k (x ∷ ks) zero is = ap (λ b. b || list_any (same_key k) ks) (subst (λ q. same_key k q ≡ true) (ap (λ (o : Option (List Part)). unwrap_or o x) (sym is)) (same_itself k))
-in_list k (x ∷ ks) (suc n) is = any_or (same_key k x) (list_any (same_key k) ks) (in_list k ks n is)
+in_list k (x ∷ ks) (suc n) is = or_right (same_key k x) (list_any (same_key k) ks) (in_list k ks n is)
 
 -- ---- the laws of tables, by the sign
 
@@ -65,7 +61,7 @@ not-false : (b : Bool) → not b ≡ true → b ≡ false
 not-false true h = sym h
 not-false false h = refl
 
-undiffering : (a b : Bool) → differ a b ≡ false → b ≡ a
+pub undiffering : (a b : Bool) → differ a b ≡ false → b ≡ a
 undiffering true true e = refl
 undiffering true false e = absurd (true≢false e)
 undiffering false true e = absurd (true≢false e)
@@ -85,7 +81,7 @@ module _ (table after : Tabled) (key : List Part) (was : Bool) (edge : Option (L
     crossed_by (Some other) at k is = by (has_crossed after key was (Some other)) refl is
       where
         by : (b : Bool) → has_crossed after key was (Some other) ≡ b → cond b (Some other) None ≡ Some k → Crosses k
-        by true over is = subst Crosses (ap (λ (o : Option (List Part)). unwrap_or o other) is) (there other at, (and_right _ _ over, not-false _ (and_left _ _ over)))
+        by true over is = subst Crosses (ap (λ (o : Option (List Part)). unwrap_or o other) is) (there other at, ((and_parts _ _ over).1, not-false _ (and_parts _ _ over).0))
         by false over is = absurd (true≢false (sym (ap is_some is)))
 
     -- it was on the one side and is on the other

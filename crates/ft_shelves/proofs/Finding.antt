@@ -10,6 +10,7 @@ use Rattle.std.specs.Ordering.{is_eq, eq_by_cmp}
 use Rattle.std.specs.FinMap.{IsAntisymmetric, find}
 use Rattle.std.proofs.lemmas.Map.Keys.{sorted_head, sorted_tail}
 use Rattle.ft_maps.specs.Entries.{same_from_tie}
+use Rattle.ft_maps.proofs.Common.{cond_same}
 
 -- ---- filtered
 
@@ -49,11 +50,6 @@ module _ {K X : Type 0} (test : K × X → Bool) where
 
 -- ---- keys that stand for others
 
--- either way there is none
-pub none_both : {X : Type 0} (b : Bool) → ◌≡◌ {A = Option X} (cond b None None) None
-none_both true = refl
-none_both false = refl
-
 module _ {K X L Y : Type 0} (into : K → L) (value : K → X → Y) where
   -- entries by the keys that theirs stand for
   abbrev pub turned : List (K × X) → List (L × Y)
@@ -70,7 +66,7 @@ module _ {K X L Y : Type 0} (into : K → L) (value : K → X → Y) where
     module _ (S : L → L → Ordering) (ties : (q : L) (k : K) → eq_by_cmp S q (into k) ≡ (eq_by_cmp R (out q) k && fits q)) where
       -- what is found there is what is found at the key that it stands for
       pub find-turned : (q : L) (es : List (K × X)) → find S q (turned es) ≡ cond (fits q) (option_map (value (out q)) (find R (out q) es)) None
-      find-turned q [] = sym (none_both (fits q))
+      find-turned q [] = sym (cond_same (fits q) None)
       find-turned q (e ∷ es) =
           ap (λ b. cond b (Some (value e.0 e.1)) (find S q (turned es))) (ties q e.0)
           ∙ turn q e es (find S q (turned es)) (eq_by_cmp R (out q) e.0) (fits q) refl (find-turned q es)

@@ -3,14 +3,16 @@ use Rattle.std.proofs.Common.{◌≡◌, ℕ, Bool, true, false, cond, List, ref
 use Rattle.std.specs.Prelude.{◌&&◌}
 use Rattle.std.specs.Option.{option_map_or}
 use Rattle.std.proofs.lemmas.Bool.{true≢false}
+use Rattle.ft_hits.proofs.Flat.{same_itself}
 use Rattle.ft_fields.specs.declared.key.Part.{Part}
 use Rattle.ft_fields.specs.Ties.{key_same}
+use Rattle.ft_fields.specs.Parts.{same_key}
 use Rattle.ft_maps.specs.Entries.{same_from_tie}
 use Rattle.ft_pairs.specs.ByKey.{ops_of}
 use Rattle.ft_pairs.specs.Source.{Ops}
 use Rattle.ft_pairs.specs.declared.at.At.{At}
 use Rattle.ft_pairs.specs.declared.at.Op.TheVariants.{Save}
-use Rattle.ft_table.specs.Hits.{Hits, same_key}
+use Rattle.ft_table.specs.Hits.{Hits}
 use Rattle.ft_table.specs.OneKey.{FirstComesIn, FirstIsOut, LastGoesOut}
 use Rattle.ft_table.specs.Tabled.{Tabled, is_in}
 use Rattle.ft_shelves.specs.Changes.{is_insert, change_mark, op_after, set_op, sign_of, table_with, with_change}
@@ -20,7 +22,6 @@ use Rattle.ft_shelves.specs.Shelves.{Shelved}
 use Rattle.ft_shelves.specs.Switches.{differ}
 use Rattle.ft_shelves.specs.inner.Following.{edge_for, OwnChanges}
 use Rattle.ft_shelves.specs.declared.change.HitChange.{HitChange}
-use Rattle.ft_shelves.proofs.Both.{same_itself}
 use Rattle.ft_shelves.proofs.Edge.{crossed, crossed_moved, crossed_stayed, edge_there, named, not_named, others_stay}
 
 -- ---- operations of one key that change

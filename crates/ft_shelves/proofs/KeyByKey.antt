@@ -1,11 +1,12 @@
 -- What is put key by key, where no key comes twice; and what each event of a group has.
 use Rattle.std.proofs.Common.{◌≡◌, ◌<◌, ◌≤◌, ◌++◌, ℕ, suc, append_assoc, Bool, true, false, cond, List, [], ◌∷◌, drop, get_or, length, refl, sym, ap, subst, ◌∙◌, arith, None, Option, ◌+◌, inl, inr}
 use Rattle.std.specs.Prelude.{◌||◌, nat_lt}
-use Rattle.std.specs.List.{AllByRecursion, filter, list_any}
+use Rattle.std.specs.List.{AllByRecursion, list_any}
 use Rattle.std.specs.Borrow.{Bor}
 use Rattle.std.specs.FinMap as map
 use Rattle.std.proofs.lemmas.Bool.{ltb-false}
 use Rattle.std.proofs.lemmas.List.{append-nil, drop_more}
+use Rattle.ft_maps.proofs.Common.{all_filter, all_map}
 use Rattle.ft_fields.specs.Places.{pos_cmp, pos_cmp_total}
 use Rattle.ft_fields.specs.Traced.{Traced}
 use Rattle.ft_fields.specs.declared.pos.Pos.{Pos}
@@ -14,11 +15,11 @@ use Rattle.ft_hist.specs.Hist.{Hist}
 use Rattle.ft_fields.specs.Orders.{key_cmp_total}
 use Rattle.ft_fields.specs.Ties.{key_same}
 use Rattle.ft_fields.specs.declared.key.Part.{Part}
+use Rattle.ft_fields.specs.Parts.{same_key}
 use Rattle.ft_store.specs.Stored.{held}
 use Rattle.ft_store.specs.declared.stored.Stored.{Stored}
-use Rattle.ft_table.specs.Hits.{same_key}
 use Rattle.ft_shelves.specs.Joining.{AreGroupsOf}
-use Rattle.ft_shelves.proofs.Attached.{all_map, each_found}
+use Rattle.ft_shelves.proofs.Attached.{each_found}
 use Rattle.ft_shelves.proofs.Decided.{decided, itself, untied}
 
 -- ---- keys, each once
@@ -80,13 +81,6 @@ module _ {A V : Type 0} (listed : List Part → A → Option V) where
 no_length : {X : Type 0} (xs : List X) → nat_lt 0 (length xs) ≡ false → xs ≡ []
 no_length [] none = refl
 no_length (x ∷ xs) none = let few : length (x ∷ xs) ≤ 0 = ltb-false 0 (length (x ∷ xs)) none in absurd (omega arith)
-
-all_filter : {X : Type 0} (P : X → Type 0) (test : X → Bool) (xs : List X) → AllByRecursion P xs → AllByRecursion P (filter test xs)
-all_filter P test [] all = tt
-all_filter P test (x ∷ xs) all = elim (test x) as (λ b. AllByRecursion P (cond b (x ∷ filter test xs) (filter test xs))) [
-  | true ↦ (all.0, all_filter P test xs all.1)
-  | false ↦ all_filter P test xs all.1
-]
 
 module _ (hist : Hist) (groups : Grouped) (of : AreGroupsOf hist groups) where
   -- no key of theirs comes twice

@@ -1,5 +1,4 @@
 pub mod Attached
-pub mod Both
 pub mod Counted
 pub mod Decided
 pub mod Edge

@@ -2,7 +2,7 @@
 use Rattle.std.proofs.Common.{◌≡◌, ◌<◌, ℕ, suc, Bool, true, false, cond, List, length, refl, sym, ap, ◌∙◌, arith, Some, None, Option, eqb-true}
 use Rattle.std.specs.Option.{option_map_or}
 use Rattle.std.specs.Prelude.{◌==◌, ◌&&◌, is_some, if◌then◌else◌}
-use Rattle.std.proofs.lemmas.Bool.{true≢false, eqb-false}
+use Rattle.std.proofs.lemmas.Bool.{and_parts, true≢false, eqb-false}
 use Rattle.std.specs.declared.cmp.Ordering.{Ordering}
 use Rattle.std.specs.declared.cmp.Ordering.TheVariants.{Less, Equal, Greater}
 use Rattle.std.specs.Ordering.{nat_cmp, eq_by_cmp, is_lt, ordering_reverse}
@@ -11,8 +11,10 @@ use Rattle.std.specs.FinMap as map
 use Rattle.std.proofs.lemmas.Map.Lookups.{exact_unsigned}
 use Rattle.ft_fields.specs.declared.pos.Pos.{Pos}
 use Rattle.ft_fields.specs.declared.key.Part.{Part}
+use Rattle.ft_fields.specs.Parts.{same_key}
 use Rattle.ft_maps.specs.Entries.{same_from_tie}
-use Rattle.ft_pairs.specs.ByKey.{OpsByKey, ChangesKey, ops_of, same_key}
+use Rattle.ft_maps.proofs.Common.{and_false, cond_same, is_less}
+use Rattle.ft_pairs.specs.ByKey.{OpsByKey, ChangesKey, ops_of}
 use Rattle.ft_pairs.specs.Edits.{with_op, same_at}
 use Rattle.ft_pairs.specs.Order.{at_cmp_total, at_same}
 use Rattle.ft_pairs.specs.Source.{Ops}
@@ -24,9 +26,9 @@ use Rattle.ft_table.specs.Rows.{hit_after}
 use Rattle.ft_table.specs.Spots.{traced, spot_cmp, spot_cmp_total, spot_same}
 use Rattle.ft_hits.specs.declared.spot.Spot.{Spot}
 use Rattle.ft_hits.specs.declared.hit.Hit.{Hit}
+use Rattle.ft_hits.proofs.Flat.{mark}
 use Rattle.ft_shelves.specs.inner.Following.{with_save}
-use Rattle.ft_shelves.proofs.Both.{and_left, and_right, and_false, same_both}
-use Rattle.ft_shelves.proofs.Hitting.{mark, is_less, not_before_itself, next_none, next_behind, next_first, next_fewer}
+use Rattle.ft_shelves.proofs.Hitting.{not_before_itself, next_none, next_behind, next_first, next_fewer}
 
 -- whether a spot is before the next hit, if there is one
 abbrev pub is_till : Option Hit → Spot → Bool
@@ -66,7 +68,7 @@ module _ (hits : Hits) (id : ℕ) (key : List Part) where
 
   pub begun : (ops : OpsByKey) (next : Option Hit) → hit_after hits key None ≡ next → ChangesKey key (with_saves_till next) ops ops
   begun ops next is k q =
-      same_both (same_key k key) (ops_of ops k q)
+      sym (cond_same (same_key k key) (ops_of ops k q))
       ∙ sym (ap (λ b. cond (same_key k key) (cond b (Some Save) (ops_of ops k q)) (ops_of ops k q)) (none_till next is q))
 
   module _ (hit : Hit) where
@@ -79,7 +81,7 @@ module _ (hits : Hits) (id : ℕ) (key : List Part) where
         ap (λ n. is_lt (spot_cmp (record { pos = hit.spot.pos; maker = n }) hit.spot)) (sym own) ∙ not_before_itself hit.spot in
         before key at
         ∙ ap (λ b. cond (same_key key key) (cond (b && saves_here at) (Some Save) (ops_of old key at)) (ops_of old key at)) itself
-        ∙ sym (same_both (same_key key key) (ops_of old key at)) ∙ none hit.spot.pos
+        ∙ sym (sym (cond_same (same_key key key) (ops_of old key at))) ∙ none hit.spot.pos
 
     module _ (next : Option Hit) (is : hit_after hits key (Some hit.spot) ≡ next) (there : is_some (map.get hits (mark hit.spot key)) ≡ true) where
       abbrev at : At
@@ -116,7 +118,7 @@ module _ (hits : Hits) (id : ℕ) (key : List Part) where
       -- at other spots as many save before the next one as before this one
       beside : (q : At) (o : Option Op) → (saves_here q ≡ true → traced q.pos ≡ hit.spot → ⊥) → (h : Bool) → saves_here q ≡ h
           → cond (is_lt (spot_cmp (traced q.pos) hit.spot) && saves_here q) (Some Save) o ≡ cond (is_till next (traced q.pos) && saves_here q) (Some Save) o
-      beside q o apart true here = ap (λ b. cond (b && saves_here q) (Some Save) o) (till_same (traced q.pos) (apart here) (and_right _ _ here))
+      beside q o apart true here = ap (λ b. cond (b && saves_here q) (Some Save) o) (till_same (traced q.pos) (apart here) (and_parts _ _ here).1)
       beside q o apart false here =
           ap (λ b. cond b (Some Save) o) (ap (λ s. is_lt (spot_cmp (traced q.pos) hit.spot) && s) here ∙ and_false _)
           ∙ sym (ap (λ b. cond b (Some Save) o) (ap (λ s. is_till next (traced q.pos) && s) here ∙ and_false _))
@@ -133,7 +135,7 @@ module _ (hits : Hits) (id : ℕ) (key : List Part) where
         elsewhere : (q : At) → same_at q at ≡ false → saves_here q ≡ true → traced q.pos ≡ hit.spot → ⊥
         elsewhere q apart here e =
             let one : q ≡ at =
-            ap (λ i. record { pos = q.pos; trigger = i }) (same_from_tie exact_unsigned q.trigger id (and_left _ _ here))
+            ap (λ i. record { pos = q.pos; trigger = i }) (same_from_tie exact_unsigned q.trigger id (and_parts _ _ here).0)
             ∙ ap (λ (s : Spot). record { pos = s.pos; trigger = id }) e in
             true≢false (sym ((eq_by_cmp_equiv at_cmp_total).refl at) ∙ ap (λ x. same_at x at) (sym one) ∙ apart)
 

@@ -96,7 +96,7 @@ fn append_packed(
 }
 
 impl Store {
-    ghost use Rattle.ft_fields.specs.Traced.{last_cpu, name_of};
+    ghost use Rattle.ft_fields.specs.Traced.{last_cpu, last_stamp, name_of};
     ghost use Rattle.ft_store.specs.Stored.{bare, held, field_number, stored_at};
 
     /// No events. It takes no memory.
@@ -282,9 +282,10 @@ impl Store {
         }
     }
 
-    /// The stamp of the event at a place.
+    /// The stamp of the event at a place, which is at most an event's.
     pub(crate) fn stamp_at(&self, place: usize) -> u64
-        ensures { result ≡ (stored_at self.now place).stamp }
+        ensures value { result ≡ (stored_at self.now place).stamp }
+        ensures fits { result ≤ last_stamp }
     {
         match self.events.get(place) {
             Some(packed) => packed.stamp,

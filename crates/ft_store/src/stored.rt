@@ -1,6 +1,6 @@
 //! `Stored`: a reference to one event of a store, and what it tells without the rest.
 
-ghost use Rattle.std.specs.Prelude.{◌≡◌};
+ghost use Rattle.std.specs.Prelude.{◌≡◌, ◌≤◌};
 
 use crate::store::Store;
 use ft_fields::{Event, Field, Name};
@@ -13,7 +13,7 @@ pub struct Stored<'a> {
 }
 
 impl<'a> Stored<'a> {
-    ghost use Rattle.ft_fields.specs.Traced.{name_of};
+    ghost use Rattle.ft_fields.specs.Traced.{last_stamp, name_of};
     ghost use Rattle.ft_store.specs.Stored.{bare, held, field_number, stored_at};
 
     /// The event at a place of a store.
@@ -51,9 +51,10 @@ impl<'a> Stored<'a> {
         self.store.name_at(self.place as usize)
     }
 
-    /// Its stamp, in microseconds.
+    /// Its stamp, in microseconds, which is at most an event's.
     pub fn stamp(&self) -> u64
-        ensures { result ≡ (held self.now).stamp }
+        ensures value { result ≡ (held self.now).stamp }
+        ensures fits { result ≤ last_stamp }
     {
         self.store.stamp_at(self.place as usize)
     }

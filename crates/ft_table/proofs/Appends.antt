@@ -13,12 +13,12 @@ use Rattle.std.proofs.lemmas.Cmp.{tied_itself}
 use Rattle.std.proofs.lemmas.List.Edits.{insert_end}
 use Rattle.ft_hits.specs.declared.spot.Spot.{Spot}
 use Rattle.ft_fields.specs.declared.key.Part.{Part}
-use Rattle.ft_fields.specs.Parts.{key_cmp}
+use Rattle.ft_fields.specs.Parts.{key_cmp, same_key}
 use Rattle.ft_hits.specs.declared.mark.Mark.{Mark}
 use Rattle.ft_hits.specs.Spots.{spot_cmp, spot_cmp_total}
 use Rattle.ft_hits.specs.Marks.{mark_cmp, mark_cmp_total}
 use Rattle.ft_table.specs.inner.Ascending.{IsRank}
-use Rattle.ft_hits.specs.Hits.{Hits, hits_of, least_key, first_place, same_key}
+use Rattle.ft_hits.specs.Hits.{Hits, hits_of, least_key, first_place}
 use Rattle.ft_table.specs.Tabled.{Tabled, is_first, first_hits, order_of, keys_in, is_in}
 use Rattle.ft_table.specs.inner.Moves.{order_without, order_with, others}
 use Rattle.ft_table.specs.Growth.{AreBefore, with_hit, KeysGrow}

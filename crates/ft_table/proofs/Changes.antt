@@ -5,29 +5,32 @@ use Rattle.std.specs.Ordering.{eq_by_cmp}
 use Rattle.std.specs.Cmp.{eq_by_cmp_equiv}
 use Rattle.std.specs.FinMap as map
 use Rattle.std.specs.FinMap.{get-insert, get-remove, len-insert, len-entries, same_map}
+use Rattle.std.proofs.option.Match.{None-if_not_some}
+use Rattle.ft_maps.proofs.Common.{and_true, and_false}
 use Rattle.ft_hits.specs.declared.spot.Spot.{Spot}
 use Rattle.ft_fields.specs.declared.key.Part.{Part}
+use Rattle.ft_fields.specs.Parts.{same_key}
 use Rattle.ft_hits.specs.declared.mark.Mark.{Mark}
 use Rattle.ft_hits.specs.Spots.{spot_cmp, spot_cmp_total, spot_same}
 use Rattle.ft_hits.specs.Marks.{mark_cmp, mark_cmp_total, mark_same}
-use Rattle.ft_hits.specs.Hits.{Hits, same_key, hits_of, least_key, first_place, hitcount}
+use Rattle.ft_hits.specs.Hits.{Hits, hits_of, least_key, first_place, hitcount}
 use Rattle.ft_table.specs.Tabled.{order_of}
 use Rattle.ft_table.specs.inner.Moves.{order_before, with_less, with_more}
-use Rattle.ft_hits.proofs.Flat.{mark, is_equal, marks_tie, same_itself, same_is, true_and, false_and, get-hits_of}
+use Rattle.ft_hits.proofs.Flat.{mark, is_equal, marks_tie, same_itself, same_is, get-hits_of}
 use Rattle.ft_table.proofs.Firsts.{SameBeside, hits_of-beside, others-beside, order-none, order-some}
 
 -- other keys' hits are no part of it
 pub insert-beside : (hits : Hits) (m : Mark) (v : List ℤ) → SameBeside hits (map.insert hits m v) m.key
 insert-beside hits m v q apart =
-    get-insert mark_cmp_total hits m v q ∙ ap (λ b. cond b (Some v) (map.get hits q)) (marks_tie q m ∙ ap (λ b. eq_by_cmp spot_cmp q.spot m.spot && b) apart ∙ false_and _)
+    get-insert mark_cmp_total hits m v q ∙ ap (λ b. cond b (Some v) (map.get hits q)) (marks_tie q m ∙ ap (λ b. eq_by_cmp spot_cmp q.spot m.spot && b) apart ∙ and_false _)
 
 pub remove-beside : (hits : Hits) (m : Mark) → SameBeside hits (map.remove hits m) m.key
 remove-beside hits m q apart =
-    get-remove mark_cmp_total hits m q ∙ ap (λ b. cond b None (map.get hits q)) (marks_tie q m ∙ ap (λ b. eq_by_cmp spot_cmp q.spot m.spot && b) apart ∙ false_and _)
+    get-remove mark_cmp_total hits m q ∙ ap (λ b. cond b None (map.get hits q)) (marks_tie q m ∙ ap (λ b. eq_by_cmp spot_cmp q.spot m.spot && b) apart ∙ and_false _)
 
 -- among the hits of its own key
 tie_here : (m : Mark) (spot : Spot) → eq_by_cmp mark_cmp (mark spot m.key) m ≡ eq_by_cmp spot_cmp spot m.spot
-tie_here m spot = marks_tie (mark spot m.key) m ∙ ap (λ b. eq_by_cmp spot_cmp spot m.spot && b) (same_itself m.key) ∙ true_and _
+tie_here m spot = marks_tie (mark spot m.key) m ∙ ap (λ b. eq_by_cmp spot_cmp spot m.spot && b) (same_itself m.key) ∙ and_true _
 
 pub hits_of-insert : (hits : Hits) (m : Mark) (v : List ℤ) → hits_of (map.insert hits m v) m.key ≡ map.insert (hits_of hits m.key) m.spot v
 hits_of-insert hits m v = same_map spot_cmp_total spot_same _ _ (λ spot.
@@ -75,15 +78,11 @@ some_is : {X : Type 0} (o : Option X) → is_some o ≡ true → (x : X) × (o �
 some_is None is = cc
 some_is (Some x) is = (x, refl)
 
-none_is : {X : Type 0} (o : Option X) → is_some o ≡ false → o ≡ None
-none_is None is = refl
-none_is (Some x) is = cc
-
 -- taking out what isn't there changes nothing
 pub remove-none : (hits : Hits) (m : Mark) → map.contains_key hits m ≡ false → map.remove hits m ≡ hits
 remove-none hits m none = same_map mark_cmp_total mark_same _ _ (λ q. get-remove mark_cmp_total hits m q ∙ nothing q (eq_by_cmp mark_cmp q m) refl) where
   nothing : (q : Mark) (b : Bool) → eq_by_cmp mark_cmp q m ≡ b → cond b None (map.get hits q) ≡ map.get hits q
-  nothing q true tie = sym (ap (map.get hits) (mark_same q m (is_equal _ tie)) ∙ none_is _ none)
+  nothing q true tie = sym (ap (map.get hits) (mark_same q m (is_equal _ tie)) ∙ None-if_not_some _ none)
   nothing q false tie = refl
 
 more : (hits : Hits) (m : Mark) → map.contains_key hits m ≡ true → (q : List Part) (b : Bool) → same_key q m.key ≡ b → hitcount hits q ≡ cond b (hitcount (map.remove hits m) q + 1) (hitcount (map.remove hits m) q)

@@ -8,11 +8,12 @@ use Rattle.std.specs.FinMap as map
 use Rattle.std.specs.FinMap.{FinMap, get-insert, contains_key-keys}
 use Rattle.std.proofs.lemmas.Bool.{cases_order}
 use Rattle.ft_fields.specs.declared.key.Part.{Part}
+use Rattle.ft_fields.specs.Parts.{same_key}
 use Rattle.ft_hits.specs.declared.mark.Mark.{Mark}
 use Rattle.ft_hits.specs.Marks.{mark_cmp, mark_cmp_total, mark_same}
 use Rattle.ft_table.specs.inner.Ascending.{IsRank}
 use Rattle.ft_table.specs.inner.Cut.{IsSplit}
-use Rattle.ft_hits.specs.Hits.{Hits, same_key}
+use Rattle.ft_hits.specs.Hits.{Hits}
 use Rattle.ft_table.specs.Tabled.{first_hits}
 use Rattle.ft_table.specs.inner.Moves.{others, order_without, order_with, with_less, with_more}
 use Rattle.ft_hits.proofs.Flat.{is_equal, same_itself}

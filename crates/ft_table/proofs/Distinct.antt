@@ -11,11 +11,12 @@ use Rattle.std.proofs.lemmas.List.Elements.{All-nil, All-cons}
 use Rattle.std.proofs.lemmas.List.Sorted.{All-permutation}
 use Rattle.ft_hist.specs.declared.item.SortItem.{SortItem}
 use Rattle.ft_fields.specs.declared.key.Part.{Part}
+use Rattle.ft_fields.specs.Parts.{same_key}
 use Rattle.ft_hist.specs.Fitting.{KeyFits}
 use Rattle.ft_hist.specs.Hist.{Hist}
 use Rattle.ft_hits.specs.declared.mark.Mark.{Mark}
 use Rattle.ft_table.specs.Counted.{Counted}
-use Rattle.ft_hits.specs.Hits.{Hits, same_key}
+use Rattle.ft_hits.specs.Hits.{Hits}
 use Rattle.ft_table.specs.Rows.{counted_row, rows_of, AllFit}
 use Rattle.ft_table.specs.Sorting.{in_order, HasDistinctKeys}
 use Rattle.ft_table.specs.Tabled.{Tabled, first_hits, is_first, order_of, keys_in}

@@ -1,5 +1,5 @@
 -- A table without hits.
-use Rattle.std.proofs.Common.{◌≡◌, ℕ, zero, suc, List, [], cond, Bool, true, false, refl, sym, ap, ◌∙◌, arith, None, Option}
+use Rattle.std.proofs.Common.{◌≡◌, ℕ, zero, suc, List, [], cond, refl, sym, ap, ◌∙◌, arith, None}
 use Rattle.std.specs.Prelude.{ℤ}
 use Rattle.std.specs.Map.{keys_of}
 use Rattle.std.specs.FinMap as map
@@ -10,14 +10,11 @@ use Rattle.ft_hits.specs.Marks.{mark_cmp, mark_cmp_total, mark_same}
 use Rattle.ft_table.specs.inner.Cut.{IsSplit}
 use Rattle.ft_table.specs.Tabled.{is_first, first_hits, order_of}
 use Rattle.ft_maps.specs.Entries.{entries-empty}
+use Rattle.ft_maps.proofs.Common.{cond_same}
 use Rattle.ft_table.proofs.Firsts.{get-first_hits}
 
-none_either : (b : Bool) → ◌≡◌ {A = Option (List ℤ)} (cond b None None) None
-none_either true = refl
-none_either false = refl
-
 no_first_hits : first_hits map.empty ≡ map.empty
-no_first_hits = same_map mark_cmp_total mark_same _ _ (λ q. get-first_hits map.empty q ∙ ap (λ o. cond (is_first map.empty q) o None) (get-empty mark_cmp q) ∙ none_either (is_first map.empty q) ∙ sym (get-empty mark_cmp q))
+no_first_hits = same_map mark_cmp_total mark_same _ _ (λ q. get-first_hits map.empty q ∙ ap (λ o. cond (is_first map.empty q) o None) (get-empty mark_cmp q) ∙ cond_same (is_first map.empty q) None ∙ sym (get-empty mark_cmp q))
 
 pub order-empty : order_of map.empty ≡ []
 order-empty = ap map.keys no_first_hits ∙ ap (λ (es : List (Mark × List ℤ)). keys_of es) (entries-empty {X = List ℤ} mark_cmp)

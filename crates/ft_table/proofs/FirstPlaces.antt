@@ -12,11 +12,11 @@ use Rattle.std.specs.FinMap.{is_sorted, entries_sorted}
 use Rattle.std.proofs.lemmas.Cmp.{tied_itself}
 use Rattle.ft_hits.specs.declared.spot.Spot.{Spot}
 use Rattle.ft_fields.specs.declared.key.Part.{Part}
-use Rattle.ft_fields.specs.Parts.{key_cmp}
+use Rattle.ft_fields.specs.Parts.{key_cmp, same_key}
 use Rattle.ft_hits.specs.declared.mark.Mark.{Mark}
 use Rattle.ft_hits.specs.Spots.{spot_cmp, spot_cmp_total}
 use Rattle.ft_hits.specs.Marks.{mark_cmp}
-use Rattle.ft_hits.specs.Hits.{Hits, same_key, hits_of}
+use Rattle.ft_hits.specs.Hits.{Hits, hits_of}
 use Rattle.ft_fields.specs.Orders.{key_cmp_total}
 use Rattle.ft_hits.proofs.Flat.{same_is}
 use Rattle.ft_maps.specs.Entries.{and_left, and_right, is_less, entries-from_entries}

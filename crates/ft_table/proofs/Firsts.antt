@@ -9,11 +9,12 @@ use Rattle.std.specs.FinMap.{FinMap, find, get-entries, get-insert, get-retain_k
 use Rattle.std.proofs.lemmas.Cmp.{tied_itself}
 use Rattle.ft_hits.specs.declared.spot.Spot.{Spot}
 use Rattle.ft_fields.specs.declared.key.Part.{Part}
+use Rattle.ft_fields.specs.Parts.{same_key}
 use Rattle.ft_hits.specs.declared.mark.Mark.{Mark}
 use Rattle.ft_hits.specs.Spots.{spot_cmp, spot_cmp_total, spot_same}
 use Rattle.ft_hits.specs.Marks.{mark_cmp, mark_cmp_total, mark_same}
 use Rattle.ft_table.specs.inner.Ascending.{Rises, IsRank}
-use Rattle.ft_hits.specs.Hits.{Hits, same_key, hits_of, least_key, first_place}
+use Rattle.ft_hits.specs.Hits.{Hits, hits_of, least_key, first_place}
 use Rattle.ft_table.specs.Tabled.{is_first, first_hits, order_of}
 use Rattle.ft_table.specs.inner.Moves.{others, order_without, order_with}
 use Rattle.ft_hits.proofs.Flat.{mark, is_equal, marks_tie, same_itself, same_is, get-hits_of}

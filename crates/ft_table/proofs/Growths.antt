@@ -6,17 +6,19 @@ use Rattle.std.specs.Ordering.{eq_by_cmp}
 use Rattle.std.specs.Map.{values_of}
 use Rattle.std.specs.FinMap as map
 use Rattle.std.specs.FinMap.{get-insert, get-retain_keys, len-insert, same_map}
+use Rattle.ft_maps.proofs.Common.{and_false, cond_same}
 use Rattle.ft_hits.specs.declared.spot.Spot.{Spot}
 use Rattle.ft_hits.specs.Spots.{spot_cmp}
 use Rattle.ft_fields.specs.declared.key.Part.{Part}
+use Rattle.ft_fields.specs.Parts.{same_key}
 use Rattle.ft_hits.specs.declared.mark.Mark.{Mark}
 use Rattle.ft_table.specs.Counted.{Counted}
 use Rattle.ft_hits.specs.Marks.{mark_cmp, mark_cmp_total, mark_same}
-use Rattle.ft_hits.specs.Hits.{Hits, EntryHits, same_key, hits_of, hitcount, unsigned_at, column, sums_of, least_key, first_place}
+use Rattle.ft_hits.specs.Hits.{Hits, EntryHits, hits_of, hitcount, unsigned_at, column, sums_of, least_key, first_place}
 use Rattle.ft_table.specs.Tabled.{Tabled, keys_in, keys_out, is_in}
 use Rattle.ft_table.specs.Rows.{counted_row, row_at, totals_of}
 use Rattle.ft_table.specs.Growth.{ComesLast, with_hit, has_room, is_counted, empty_row, grown, InGrows, RowsGrow, TotalsGrow}
-use Rattle.ft_hits.proofs.Flat.{mark, is_equal, marks_tie, same_itself, same_is, false_and, get-hits_of}
+use Rattle.ft_hits.proofs.Flat.{mark, is_equal, marks_tie, same_itself, same_is, get-hits_of}
 use Rattle.ft_table.proofs.Firsts.{hits_of-beside, no_first}
 use Rattle.ft_table.proofs.Changes.{insert-beside, hits_of-insert, count-insert, hitcount-none}
 use Rattle.ft_hits.proofs.Columns.{column-more}
@@ -123,10 +125,6 @@ counted_hits table = map.retain_keys table.hits (λ m. is_in table m.key)
 get-counted : (table : Tabled) (q : Mark) → map.get (counted_hits table) q ≡ cond (is_in table q.key) (map.get table.hits q) None
 get-counted table q = get-retain_keys table.hits (λ m. is_in table m.key) q (λ x tie. ap (λ (m : Mark). is_in table m.key) (sym (mark_same q x tie)))
 
-none_either : (b : Bool) → ◌≡◌ {A = Option (List ℤ)} (cond b None None) None
-none_either true = refl
-none_either false = refl
-
 module _ (table : Tabled) (m : Mark) (v : List ℤ) (last : ComesLast table m) where
   abbrev after : Tabled
   after = with_hit table m v
@@ -158,7 +156,7 @@ module _ (table : Tabled) (m : Mark) (v : List ℤ) (last : ComesLast table m) w
         out true c = cc
         out false c = refl
   apart c q tie false at is both =
-      (λ i. cond (in-beside table m v last q.key is i) (cond ((both ∙ false_and _) i) (Some v) (map.get table.hits q)) None)
+      (λ i. cond (in-beside table m v last q.key is i) (cond ((both ∙ and_false _) i) (Some v) (map.get table.hits q)) None)
 
   got : (q : Mark) → map.get (counted_hits after) q ≡ cond (is_in after q.key) (cond (eq_by_cmp mark_cmp q m) (Some v) (map.get table.hits q)) None
   got q = get-counted after q ∙ ap (λ o. cond (is_in after q.key) o None) (get-insert mark_cmp_total table.hits m v q)
@@ -180,7 +178,7 @@ module _ (table : Tabled) (m : Mark) (v : List ℤ) (last : ComesLast table m) w
 
   hits-more : is_counted table m.key ≡ true → hits_sum after ≡ hits_sum table + 1
   hits-more c =
-      let free : map.get (counted_hits table) m ≡ None = get-counted table m ∙ ap (λ o. cond (is_in table m.key) o None) last.absent ∙ none_either (is_in table m.key) in
+      let free : map.get (counted_hits table) m ≡ None = get-counted table m ∙ ap (λ o. cond (is_in table m.key) o None) last.absent ∙ cond_same (is_in table m.key) None in
       inside_count after ∙ ap map.len (counted-more c) ∙ len-insert mark_cmp_total (counted_hits table) m v
       ∙ ap (λ o. cond (is_some o) (map.len (counted_hits table)) (map.len (counted_hits table) + 1)) free
       ∙ ap (λ n. n + 1) (sym (inside_count table))

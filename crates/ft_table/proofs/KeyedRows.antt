@@ -7,9 +7,9 @@ use Rattle.std.proofs.lemmas.Bool.{false≢true}
 use Rattle.ft_hist.specs.Fitting.{KeyFits}
 use Rattle.ft_hist.specs.Hist.{Hist}
 use Rattle.ft_fields.specs.declared.key.Part.{Part}
+use Rattle.ft_fields.specs.Parts.{same_key}
 use Rattle.ft_table.specs.Counted.{Counted}
 use Rattle.ft_hits.specs.declared.mark.Mark.{Mark}
-use Rattle.ft_hits.specs.Hits.{same_key}
 use Rattle.ft_table.specs.Rows.{counted_row, row_at, AllFit}
 use Rattle.ft_table.specs.Tabled.{Tabled, first_hits, is_first, order_of, is_in}
 use Rattle.ft_table.proofs.Counts.{listed}

@@ -24,5 +24,5 @@ mod Examples
 mod Hexadecimal
 mod InOrder
 mod KeyParts
-mod Rising
+pub mod Rising
 mod RowOrders

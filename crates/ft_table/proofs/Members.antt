@@ -5,10 +5,11 @@ use Rattle.std.specs.List.{list_any}
 use Rattle.std.proofs.lemmas.Bool.{cases_lt}
 use Rattle.std.proofs.lemmas.Bool.Decides.{nat_tests}
 use Rattle.ft_fields.specs.declared.key.Part.{Part}
+use Rattle.ft_fields.specs.Parts.{same_key}
 use Rattle.ft_hits.specs.declared.mark.Mark.{Mark}
 use Rattle.ft_hits.specs.Marks.{mark_cmp}
 use Rattle.ft_table.specs.inner.Ascending.{IsRank}
-use Rattle.ft_hits.specs.Hits.{Hits, same_key}
+use Rattle.ft_hits.specs.Hits.{Hits}
 use Rattle.ft_table.specs.inner.Moves.{order_without, order_with}
 use Rattle.ft_hits.proofs.Flat.{same_itself, same_back}
 use Rattle.ft_table.proofs.Firsts.{order-found}

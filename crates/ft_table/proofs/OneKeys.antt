@@ -12,11 +12,11 @@ use Rattle.std.proofs.lemmas.List.Edits.{get_or-insert_below, get_or-insert_abov
 use Rattle.ft_maps.specs.Entries.{and_left, and_right, is_less}
 use Rattle.ft_hits.specs.declared.spot.Spot.{Spot}
 use Rattle.ft_fields.specs.declared.key.Part.{Part}
-use Rattle.ft_fields.specs.Parts.{key_cmp}
+use Rattle.ft_fields.specs.Parts.{key_cmp, same_key}
 use Rattle.ft_hits.specs.declared.mark.Mark.{Mark}
 use Rattle.ft_hits.specs.Spots.{traced, spot_cmp, spot_cmp_total}
 use Rattle.ft_hits.specs.Marks.{mark_cmp, mark_cmp_total}
-use Rattle.ft_hits.specs.Hits.{Hits, same_key, hits_of, least_key, first_place}
+use Rattle.ft_hits.specs.Hits.{Hits, hits_of, least_key, first_place}
 use Rattle.ft_table.specs.Tabled.{order_of}
 use Rattle.ft_table.specs.inner.Moves.{order_without}
 use Rattle.ft_table.specs.OneKey.{AreSameBut, LastGoesOut, FirstComesIn, OneOtherMoves}

@@ -6,7 +6,7 @@ use Rattle.std.specs.Cmp.{eq_by_cmp_equiv}
 use Rattle.std.proofs.lemmas.Bool.{false≢true}
 use Rattle.ft_fields.specs.Orders.{key_cmp_total}
 use Rattle.ft_fields.specs.declared.key.Part.{Part}
-use Rattle.ft_hits.specs.Hits.{same_key}
+use Rattle.ft_fields.specs.Parts.{same_key}
 use Rattle.ft_table.specs.OneKey.{FirstIsOut}
 use Rattle.ft_table.specs.Tabled.{order_of}
 use Rattle.ft_hits.specs.declared.mark.Mark.{Mark}

@@ -13,10 +13,11 @@ use Rattle.std.proofs.lemmas.Bool.Decides.{nat_tests}
 use Rattle.ft_hits.specs.declared.spot.Spot.{Spot}
 use Rattle.ft_hits.specs.Spots.{spot_cmp, spot_cmp_total, spot_same}
 use Rattle.ft_fields.specs.declared.key.Part.{Part}
+use Rattle.ft_fields.specs.Parts.{same_key}
 use Rattle.ft_hits.specs.declared.mark.Mark.{Mark}
 use Rattle.ft_hits.specs.Marks.{mark_cmp, mark_cmp_total}
 use Rattle.ft_table.specs.inner.Ascending.{IsRank}
-use Rattle.ft_hits.specs.Hits.{Hits, same_key, first_place}
+use Rattle.ft_hits.specs.Hits.{Hits, first_place}
 use Rattle.ft_table.specs.Tabled.{Tabled, is_first, first_hits, order_of, is_in}
 use Rattle.ft_table.specs.inner.Moves.{others, order_with}
 use Rattle.ft_table.specs.Admission.{IsFirstHit, FirstsAreFirst, earlier_firsts, IsAmongFirst, InByRank}
@@ -25,15 +26,11 @@ use Rattle.ft_table.proofs.Firsts.{get-first_hits, no_first, first_is_hit, order
 use Rattle.ft_table.proofs.Members.{in-without, in-with}
 use Rattle.ft_table.proofs.OneKeys.{first_least}
 use Rattle.ft_table.proofs.Sorted.{next_rank, rank-keys}
-use Rattle.ft_table.proofs.Tallies.{how_many, len-kept, first-listed}
+use Rattle.ft_table.proofs.Tallies.{how_many, len-kept, first-listed, not_none}
 
 some_is : {X : Type 0} (o : Option X) → is_some o ≡ true → (x : X) × (o ≡ Some x)
 some_is None is = cc
 some_is (Some x) is = (x, refl)
-
-not_none : {X : Type 0} (o : Option X) → is_some o ≡ true → o ≡ None → ⊥
-not_none None some none = cc
-not_none (Some x) some none = cc
 
 -- ---- first hits
 

@@ -50,7 +50,7 @@ greater-not-less Less e = absurd cc
 greater-not-less Equal e = refl
 greater-not-less Greater e = refl
 
-below : (r : Ordering) → is_lt (ordering_reverse r) ≡ false → is_eq r ≡ false → r ≡ Less
+pub below : (r : Ordering) → is_lt (ordering_reverse r) ≡ false → is_eq r ≡ false → r ≡ Less
 below Less up other = refl
 below Equal up other = absurd cc
 below Greater up other = absurd cc

@@ -3,9 +3,10 @@ use Rattle.std.proofs.Common.{◌≡◌, ℕ, true, false, List, refl, sym, ap, 
 use Rattle.std.specs.FinMap as map
 use Rattle.std.specs.FinMap.{get-empty, get-entries, same_map}
 use Rattle.ft_fields.specs.declared.key.Part.{Part}
+use Rattle.ft_fields.specs.Parts.{same_key}
 use Rattle.ft_hits.specs.declared.mark.Mark.{Mark}
 use Rattle.ft_hits.specs.Spots.{spot_cmp, spot_cmp_total, spot_same}
-use Rattle.ft_hits.specs.Hits.{Hits, EntryHits, TakesHits, same_key, hits_of, hitcount, least_key, first_place}
+use Rattle.ft_hits.specs.Hits.{Hits, EntryHits, TakesHits, hits_of, hitcount, least_key, first_place}
 use Rattle.ft_table.specs.Tabled.{order_of}
 use Rattle.ft_table.specs.Runs.{HasNone}
 use Rattle.ft_table.specs.inner.Moves.{order_without}

@@ -16,10 +16,11 @@ use Rattle.std.proofs.lemmas.List.Sums.{sum_by-cons, sum_by-take-drop}
 use Rattle.ft_hits.specs.declared.spot.Spot.{Spot}
 use Rattle.ft_hits.specs.Spots.{spot_cmp, spot_same}
 use Rattle.ft_fields.specs.declared.key.Part.{Part}
+use Rattle.ft_fields.specs.Parts.{same_key}
 use Rattle.ft_hits.specs.declared.mark.Mark.{Mark}
 use Rattle.ft_hits.specs.Marks.{mark_cmp, mark_cmp_total, mark_same}
 use Rattle.ft_table.specs.inner.Ascending.{IsRank}
-use Rattle.ft_hits.specs.Hits.{Hits, same_key, hits_of, hitcount, first_place}
+use Rattle.ft_hits.specs.Hits.{Hits, hits_of, hitcount, first_place}
 use Rattle.ft_table.specs.Tabled.{is_first, first_hits, order_of, keys_in, keys_out, is_in}
 use Rattle.ft_table.specs.inner.Moves.{others, order_with}
 use Rattle.ft_table.specs.Admission.{AllCount, InsideCount, OutsideDrop, WholeCount}
@@ -152,7 +153,7 @@ pub sum-map : {X Y : Type 0} (f : Y → ℕ) (g : X → Y) (xs : List X) → sum
 sum-map f g [] = refl
 sum-map f g (x ∷ xs) = sum_by-cons f (g x) (list_map g xs) ∙ ap (λ n. f (g x) + n) (sum-map f g xs) ∙ sym (sum_by-cons (λ x. f (g x)) x xs)
 
-not_none : {X : Type 0} (o : Option X) → is_some o ≡ true → o ≡ None → ⊥
+pub not_none : {X : Type 0} (o : Option X) → is_some o ≡ true → o ≡ None → ⊥
 not_none None some none = cc
 not_none (Some x) some none = cc
 

@@ -6,9 +6,10 @@ use Rattle.std.specs.FinMap as map
 use Rattle.ft_hits.specs.declared.spot.Spot.{Spot}
 use Rattle.ft_hits.specs.Spots.{spot_cmp}
 use Rattle.ft_fields.specs.declared.key.Part.{Part}
+use Rattle.ft_fields.specs.Parts.{same_key}
 use Rattle.ft_hits.specs.declared.mark.Mark.{Mark}
 use Rattle.ft_hits.specs.Marks.{mark_cmp}
-use Rattle.ft_hits.specs.Hits.{Hits, same_key, hitcount}
+use Rattle.ft_hits.specs.Hits.{Hits, hitcount}
 use Rattle.ft_table.specs.Tabled.{Tabled, first_hits, is_in}
 use Rattle.ft_table.specs.Rows.{totals_of}
 

@@ -3,10 +3,11 @@ use Rattle.std.specs.Prelude.{◌≡◌, ℕ, ◌+◌, ◌%◌, ◌^◌, ℤ, Li
 use Rattle.std.specs.declared.cmp.Ordering.TheVariants.{Less}
 use Rattle.std.specs.FinMap as map
 use Rattle.ft_fields.specs.declared.key.Part.{Part}
+use Rattle.ft_fields.specs.Parts.{same_key}
 use Rattle.ft_hits.specs.declared.mark.Mark.{Mark}
 use Rattle.ft_table.specs.Counted.{Counted}
 use Rattle.ft_hits.specs.Marks.{mark_cmp}
-use Rattle.ft_hits.specs.Hits.{Hits, same_key, unsigned_at}
+use Rattle.ft_hits.specs.Hits.{Hits, unsigned_at}
 use Rattle.ft_table.specs.Tabled.{Tabled, keys_in, is_in}
 use Rattle.ft_table.specs.Rows.{row_at, totals_of}
 

@@ -6,8 +6,9 @@ use Rattle.std.specs.Ordering.{eq_by_cmp}
 use Rattle.std.specs.FinMap as map
 use Rattle.ft_hits.specs.Spots.{spot_cmp}
 use Rattle.ft_fields.specs.declared.key.Part.{Part}
+use Rattle.ft_fields.specs.Parts.{same_key}
 use Rattle.ft_hits.specs.declared.mark.Mark.{Mark}
-use Rattle.ft_hits.specs.Hits.{Hits, same_key, first_place}
+use Rattle.ft_hits.specs.Hits.{Hits, first_place}
 
 -- whether a hit is the first of its key
 abbrev pub is_first : Hits → Mark → Bool

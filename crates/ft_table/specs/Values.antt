@@ -9,14 +9,14 @@ use Rattle.ft_fields.specs.declared.pos.Pos.{Pos}
 use Rattle.ft_hist.specs.Hist.{Hist}
 use Rattle.ft_hist.specs.Values.{values_of}
 
--- the value of a trigger's own variable, in microseconds: the stamp that it saves, or the time since the stamp that it read (kernel: histogram.rst, `common_timestamp.usecs`)
-abbrev pub own_value : Pos → Option Pos → ℤ
-own_value at None = whole at.stamp
-own_value at (Some saved) = whole (at.stamp - saved.stamp)
+-- the value of a trigger's own variable at a stamp, in microseconds: the stamp, which it saves, or the time since the stamp that it read (kernel: histogram.rst, `common_timestamp.usecs`)
+abbrev pub own_value : ℕ → Option Pos → ℤ
+own_value stamp None = whole stamp
+own_value stamp (Some saved) = whole (stamp - saved.stamp)
 
 -- what a trigger's hit adds to its sums (kernel: histogram.rst, `values`)
 abbrev pub values_at : Hist → Pos → Traced → Option Pos → List ℤ
-values_at hist at event saved = values_of hist event (own_value at saved)
+values_at hist at event saved = values_of hist event (own_value at.stamp saved)
 
 -- what hits add to sums, by the trigger's id
 abbrev pub ValuesBy : Type 0

@@ -56,6 +56,8 @@
 //!   contracts see the key and the text's bytes (`specs/Keyed.antt`); the text of one key's row, or
 //!   none where the key isn't in. Let through: running out of memory at any time.
 //! - `hit_with`: the hit of a trigger at an event, with its values (`specs/Values.antt`); exact.
+//! - `own_value`: the value of a trigger's own variable at an event's stamp, by what was read
+//!   (`specs/Values.antt`); exact. Requires a stamp that an event can have.
 //! - `sort_rows`: rows of different keys, in order (`specs/Sorting.antt`); exact.
 //! - `write_heading`, `write_rows`: the lines above the rows, with the trigger's canonical text, and
 //!   the text of rows and totals, are added (`specs/Text.antt`). Let through: running out of memory
@@ -99,4 +101,4 @@ pub use row::{Row, TableRow, Totals};
 pub use sorting::sort_rows;
 pub use table::{Edge, Table};
 pub use text::{row_text, table_rows, write_heading, write_rows};
-pub use values::hit_with;
+pub use values::{hit_with, own_value};

@@ -54,8 +54,8 @@ impl Model for Table {
 impl Table {
     ghost use Rattle.std.specs.Prelude.{None, take};
     ghost use Rattle.std.specs.List.{list_any};
+    ghost use Rattle.ft_fields.specs.Parts.{same_key};
     ghost use Rattle.ft_table.specs.Growth.{with_hit};
-    ghost use Rattle.ft_hits.specs.Hits.{same_key};
     ghost use Rattle.ft_table.specs.OneKey.{without_hit};
     ghost use Rattle.ft_hits.specs.Hits.{hit_after};
     ghost use Rattle.ft_table.specs.Rows.{row_at, rows_of, totals_of};

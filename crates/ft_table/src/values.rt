@@ -1,7 +1,7 @@
 //! What a hit adds to its trigger's sums.
 
-ghost use Rattle.std.specs.Prelude.{◌≡◌};
-ghost use Rattle.ft_fields.specs.declared.pos.Pos.{Pos};
+ghost use Rattle.std.specs.Prelude.{◌≡◌, ◌≤◌};
+ghost use Rattle.ft_fields.specs.Traced.{last_stamp};
 ghost use Rattle.ft_table.specs.Values.{own_value, values_at};
 
 use ft_fields::{Event, Pos};
@@ -18,7 +18,7 @@ pub fn hit_with(trigger: &Trigger, event: &Event, spot: Spot, key: Key, read: Op
       values = values_at trigger.now spot.pos event.now read;
     } }
 {
-    let own = own_value(event, read);
+    let own = own_value(event.stamp, read);
     Hit {
         spot,
         key,
@@ -26,12 +26,12 @@ pub fn hit_with(trigger: &Trigger, event: &Event, spot: Spot, key: Key, read: Op
     }
 }
 
-/// The value of a trigger's own variable at an event, in microseconds: the stamp, or the time
-/// since the stamp of the saving that was read; 0 if the saving is later.
-fn own_value(event: &Event, read: Option<Pos>) -> i64
-    ensures { (pos : Pos) → pos.stamp ≡ event.now.stamp → result ≡ own_value pos read }
+/// The value of a trigger's own variable at an event's stamp, in microseconds: the stamp, or the
+/// time since the stamp of the saving that was read; 0 if the saving is later.
+pub fn own_value(stamp: u64, read: Option<Pos>) -> i64
+    requires { stamp ≤ last_stamp }
+    ensures { result ≡ own_value stamp read }
 {
-    let stamp = event.stamp;
     match read {
         None => stamp as i64,
         Some(saved) => stamp.saturating_sub(saved.stamp) as i64,

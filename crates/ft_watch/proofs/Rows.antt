@@ -10,7 +10,7 @@ use Rattle.std.specs.Cmp.{eq_by_cmp_equiv}
 use Rattle.std.specs.FinMap as finite
 use Rattle.std.specs.FinMap.{FinMap, find, get-insert, get-remove, get-from_entries, get-entries, entries_sorted, same_map}
 use Rattle.std.specs.FinMap.Entries.{is_sorted, below_all}
-use Rattle.std.proofs.lemmas.Bool.{true≢false, eqb-true}
+use Rattle.std.proofs.lemmas.Bool.{true≢false, eqb-true, or_right}
 use Rattle.std.proofs.Math.Bool.{or-false}
 use Rattle.std.proofs.Math.Seq.{drop-cons}
 use Rattle.ft_changes.specs.declared.changed.Changed.{Changed}
@@ -20,7 +20,7 @@ use Rattle.ft_fields.specs.Parts.{key_cmp}
 use Rattle.ft_fields.specs.Orders.{key_cmp_total}
 use Rattle.ft_fields.specs.Ties.{key_same}
 use Rattle.ft_maps.specs.Entries.{same_from_tie}
-use Rattle.ft_watch.specs.ChangedRows.{Texts, signed_line, is_same_row, change_lines, differs, key_lines, changed_keys, table_lines, both_keys}
+use Rattle.ft_watch.specs.ChangedRows.{Texts, signed_line, is_same_row, change_lines, differs, key_lines}
 use Rattle.ft_watch.specs.inner.Told.{ChangedLines, with_row, with_table, with_text, AreAmong}
 use Rattle.ft_watch.proofs.Same.{same_keys}
 
@@ -211,10 +211,6 @@ rows_at_last {X = X} id before now es told all none so_far = sym (ap (λ (l : Li
 abbrev pub Keys : Type 0
 Keys = FinMap key_cmp (Unit {0})
 
-or_true : (b : Bool) → (b || true) ≡ true
-or_true true = refl
-or_true false = refl
-
 module _ {X : Type 0} where
   -- a key that is put in is among those that are there, and no more among those that are left
   pub key_moves : (keys new : Keys) (e : List Part × X) (es rest : List (List Part × X)) → es ≡ e ∷ rest → new ≡ finite.insert keys e.0 tt
@@ -226,7 +222,7 @@ module _ {X : Type 0} where
       ∙ ap (λ (l : List (List Part × X)). is_some (finite.get keys q) || is_some (find key_cmp q l)) (sym first)
     where
       by : (b : Bool) (o : Option (Unit {0})) → (is_some (cond b (Some tt) o) || is_some (find key_cmp q rest)) ≡ (is_some o || is_some (cond b (Some e.1) (find key_cmp q rest)))
-      by true o = sym (or_true (is_some o))
+      by true o = sym (or_right (is_some o) true refl)
       by false o = refl
 
   -- where none is left, all are there
@@ -251,7 +247,7 @@ module _ (keys new : Keys) (rows : List Changed) (i id : ℕ) (row : Changed) (w
       ∙ ap (λ (l : List Changed). is_some (finite.get keys q) || is_reported l id q) (sym (row_of rows i row within is))
     where
       by : (b : Bool) (o : Option (Unit {0})) → (is_some (cond b (Some tt) o) || is_reported (drop (i + 1) rows) id q) ≡ (is_some o || ((true && b) || is_reported (drop (i + 1) rows) id q))
-      by true o = sym (or_true (is_some o))
+      by true o = sym (or_right (is_some o) true refl)
       by false o = refl
 
   pub others_stay : nat_eq id row.id ≡ false → (q : List Part) → (is_some (finite.get keys q) || is_reported (drop (i + 1) rows) id q) ≡ (is_some (finite.get keys q) || is_reported (drop i rows) id q)

@@ -1,13 +1,13 @@
 -- What tables show of a base, and which rows stay.
 use Rattle.std.proofs.Common.{◌≡◌, ℕ, ◌+◌, Bool, true, false, cond, List, [], ◌∷◌, ◌++◌, length, refl, sym, ap, subst, ◌∙◌, Option, Some, None, Result, Ok, Err, IfSome, map, fold, Vec, Global, append-nil, append_assoc}
 use Rattle.std.specs.Prelude.{is_some, option_map, unwrap_or}
-use Rattle.std.specs.List.{flat_map, sum_by, AllByRecursion}
+use Rattle.std.specs.List.{flat_map, AllByRecursion}
 use Rattle.std.specs.List.Sorted.{IsStrictlySortedBy}
 use Rattle.std.specs.Map.{keys_of}
 use Rattle.std.specs.Option.{option_map_or}
 use Rattle.std.specs.Result.{is_err}
 use Rattle.std.specs.Ordering.{nat_cmp, eq_by_cmp}
-use Rattle.std.specs.Cmp.{nat_cmp_total, eq_by_cmp_equiv}
+use Rattle.std.specs.Cmp.{nat_cmp_total}
 use Rattle.std.specs.FinMap as finite
 use Rattle.std.specs.FinMap.{FinMap, find, get-empty, get-insert, get-from_entries, get-entries, entries_sorted, same_map, nat_cmp-IsAntisymmetric}
 use Rattle.std.proofs.lemmas.Bool.{true≢false}
@@ -16,6 +16,7 @@ use Rattle.ft_fields.specs.Parts.{key_cmp}
 use Rattle.ft_fields.specs.Orders.{key_cmp_total}
 use Rattle.ft_hist.specs.Hist.{Hist}
 use Rattle.ft_maps.specs.Entries.{same_from_tie, strictly_sorted, entries-from_entries}
+use Rattle.ft_maps.proofs.Common.{all_map}
 use Rattle.ft_table.specs.Keyed.{KeyedText}
 use Rattle.ft_table.specs.Text.{row_text}
 use Rattle.ft_changes.specs.declared.changed.Changed.{Changed}
@@ -83,13 +84,9 @@ module _ (among : RowIsAmong) (base : Base) (id : ℕ) where
 
 -- ---- all tables
 
-all_weaker : {X : Type 0} (P Q : X → Type 0) → ((x : X) → P x → Q x) → (xs : List X) → AllByRecursion P xs → AllByRecursion Q xs
-all_weaker P Q weaker [] all = tt
-all_weaker P Q weaker (x ∷ xs) all = (weaker x all.0, all_weaker P Q weaker xs all.1)
-
 -- what holds of whatever a map has holds of its entries
 pub all_entries : {X : Type 0} (P : ℕ × X → Type 0) (m : FinMap nat_cmp X) → ((e : ℕ × X) → finite.get m e.0 ≡ Some e.1 → P e) → AllByRecursion P (finite.entries m)
-all_entries P m holds = all_weaker (λ e. finite.get m e.0 ≡ Some e.1) P holds (finite.entries m) (entries_found nat_cmp nat_cmp_total m)
+all_entries P m holds = all_map (λ e. finite.get m e.0 ≡ Some e.1) P holds (finite.entries m) (entries_found nat_cmp nat_cmp_total m)
 
 -- what a base's triggers show, by id
 abbrev shown_list : Base → List (ℕ × Hist) → List (ℕ × Texts)

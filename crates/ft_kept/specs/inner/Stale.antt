@@ -1,25 +1,19 @@
 -- Which readings a change of operations may have made wrong.
-use Rattle.std.specs.Prelude.{ℕ, Bool, true, false, ◌&&◌, not, List, Option, Some}
+use Rattle.std.specs.Prelude.{ℕ, Bool, false, ◌&&◌, not, List, Option, Some}
 use Rattle.std.specs.Option.{option_map_or}
 use Rattle.std.specs.Ordering.{is_lt}
 use Rattle.ft_fields.specs.Traced.{Traced}
 use Rattle.ft_fields.specs.declared.key.Part.{Part}
 use Rattle.ft_pairs.specs.Edits.{same_at}
 use Rattle.ft_pairs.specs.Order.{at_cmp}
-use Rattle.ft_pairs.specs.Source.{Ops}
+use Rattle.ft_pairs.specs.Source.{Ops, is_read}
 use Rattle.ft_pairs.specs.declared.at.At.{At}
 use Rattle.ft_pairs.specs.declared.at.Op.{Op}
-use Rattle.ft_pairs.specs.declared.at.Op.TheVariants.{Save, Read}
 use Rattle.ft_pairs.specs.Roles.{Admits}
 use Rattle.ft_pairs.specs.declared.role.Role.{Role}
 use Rattle.ft_pairs.specs.declared.role.Role.TheVariants.{Reads}
 use Rattle.ft_shelves.specs.Switches.{differ}
 use Rattle.ft_kept.specs.Acts.{Acts}
-
--- an operation is a read
-abbrev pub is_read : Op → Bool
-is_read Save = false
-is_read Read = true
 
 -- a read stands at a place
 abbrev pub reads_at : Ops → At → Bool

@@ -5,7 +5,7 @@ ghost use Rattle.std.specs.Prelude.{◌≡◌, ◌≤◌, IfOk};
 use crate::holds::holds;
 use ft_event::{Body, Comm, Event, Field, Name, Pos, Wake};
 use ft_hist::{Item, Key, KeyItem, Mode, Part, SortBy, SortItem, Trigger, TriggerParts};
-use ft_table::{Spot, hit_with};
+use ft_table::{Spot, hit_with, own_value};
 use std::alloc::{AllocError, Global};
 use std::test::*;
 
@@ -78,4 +78,11 @@ fn is_hit(trigger: &Trigger) -> bool {
 #[test]
 fn a_hit_has_its_events_values(rt: HostRuntime) {
     assert!(rt; holds(by_pid(rt.alloc()), is_hit));
+}
+
+#[test]
+fn own_variable_is_a_stamp_or_the_time_since_one(rt: HostRuntime) {
+    assert!(rt; own_value(1_000_100, None) == 1_000_100);
+    assert!(rt; own_value(1_000_100, Some(at(1_000_000))) == 100);
+    assert!(rt; own_value(1_000_000, Some(at(1_000_100))) == 0);
 }

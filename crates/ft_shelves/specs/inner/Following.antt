@@ -2,12 +2,12 @@
 use Rattle.std.specs.Prelude.{◌≡◌, ◌==◌, ◌&&◌, ℕ, Bool, false, not, List, Option, if◌then◌else◌}
 use Rattle.std.specs.Option.{option_map_or}
 use Rattle.ft_fields.specs.declared.key.Part.{Part}
+use Rattle.ft_fields.specs.Parts.{same_key}
 use Rattle.ft_pairs.specs.ByKey.{ops_of}
 use Rattle.ft_pairs.specs.Edits.{with_op}
 use Rattle.ft_pairs.specs.Source.{Ops}
 use Rattle.ft_pairs.specs.declared.at.At.{At}
 use Rattle.ft_pairs.specs.declared.at.Op.TheVariants.{Save}
-use Rattle.ft_table.specs.Hits.{same_key}
 use Rattle.ft_table.specs.Tabled.{Tabled, is_in, first_out, last_in}
 use Rattle.ft_hits.specs.declared.spot.Spot.{Spot}
 use Rattle.ft_shelves.specs.Changes.{with_change}

@@ -3,8 +3,9 @@ use Rattle.std.specs.Prelude.{ℕ, ◌-◌, ◌+◌, not, List, [], Option, Some
 use Rattle.std.specs.FinMap as map
 use Rattle.ft_hits.specs.declared.spot.Spot.{Spot}
 use Rattle.ft_fields.specs.declared.key.Part.{Part}
+use Rattle.ft_fields.specs.Parts.{same_key}
 use Rattle.ft_hits.specs.declared.mark.Mark.{Mark}
-use Rattle.ft_hits.specs.Hits.{Hits, same_key}
+use Rattle.ft_hits.specs.Hits.{Hits}
 use Rattle.ft_table.specs.Tabled.{first_hits}
 
 -- the first hits of all keys but one

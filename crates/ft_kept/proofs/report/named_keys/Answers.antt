@@ -1,6 +1,6 @@
 use Rattle.std.proofs.Common.{sym, ◌∙◌, subst}
 use Rattle.std.specs.List.{IsDistinct}
-use Rattle.ft_table.specs.Hits.{same_key}
+use Rattle.ft_fields.specs.Parts.{same_key}
 use Rattle.ft_kept.proofs.Once.{each_distinct}
 use Rattle.ft_kept.proofs.report.named_keys.Goals as goal
 

@@ -3,6 +3,7 @@ use Rattle.std.proofs.Common.{◌≡◌, ◌+◌, true, false, cond, List, [], d
 use Rattle.std.specs.FinMap as map
 use Rattle.std.specs.FinMap.{get-empty}
 use Rattle.std.proofs.lemmas.List.{drop_all}
+use Rattle.ft_maps.proofs.Common.{cond_same}
 use Rattle.ft_groups.specs.Grouped.{run_of}
 use Rattle.ft_fields.specs.Orders.{key_cmp_total}
 use Rattle.ft_fields.specs.Ties.{key_same}
@@ -15,7 +16,6 @@ use Rattle.ft_shelves.specs.Counts.{TestsNone}
 use Rattle.ft_shelves.proofs.Counted.{tests_none}
 use Rattle.ft_shelves.proofs.Listed.{listed_saves}
 use Rattle.ft_shelves.proofs.Decided.{itself, untied}
-use Rattle.ft_shelves.proofs.Finding.{none_both}
 use Rattle.ft_shelves.proofs.KeyByKey.{IsOnce, IsPut, first_key, keys_once, no_run, put_free, put_more, put_none}
 use Rattle.ft_shelves.proofs.joining.save_groups.Goals as goal
 use Rattle.ft_shelves.proofs.joining.save_groups.Goals.{then-is_in+in_ok-run+in_ok-put_key, else-is_in}
@@ -32,7 +32,7 @@ loop-key-init c =
           (λ key at none.
           ap (λ run. cond (is_in table key) (map.get (map.from_entries {R = at_cmp} (saves_of_run id run)) at) None) (no_run hist groups c.requires.grouped key none)
           ∙ ap (λ o. cond (is_in table key) o None) (get-empty at_cmp at)
-          ∙ none_both (is_in table key)));
+          ∙ cond_same (is_in table key) None));
       once = subst IsOnce (sym c.keys-key-items.ensures) (keys_once hist groups c.requires.grouped);
       work = tests_none c.args.work.now;
     }

@@ -1,11 +1,12 @@
 -- Each way through is a case of `after_attach` at the board's view.
 use Rattle.std.proofs.Common.{◌≡◌, ◌+◌, ◌<◌, refl, sym, ap, subst, ◌∙◌, inr, None, Ok, arith}
 use Rattle.std.specs.FinMap as map
+use Rattle.ft_lanes.proofs.Views.{at_ok}
 use Rattle.ft_base.specs.contracts.content.Content.{the_view}
 use Rattle.ft_base.specs.Base.{Base, trigger_limit}
 use Rattle.ft_base.specs.OneTrigger.{JoinsAs}
 use Rattle.ft_base.specs.After.{after_attach, variable_refused}
-use Rattle.ft_base.proofs.After.{at_ok, at_err, attach-many, attach-high, attach-against, attach-ok}
+use Rattle.ft_base.proofs.After.{at_err, attach-many, attach-high, attach-against, attach-ok}
 use Rattle.ft_base.proofs.Attaching.{attach-IsReachable}
 use Rattle.ft_base.proofs.Unread.{attached_joins}
 use Rattle.ft_base.proofs.content.Content.attach.Goals as goal

@@ -4,8 +4,9 @@ use Rattle.ft_base.specs.contracts.content.Content.{the_view}
 use Rattle.ft_base.specs.declared.refused.Refused.TheVariants.{LaneHeld}
 use Rattle.ft_lanes.specs.Held.{event_limit, held_in}
 use Rattle.ft_lanes.specs.Loaded.{with_lanes}
+use Rattle.ft_lanes.proofs.Views.{at_ok}
 use Rattle.ft_base.specs.After.{after_load}
-use Rattle.ft_base.proofs.After.{at_ok, load-held, load-full, load-ok}
+use Rattle.ft_base.proofs.After.{load-held, load-full, load-ok}
 use Rattle.ft_base.proofs.Reachable.{load-IsReachable}
 use Rattle.ft_base.proofs.content.Content.load.Goals as goal
 

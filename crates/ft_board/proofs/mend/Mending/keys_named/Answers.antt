@@ -1,7 +1,7 @@
 use Rattle.std.proofs.Common.{List, sym, subst, ◌∙◌}
 use Rattle.std.specs.List.{IsDistinct}
 use Rattle.ft_fields.specs.declared.key.Part.{Part}
-use Rattle.ft_table.specs.Hits.{same_key}
+use Rattle.ft_fields.specs.Parts.{same_key}
 use Rattle.ft_kept.proofs.Once.{each_distinct}
 use Rattle.ft_board.proofs.mend.Mending.keys_named.Goals as goal
 

@@ -13,7 +13,7 @@ use Rattle.ft_hits.specs.declared.spot.Spot.{Spot}
 use Rattle.ft_hits.specs.Spots.{spot_cmp, spot_cmp_total}
 use Rattle.ft_hits.specs.Hits.{first_entry, is_after}
 use Rattle.ft_maps.specs.Seen.{entries-seen}
-use Rattle.ft_hits.proofs.Flat.{true_and}
+use Rattle.ft_maps.proofs.Common.{and_true}
 use Rattle.ft_hits.proofs.series.Series.after.Goals as goal
 use Rattle.ft_hits.proofs.series.Series.after.Goals.{in-None, in-Some}
 
@@ -21,7 +21,7 @@ behind_none : (from : Bound Spot) (place : Option Spot) → from ≡ Unbounded �
 behind_none from place e f q = ap (λ b. range_contains spot_cmp b Unbounded q) e ∙ ap (λ p. is_after p q) (sym f)
 
 behind_some : (from : Bound Spot) (place : Option Spot) (a : Spot) → from ≡ Excluded a → place ≡ Some a → (q : Spot) → range_contains spot_cmp from Unbounded q ≡ is_after place q
-behind_some from place a e f q = ap (λ b. range_contains spot_cmp b Unbounded q) e ∙ true_and (is_lt (spot_cmp a q)) ∙ ap (λ p. is_after p q) (sym f)
+behind_some from place a e f q = ap (λ b. range_contains spot_cmp b Unbounded q) e ∙ and_true (is_lt (spot_cmp a q)) ∙ ap (λ p. is_after p q) (sym f)
 
 same_filter : (p q : Spot → Bool) → ((x : Spot) → p x ≡ q x) → (es : List (Spot × List ℤ)) → filter (λ e. p e.0) es ≡ filter (λ e. q e.0) es
 same_filter p q h es = ap (λ (f : Spot → Bool). filter (λ (e : Spot × List ℤ). f e.0) es) (λ i x. h x i)

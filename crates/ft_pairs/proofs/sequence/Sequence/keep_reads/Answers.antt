@@ -1,5 +1,5 @@
 -- What `retain` leaves are the entries that are reads.
-use Rattle.std.proofs.Common.{◌≡◌, rules, Bool, true, false, refl, sym, ap, ◌∙◌, Some, None, Option}
+use Rattle.std.proofs.Common.{◌≡◌, rules, refl, sym, ap, ◌∙◌, Some, None, Option}
 use Rattle.std.specs.List.{filter}
 use Rattle.std.specs.Map.{lookup}
 use Rattle.std.specs.BTreeMap as tree
@@ -15,10 +15,7 @@ use Rattle.ft_pairs.specs.Order.{at_cmp, at_cmp_total}
 use Rattle.ft_pairs.specs.ByKey.{KeyOps}
 use Rattle.ft_pairs.specs.Edits.{if_read, same_at}
 use Rattle.ft_pairs.proofs.sequence.Sequence.keep_reads.Goals as goal
-
-abbrev is_read : Op → Bool
-is_read Save = false
-is_read Read = true
+use Rattle.ft_pairs.specs.Source.{is_read}
 
 reads : (o : Option Op) → option_filter is_read o ≡ if_read o
 reads None = refl

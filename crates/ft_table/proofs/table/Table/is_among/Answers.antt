@@ -1,7 +1,7 @@
 use Rattle.std.proofs.Common.{List, take, map as list_map, sym, ap, ◌∙◌}
 use Rattle.std.specs.List.{list_any}
+use Rattle.ft_fields.specs.Parts.{same_key}
 use Rattle.ft_hits.specs.declared.mark.Mark.{Mark}
-use Rattle.ft_hits.specs.Hits.{same_key}
 use Rattle.ft_table.specs.Tabled.{Tabled, order_of}
 use Rattle.ft_hits.proofs.Flat.{mark}
 use Rattle.ft_table.proofs.Firsts.{order-rises, order-rank, order-none, order-some}
