@@ -491,7 +491,7 @@ class Processes(Case):
         subprocess.run([sys.executable, "-B", "-c", text], env=environment, stderr=secondary, check=True)
         os.close(secondary)
         told = os.read(primary, 4096).decode()
-        self.assertRegex(told, r"\rhistdesk: 3 of 4 recordings, about 0 s left\x1b\[K")
+        self.assertRegex(told, r"\rhistdesk: 3 of 4 recordings, about [0-9]+ s left\x1b\[K")
         self.assertTrue(told.endswith("\r\x1b[K"))
         quiet = subprocess.run([sys.executable, "-B", "-c", text], env=environment, stderr=subprocess.PIPE, check=True)
         self.assertEqual(quiet.stderr, b"")
