@@ -1,5 +1,5 @@
--- The steps of a run: what taking a part of the script, a line of it, and the flush at its end do to the bytes that are left and written. All of it is our own choice.
-use Rattle.std.specs.Prelude.{◌≡◌, ◌≢◌, ℕ, ◌+◌, ◌<◌, ◌⊎◌, Bool, List, [], ◌∷◌, ◌++◌, All, length, take, slice_index, Option, IfSome, Result, Ok, Err}
+-- The steps of a run: what taking a part of the script and a line of it do to the bytes that are left and written, and how often a run calls its reader and its writer. All of it is our own choice.
+use Rattle.std.specs.Prelude.{◌≡◌, ◌≢◌, ℕ, ◌+◌, ◌⊎◌, Bool, List, [], ◌∷◌, ◌++◌, All, take, Option, IfSome, Result, Ok, Err}
 use Rattle.std.specs.Io.KnownBytes.{Keeps, Appends, Consumes, IsAtEnd}
 use Rattle.ft_desk.specs.declared.pieces.Taken.{Taken}
 use Rattle.ft_desk.specs.declared.pieces.Taken.TheVariants as takes
@@ -8,16 +8,9 @@ use Rattle.ft_desk.specs.declared.running.RunFault.{RunFault}
 use Rattle.ft_desk.specs.declared.running.RunFault.TheVariants as faults
 use Rattle.ft_answers.specs.Base.{Base}
 use Rattle.ft_script.specs.Script.{line_limit}
-use Rattle.ft_desk.specs.Output.{Outcome}
+use Rattle.ft_desk.specs.Output.{Meaning, Outcome}
 use Rattle.ft_desk.specs.Counts.{Counts}
-use Rattle.ft_desk.specs.declared.calls.RunCalls.{RunCalls}
-use Rattle.ft_desk.specs.Run.{asking_limit, BreaksOff}
-
--- a line's end stands at this place, or the bytes end there
-abbrev pub CutsAt : Taken → List ℕ → ℕ → Type 0
-CutsAt takes.Part shown place = place ≡ length shown
-CutsAt takes.Line shown place = (place < length shown) × (slice_index shown place ≡ 10)
-CutsAt takes.End shown place = ⊥
+use Rattle.ft_desk.specs.Run.{asking_limit, BreaksOff, EndsWhole, EndsAtCommand, EndsInLine, EndsAtReader, EndsAtWriter, EndsAtFlush}
 
 -- the part after the piece, of which as many bytes are kept as a command may have, and one more
 abbrev pub AddsPart : List ℕ → List ℕ → List ℕ → Type 0
@@ -41,10 +34,17 @@ LineGives line base before after (Err faults.Read) = ⊥
 
 -- how many failures of the reader an answer tells of
 abbrev pub read_failures : {T : Type 0} → Result T RunFault → ℕ
-read_failures (Ok taken) = 0
+read_failures (Ok done) = 0
 read_failures (Err faults.Read) = 1
 read_failures (Err faults.Memory) = 0
 read_failures (Err faults.Write) = 0
+
+-- and how many of the writer
+abbrev pub write_failures : {T : Type 0} → Result T RunFault → ℕ
+write_failures (Ok done) = 0
+write_failures (Err faults.Write) = 1
+write_failures (Err faults.Memory) = 0
+write_failures (Err faults.Read) = 0
 
 -- how often the reader was asked, by how a run ended: it failed once where the answer is `Read`, or had given no end in as many turns as it has; else it never failed
 abbrev pub AsksReader : Result Status RunFault → Counts → Type 0
@@ -53,28 +53,32 @@ AsksReader (Err faults.Read) asked = (asked.failed ≡ 1) ⊎ ((asked.failed ≡
 AsksReader (Err faults.Memory) asked = asked.failed ≡ 0
 AsksReader (Err faults.Write) asked = asked.failed ≡ 0
 
--- how many failures an answer is
-abbrev pub failures_of : {T E : Type 0} → Result T E → ℕ
-failures_of (Ok done) = 0
-failures_of (Err error) = 1
+-- a write failed, which is the one that did, and there was no flush
+abbrev pub FailsInWrite : Counts → Counts → Type 0
+FailsInWrite written flushed = (written.failed ≡ 1) × (flushed.made ≡ 0)
 
--- what the flush at the end makes of an answer: there is one, but none after a failed write, and where it fails it spoils an `Ok` alone
+-- no write failed, and there was one flush
+abbrev pub FlushesOnce : Counts → Counts → Type 0
+FlushesOnce written flushed = (written.failed ≡ 0) × (flushed.made ≡ 1)
+
+-- the calls of the writer, by how a run ended: `Write` is answered where a write failed, in the text of the last line that was read, or where the flush after the whole output failed
+abbrev pub CallsWriter : Meaning → Result Status RunFault → Counts → Counts → Option (List ℕ) → Option (List ℕ) → Option (List ℕ) → Option (List ℕ) → Type 0
+CallsWriter means (Ok status) written flushed reader rest before after = FlushesOnce written flushed × (flushed.failed ≡ 0)
+CallsWriter means (Err faults.Memory) written flushed reader rest before after = FlushesOnce written flushed
+CallsWriter means (Err faults.Read) written flushed reader rest before after = FlushesOnce written flushed
+CallsWriter means (Err faults.Write) written flushed reader rest before after =
+    (FailsInWrite written flushed × EndsAtWriter means reader rest before after) ⊎ (FlushesOnce written flushed × (flushed.failed ≡ 1) × EndsAtFlush means reader rest before after)
+
+-- what was read and written, by how the lines of a script ended: as a run, but no flush has failed yet
+abbrev pub LinesEnd : Meaning → Result Status RunFault → Option (List ℕ) → Option (List ℕ) → Option (List ℕ) → Option (List ℕ) → Type 0
+LinesEnd means (Ok status) reader rest before after = EndsWhole means status reader rest before after
+LinesEnd means (Err faults.Memory) reader rest before after = EndsAtCommand means reader rest before after ⊎ EndsInLine means reader rest before after
+LinesEnd means (Err faults.Read) reader rest before after = EndsAtReader means reader rest before after
+LinesEnd means (Err faults.Write) reader rest before after = EndsAtWriter means reader rest before after
+
+-- what the flush makes of an answer: there is one, but none after a failed write, and where it fails it spoils an `Ok` alone
 abbrev pub FlushGives : Result Status RunFault → Result Status RunFault → Counts → Type 0
 FlushGives (Ok status) result flushed = (flushed.made ≡ 1) × (((result ≡ Ok status) × (flushed.failed ≡ 0)) ⊎ ((result ≡ Err faults.Write) × (flushed.failed ≡ 1)))
 FlushGives (Err faults.Memory) result flushed = (flushed.made ≡ 1) × (result ≡ Err faults.Memory)
 FlushGives (Err faults.Read) result flushed = (flushed.made ≡ 1) × (result ≡ Err faults.Read)
 FlushGives (Err faults.Write) result flushed = (flushed.made ≡ 0) × (result ≡ Err faults.Write)
-
--- how often the writer was flushed, by how a run ended: once, but not after a failed write
-abbrev pub FlushesOnce : Result Status RunFault → Counts → Type 0
-FlushesOnce (Ok status) flushed = (flushed.made ≡ 1) × (flushed.failed ≡ 0)
-FlushesOnce (Err faults.Memory) flushed = flushed.made ≡ 1
-FlushesOnce (Err faults.Read) flushed = flushed.made ≡ 1
-FlushesOnce (Err faults.Write) flushed = (flushed.made ≡ 0) ⊎ ((flushed.made ≡ 1) × (flushed.failed ≡ 1))
-
--- a run has not called yet: neither asked its reader nor flushed its writer
-pub record NoCalls (calls : RunCalls) : Type 0 where
-  pub unasked : calls.asked.made ≡ 0
-  pub well : calls.asked.failed ≡ 0
-  pub unflushed : calls.flushed.made ≡ 0
-  pub sound : calls.flushed.failed ≡ 0

@@ -25,7 +25,8 @@
 //!   (`specs/Found.antt`, `ft_answers/specs/Places.antt`), which they leave as it is. All except
 //!   `event` let through: running out of memory at any time.
 //! - `perform`: what one script line prints, whether it is refused, and the base after it:
-//!   `outcome` (`specs/Output.antt`). Lets through: running out of memory at any time.
+//!   `outcome` (`specs/Output.antt`). Lets through: running out of memory at any time, and then
+//!   holding anything; any number of steps; putting the tables off.
 //! - `refused`: the line of a refusal, exact; it fails where the refusal is that memory ran out.
 //!   Lets through: running out of memory at any time.
 //! - `run_text`, over every board: what a script in memory prints is the text of `output` of files
@@ -45,18 +46,21 @@
 //!     1,073,741,824 lines that byte 10 ended were read.
 //!   - Lets through: where the reader tells nothing, each case speaks of some script, and where the
 //!     writer tells nothing, of no bytes: so it is with the system's streams.
-//! - `run_counted`, over every `Session`, reader and writer, which `run` and both programs call:
-//!   `RunEnds` of what commands mean to the session. The reader is asked 1,073,741,824 times at
-//!   most. It fails at most once, and then the answer is `Read`, which is answered else only where
-//!   it was asked so often. The writer is flushed once where the run ends well, for memory or for
-//!   reading, and not after a failed write; a failing flush makes `Write` of `Ok`, and changes no
-//!   other answer (`specs/Steps.antt`). Lets through: calls that are not counted (the source shows
-//!   that the private `take_part` has the one `fill_buf`, and `flush` the one flush, each beside
-//!   its tick); asking the reader again after it failed, where that succeeds (the private `take_part`
-//!   requires that it has not failed); a second write after a failed one, which tests exclude.
+//! - `run_counted`, over every `Session`, reader and writer, which `run` and both programs call: it
+//!   takes the two as a `CountedReader` and a `CountedWriter`, whose private fields leave no way to
+//!   them but calls that count. `RunEnds` of what commands mean to the session. The reader is asked
+//!   1,073,741,824 times at most. It fails at most once, and then the answer is `Read`, which is
+//!   answered else only where it was asked so often (`AsksReader`, `specs/Steps.antt`). An answer
+//!   `Write` comes with the one failed write and no flush, in the text of the last line that was
+//!   read, or with the one flush, which failed after the whole output; every other answer comes
+//!   with one flush and no failed write, and with `Ok` the flush didn't fail (`CallsWriter`). A
+//!   failing flush makes `Write` of `Ok`, and changes no other answer. Lets through: what the
+//!   methods `ask`, `consume`, `write` and `flush` of the two types do beside their count, which
+//!   their few lines show. The private `ask` requires that the reader has not failed, `write` that
+//!   no write has, so that neither is called again after that.
 //! - Trait `Session`, met by `Desk`: what a line prints, whether it is refused and what is held
 //!   then is what commands mean to the session (`means`, a `Meaning` of `specs/Output.antt`); to a
-//!   desk that is `outcome`. Lets through: running out of memory at any time.
+//!   desk that is `outcome`. Lets through: what `perform` does.
 //! - Laws `first_lines`, `what_runs_write`: whatever commands mean, the output of the first lines
 //!   of a script is a beginning of the whole script's; however a run ends, what it wrote is a
 //!   beginning of the output of the lines that it read, and of the whole script's.
@@ -72,7 +76,7 @@
 //!   at any time; a path that is there and yet cannot be read.
 #![tactic(auto)]
 
-mod calls;
+mod counted;
 mod desk;
 mod events;
 mod in_memory;
@@ -84,7 +88,7 @@ mod running;
 mod sending;
 mod session;
 
-pub use calls::{Calls, RunCalls};
+pub use counted::{Calls, CountedReader, CountedWriter};
 pub use desk::Desk;
 pub use ft_answers::{
     AttachedTrigger, Board, Changed, Done, Edited, Kept, Latency, Pair, Place, PlainBoard, Refused,

@@ -25,8 +25,8 @@ pub struct Performed {
 /// Does what a line of a script asks of a desk. The line has no line break, and the Nth file is what
 /// `load @N` loads.
 ///
-/// A line that is refused prints its refusal, and the desk holds what it held. Fails for memory alone,
-/// which has no line of its own; then the edit may have been made.
+/// A line that is refused prints its refusal, and the desk holds what it held. Fails for memory only,
+/// which has no line of its own; then the edit may have been made, and no clause says what is held.
 pub fn perform<B: Board>(
     desk: &mut Desk<B>,
     alloc: Global,

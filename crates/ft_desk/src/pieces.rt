@@ -1,11 +1,11 @@
 //! Reading a script by pieces of its lines.
 
-ghost use Rattle.std.specs.Prelude.{◌≡◌, ◌≢◌, ◌++◌, ◌+◌, ◌<◌, ◌≤◌, take, All, OnOk, vec_len};
+ghost use Rattle.std.specs.Prelude.{◌≡◌, ◌≢◌, ◌++◌, ◌+◌, ◌≤◌, take, All, OnOk, vec_len};
 ghost use Rattle.ft_script.specs.Script.{line_limit};
-ghost use Rattle.ft_desk.specs.Run.{asking_limit};
-ghost use Rattle.ft_desk.specs.Steps.{CutsAt, TakingGives, read_failures};
+ghost use Rattle.ft_desk.specs.Steps.{TakingGives, read_failures};
+ghost use Rattle.ft_desk.specs.inner.Asking.{CutsAt, PartGives};
 
-use crate::calls::Calls;
+use crate::counted::CountedReader;
 use crate::running::RunFault;
 use ft_script::LINE_LIMIT;
 use memchr::memchr;
@@ -27,44 +27,59 @@ pub(crate) enum Taken {
     End,
 }
 
+/// What is taken of the bytes that a reader shows.
+#[derive(Clone, Copy, Debug, PartialEq, Eq)]
+pub(crate) struct Part {
+    /// What that is.
+    taken: Taken,
+    /// How many of the first bytes: a line's end is one of them.
+    amount: usize,
+}
+
 /// Reads what the reader shows, up to and with a line's end, and adds the line's part to its piece: a
 /// part without an end isn't empty.
-/// Memory and the reader can fail; an interrupted read is an error too. Here alone the reader is
-/// asked, which is counted: not once more than the bound, and not after it failed.
+/// Memory and the reader can fail; an interrupted read is an error too. The reader is asked once, and
+/// not after it failed.
 pub(crate) fn take_part<R: BufRead>(
-    script: &mut R,
-    asked: &mut Calls,
+    script: &mut CountedReader<'_, R>,
     piece: &mut Vec<u8>,
 ) -> Result<Taken, RunFault>
     requires room { vec_len piece.old ≤ line_limit + 1 }
-    requires turn { asked.old.made < asking_limit }
-    requires well { asked.old.failed ≡ 0 }
-    ensures gives { TakingGives result (R.remaining script.old) (R.remaining script.new)
-        piece.old.items piece.new.items }
-    ensures made { asked.new.made ≡ asked.old.made + 1 }
-    ensures failed { asked.new.failed ≡ read_failures result }
+    requires well { script.old.asked.failed ≡ 0 }
+    ensures gives { TakingGives result (R.remaining script.old.reader.now)
+        (R.remaining script.new.reader.now) piece.old.items piece.new.items }
+    ensures made { script.new.asked.made ≡ script.old.asked.made + 1 }
+    ensures failed { script.new.asked.failed ≡ read_failures result }
+    ensures same { script.new.reader.ghost_name ≡ script.old.reader.ghost_name }
 {
-    asked.tick();
-    let shown = match script.fill_buf() {
-        Ok(shown) => shown,
-        Err(_) => {
-            asked.tick_failed();
-            return Err(RunFault::Read);
-        }
+    let part = match script.ask(piece) {
+        Ok(Ok(part)) => part,
+        Ok(Err(AllocError)) => return Err(RunFault::Memory),
+        Err(_) => return Err(RunFault::Read),
     };
+    script.consume(part.amount);
+    Ok(part.taken)
+}
+
+/// Adds the part of a line that the bytes shown begin with to its piece. They are none at the end of
+/// the script.
+pub(crate) fn add_shown(piece: &mut Vec<u8>, shown: &[u8]) -> Result<Part, AllocError>
+    requires { vec_len piece.old ≤ line_limit + 1 }
+    ensures { PartGives result shown.now piece.old.items piece.new.items }
+{
     if shown.is_empty() {
-        return Ok(Taken::End);
+        return Ok(Part {
+            taken: Taken::End,
+            amount: 0,
+        });
     }
     let (part, taken) = cut(shown);
-    if add_part(piece, &shown[..part]).is_err() {
-        return Err(RunFault::Memory);
-    }
+    add_part(piece, &shown[..part])?;
     let amount = match taken {
         Taken::Line => part + 1,
         Taken::Part | Taken::End => part,
     };
-    script.consume(amount);
-    Ok(taken)
+    Ok(Part { taken, amount })
 }
 
 /// Where the line's part ends, and whether its end was met there.

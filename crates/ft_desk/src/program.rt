@@ -9,7 +9,7 @@ ghost use Rattle.ft_desk.specs.Program.{exit_status_of, told_of_words, told_of_r
 ghost use Rattle.ft_desk.specs.inner.Ends.{RunTells, ProgramEnds};
 ghost use Rattle.ft_desk.specs.declared.program.Fault.TheVariants.{Memory};
 
-use crate::calls::RunCalls;
+use crate::counted::{CountedReader, CountedWriter};
 use crate::desk::Desk;
 use crate::running::{RunFault, Status, run_counted};
 use crate::session::Session;
@@ -212,8 +212,9 @@ where
     let mut script = BufReader::with_capacity(alloc, BUFFER, script).map_err(|_| Fault::Memory)?;
     // A command's output is written at once, so that who types a script sees it.
     let mut out = io::writer(rt);
-    let mut calls = RunCalls::none();
-    let ended = run_counted(&mut session, traces, &mut script, &mut out, &mut calls);
+    let mut script = CountedReader::new(&mut script);
+    let mut out = CountedWriter::new(&mut out);
+    let ended = run_counted(&mut session, traces, &mut script, &mut out);
     // The process ends next, and with it goes all that is held at once.
     mem::forget(session);
     Ok(ended?)

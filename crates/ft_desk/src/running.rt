@@ -1,22 +1,23 @@
 //! Running a script.
 
-ghost use Rattle.std.specs.Prelude.{◌≡◌, ◌+◌, ◌≤◌, map};
+ghost use Rattle.std.specs.Prelude.{◌≡◌, ◌≤◌, map};
 ghost use Rattle.std.specs.Io.KnownBytes.{Keeps};
 ghost use Rattle.ft_answers.specs.Base.{empty_base};
 ghost use Rattle.ft_script.specs.Script.{asked_by};
 ghost use Rattle.ft_desk.specs.Output.{outcome};
 ghost use Rattle.ft_desk.specs.Run.{asking_limit, status_of, RunEnds};
-ghost use Rattle.ft_desk.specs.Steps.{LineGives, AsksReader, failures_of, FlushGives};
-ghost use Rattle.ft_desk.specs.Steps.{FlushesOnce, NoCalls};
+ghost use Rattle.ft_desk.specs.Counts.{NoCalls};
+ghost use Rattle.ft_desk.specs.Steps.{LineGives, AsksReader, CallsWriter, write_failures};
+ghost use Rattle.ft_desk.specs.Steps.{LinesEnd, FlushGives};
 
-use crate::calls::{Calls, RunCalls};
+use crate::counted::{CountedReader, CountedWriter};
 use crate::desk::Desk;
 use crate::pieces::{Taken, take_part};
 use crate::sending::send;
 use crate::session::Session;
 use ft_answers::Board;
 use std::alloc::{AllocError, Global};
-use std::io::{self, BufRead, Write};
+use std::io::{BufRead, Write};
 use thiserror::Error;
 
 /// How often a script's reader is asked at most, so that a script without an end is given up: one of
@@ -69,31 +70,39 @@ pub fn run<B: Board, R: BufRead, W: Write>(
         (W.contents out.old) (W.contents out.new) }
 {
     let mut desk = Desk::new(alloc, board);
-    run_counted(&mut desk, files, script, out, &mut RunCalls::none())
+    let mut script = CountedReader::new(script);
+    let mut out = CountedWriter::new(out);
+    run_counted(&mut desk, files, &mut script, &mut out)
 }
 
 /// Runs a script as `run` does, over anything that answers its lines and holds nothing yet: what that
-/// holds at the end is left to the caller. How often the reader is asked and the writer flushed is
-/// counted: the reader `ASKING_LIMIT` times at most, and not again after it failed; the writer once,
-/// but not after a failed write.
+/// holds at the end is left to the caller. Reader and writer count their calls, and were not called
+/// yet: the reader is asked `ASKING_LIMIT` times at most, and not again after it failed; nothing is
+/// written after a failed write; the writer is flushed once, but not after a failed write.
 pub fn run_counted<S: Session, R: BufRead, W: Write>(
     session: &mut S,
     files: &[Vec<u8>],
-    script: &mut R,
-    out: &mut W,
-    calls: &mut RunCalls,
+    script: &mut CountedReader<'_, R>,
+    out: &mut CountedWriter<'_, W>,
 ) -> Result<Status, RunFault>
     requires empty { S.base session.old ≡ empty_base }
-    requires uncounted { NoCalls calls.old }
+    requires unasked { NoCalls script.old.asked }
+    requires unwritten { NoCalls out.old.written }
+    requires unflushed { NoCalls out.old.flushed }
     ensures ends { RunEnds (S.means (map (λ f. f.items) files.now)) result
-        (R.remaining script.old) (R.remaining script.new)
-        (W.contents out.old) (W.contents out.new) }
-    ensures turns { calls.new.asked.made ≤ asking_limit }
-    ensures asks { AsksReader result calls.new.asked }
-    ensures flushes { FlushesOnce result calls.new.flushed }
+        (R.remaining script.old.reader.now) (R.remaining script.new.reader.now)
+        (W.contents out.old.writer.now) (W.contents out.new.writer.now) }
+    ensures turns { script.new.asked.made ≤ asking_limit }
+    ensures asks { AsksReader result script.new.asked }
+    ensures calls { CallsWriter (S.means (map (λ f. f.items) files.now)) result
+        out.new.written out.new.flushed
+        (R.remaining script.old.reader.now) (R.remaining script.new.reader.now)
+        (W.contents out.old.writer.now) (W.contents out.new.writer.now) }
+    ensures same_reader { script.new.reader.ghost_name ≡ script.old.reader.ghost_name }
+    ensures same_writer { out.new.writer.ghost_name ≡ out.old.writer.ghost_name }
 {
-    let answer = answer_script(session, files, script, &mut calls.asked, out);
-    flush_after(answer, out, &mut calls.flushed)
+    let answer = answer_script(session, files, script, out);
+    flush_after(answer, out)
 }
 
 /// Answers the lines of a script, one after the other. The reader is asked `ASKING_LIMIT` times at
@@ -101,23 +110,26 @@ pub fn run_counted<S: Session, R: BufRead, W: Write>(
 fn answer_script<S: Session, R: BufRead, W: Write>(
     session: &mut S,
     files: &[Vec<u8>],
-    script: &mut R,
-    asked: &mut Calls,
-    out: &mut W,
+    script: &mut CountedReader<'_, R>,
+    out: &mut CountedWriter<'_, W>,
 ) -> Result<Status, RunFault>
     requires empty { S.base session.old ≡ empty_base }
-    requires first { asked.old.made ≡ 0 }
-    requires well { asked.old.failed ≡ 0 }
-    ensures ends { RunEnds (S.means (map (λ f. f.items) files.now)) result
-        (R.remaining script.old) (R.remaining script.new)
-        (W.contents out.old) (W.contents out.new) }
-    ensures turns { asked.new.made ≤ asking_limit }
-    ensures asks { AsksReader result asked.new }
+    requires unasked { NoCalls script.old.asked }
+    requires unwritten { NoCalls out.old.written }
+    ensures ends { LinesEnd (S.means (map (λ f. f.items) files.now)) result
+        (R.remaining script.old.reader.now) (R.remaining script.new.reader.now)
+        (W.contents out.old.writer.now) (W.contents out.new.writer.now) }
+    ensures turns { script.new.asked.made ≤ asking_limit }
+    ensures asks { AsksReader result script.new.asked }
+    ensures failed { out.new.written.failed ≡ write_failures result }
+    ensures flushed { out.new.flushed ≡ out.old.flushed }
+    ensures same_reader { script.new.reader.ghost_name ≡ script.old.reader.ghost_name }
+    ensures same_writer { out.new.writer.ghost_name ≡ out.old.writer.ghost_name }
 {
     let mut piece = Vec::new(session.alloc());
     let mut refused = false;
     for _turn in 0..ASKING_LIMIT {
-        match take_part(script, asked, &mut piece)? {
+        match take_part(script, &mut piece)? {
             Taken::Part => {}
             Taken::Line => {
                 refused |= answer_line(session, files, &piece, out)?;
@@ -139,11 +151,15 @@ fn answer_line<S: Session, W: Write>(
     session: &mut S,
     files: &[Vec<u8>],
     line: &[u8],
-    out: &mut W,
+    out: &mut CountedWriter<'_, W>,
 ) -> Result<bool, RunFault>
-    ensures { LineGives
+    requires well { out.old.written.failed ≡ 0 }
+    ensures gives { LineGives
         (S.means (map (λ f. f.items) files.now) (S.base session.old) (asked_by line.now))
-        (S.base session.new) (W.contents out.old) (W.contents out.new) result }
+        (S.base session.new) (W.contents out.old.writer.now) (W.contents out.new.writer.now) result }
+    ensures failed { out.new.written.failed ≡ write_failures result }
+    ensures flushed { out.new.flushed ≡ out.old.flushed }
+    ensures same { out.new.writer.ghost_name ≡ out.old.writer.ghost_name }
 {
     let done = match session.perform(files, line) {
         Ok(done) => done,
@@ -169,37 +185,23 @@ pub(crate) fn status_from(refused: bool) -> Status
 /// Flushes the writer once, but not after a failed write. A failing flush spoils a status alone.
 fn flush_after<W: Write>(
     answer: Result<Status, RunFault>,
-    out: &mut W,
-    flushed: &mut Calls,
+    out: &mut CountedWriter<'_, W>,
 ) -> Result<Status, RunFault>
-    requires first { flushed.old.made ≡ 0 }
-    requires well { flushed.old.failed ≡ 0 }
-    ensures answer { FlushGives answer result flushed.new }
-    ensures kept { Keeps (W.contents out.old) (W.contents out.new) }
+    requires unflushed { NoCalls out.old.flushed }
+    ensures answer { FlushGives answer result out.new.flushed }
+    ensures kept { Keeps (W.contents out.old.writer.now) (W.contents out.new.writer.now) }
+    ensures written { out.new.written ≡ out.old.written }
+    ensures same { out.new.writer.ghost_name ≡ out.old.writer.ghost_name }
 {
     match answer {
         Err(RunFault::Write) => Err(RunFault::Write),
         Err(fault) => {
-            let _unheeded = flush(out, flushed);
+            let _unheeded = out.flush();
             Err(fault)
         }
-        Ok(status) => match flush(out, flushed) {
+        Ok(status) => match out.flush() {
             Ok(()) => Ok(status),
             Err(_) => Err(RunFault::Write),
         },
     }
-}
-
-/// Flushes the writer, which is counted. Here alone it is flushed.
-fn flush<W: Write>(out: &mut W, flushed: &mut Calls) -> io::Result<()>
-    ensures made { flushed.new.made ≡ flushed.old.made + 1 }
-    ensures failed { flushed.new.failed ≡ flushed.old.failed + failures_of result }
-    ensures kept { Keeps (W.contents out.old) (W.contents out.new) }
-{
-    flushed.tick();
-    let ended = out.flush();
-    if ended.is_err() {
-        flushed.tick_failed();
-    }
-    ended
 }

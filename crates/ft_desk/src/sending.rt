@@ -1,23 +1,28 @@
 //! Writing what a command prints.
 
-ghost use Rattle.std.specs.Prelude.{[], OnOk, OnErr};
+ghost use Rattle.std.specs.Prelude.{◌≡◌, [], OnOk, OnErr};
 ghost use Rattle.std.specs.Io.KnownBytes.{Appends};
+ghost use Rattle.ft_desk.specs.Counts.{failures_of};
 ghost use Rattle.ft_desk.specs.Run.{BreaksOff};
 
-use std::io::{self, ErrorKind, Write};
+use crate::counted::CountedWriter;
+use std::io::{self, Write};
 
 /// Writes a text, by as many calls as the writer asks for. An error of the writer, an interrupted
 /// write too, and a write that takes nothing end that, and something of it is left.
-pub(crate) fn send<W: Write>(out: &mut W, text: &[u8]) -> io::Result<()>
-    ensures ok { OnOk result (Appends (W.contents out.old) (W.contents out.new) text.now) }
-    ensures err { OnErr result (BreaksOff (W.contents out.old) (W.contents out.new) [] text.now) }
+pub(crate) fn send<W: Write>(out: &mut CountedWriter<'_, W>, text: &[u8]) -> io::Result<()>
+    requires well { out.old.written.failed ≡ 0 }
+    ensures ok { OnOk result (Appends (W.contents out.old.writer.now) (W.contents out.new.writer.now) text.now) }
+    ensures err { OnErr result
+        (BreaksOff (W.contents out.old.writer.now) (W.contents out.new.writer.now) [] text.now) }
+    ensures failed { out.new.written.failed ≡ failures_of result }
+    ensures flushed { out.new.flushed ≡ out.old.flushed }
+    ensures same { out.new.writer.ghost_name ≡ out.old.writer.ghost_name }
 {
     let mut rest = text;
     while !rest.is_empty() {
-        match out.write(rest)? {
-            0 => return Err(io::Error::from(ErrorKind::WriteZero)),
-            taken => rest = &rest[taken..],
-        }
+        let taken = out.write(rest)?;
+        rest = &rest[taken..];
     }
     Ok(())
 }

@@ -26,8 +26,9 @@ pub trait Session: Drop {
     /// Does what a line of a script asks for. The line has no line break, and the Nth file is what
     /// `load @N` loads.
     ///
-    /// A line that is refused prints its refusal, and changes nothing. Fails for memory alone, which
-    /// has no line of its own; then the edit may have been made.
+    /// What a refused line changes is told by `means`: of a desk, nothing that is held. Fails for
+    /// memory only, which has no line of its own; then the edit may have been made, and no clause
+    /// says what is held.
     fn perform(&mut self, files: &[Vec<u8>], line: &[u8]) -> Result<Performed, AllocError>
         ensures text { IfOk result (λ done. done.text.items
             ≡ (means (map (λ f. f.items) files.now) (base self.old) (asked_by line.now)).text) }

@@ -30,7 +30,9 @@
 //!   asks for. `unload`, `strike` and `remove` never run out of memory. Lets through: running out of
 //!   memory at any time in the other calls; any number of steps; putting the tables off at any edit
 //!   (the desk's own clauses `repairs` and `now` are not told again here); a new session whose tables
-//!   are deferred.
+//!   are deferred; memory that is kept of what `forget` and later answers let go.
+//! - The places that a session holds are those of the moment when they were asked for. Which events
+//!   are there now is told by the desk's lanes (`event_in` of `ft_layout`).
 #![tactic(auto)]
 
 mod session;

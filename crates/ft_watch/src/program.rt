@@ -6,7 +6,7 @@ ghost use Rattle.ft_desk.specs.Run.{RunEnds};
 ghost use Rattle.ft_watch.specs.Watched.{watched};
 
 use crate::watch::Watch;
-use ft_desk::{Board, RunCalls, RunFault, Status, run_counted, run_program};
+use ft_desk::{Board, CountedReader, CountedWriter, RunFault, Status, run_counted, run_program};
 use std::alloc::Global;
 use std::io::{BufRead, Write};
 use std::rt::{Env, Files};
@@ -33,7 +33,9 @@ pub fn run_watch<B: Board, R: BufRead, W: Write>(
         (W.contents out.old) (W.contents out.new) }
 {
     let mut watch = Watch::new(alloc, board);
-    run_counted(&mut watch, files, script, out, &mut RunCalls::none())
+    let mut script = CountedReader::new(script);
+    let mut out = CountedWriter::new(out);
+    run_counted(&mut watch, files, &mut script, &mut out)
 }
 
 /// The whole program, over a board that holds nothing: its exit status, 0 where each command of the

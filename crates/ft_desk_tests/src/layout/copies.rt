@@ -87,10 +87,11 @@ fn places_and_triggers_are_copied(rt: HostRuntime) -> Result<(), Fail> {
     Ok(())
 }
 
-/// Pushes an event of no task on CPU 1: its line. None where memory ran out, or the lane's numbers.
+/// Pushes an event of no task on CPU 1, at stamp 5: its line. None where memory ran out, or the lane's numbers.
 fn pushed(lanes: &mut Lanes) -> Option<u32> {
     let mut event = Event::blank();
     event.cpu = 1;
+    event.stamp = 5;
     event.pid = 77;
     if lanes.next_line(event.cpu) > 4_294_967_295 {
         return None;
@@ -102,15 +103,25 @@ fn pushed(lanes: &mut Lanes) -> Option<u32> {
 fn events_are_copied_as_they_are_now(rt: HostRuntime) -> Result<(), Fail> {
     let mut lanes = Lanes::new(rt.alloc());
     let line = pushed(&mut lanes).ok_or("memory ran out")?;
-    let places = [place(9), place(line)];
-    let mut room = [EventLayout::of(&place(9), None); 2];
-    assert_eq!(rt; copy_events(&lanes, &places, 0, &mut room), 2);
+    let later = Pos {
+        stamp: 6,
+        cpu: 1,
+        line,
+    };
+    let places = [place(9), later, place(line)];
+    let mut room = [EventLayout::of(&place(9), None); 3];
+    assert_eq!(rt; copy_events(&lanes, &places, 0, &mut room), 3);
     assert_eq!(rt;
-        (room[0].name, room[1].name, room[1].common_pid),
+        (room[0].name, room[2].name, room[2].common_pid),
         (255, 5, 77)
     );
+    // Another event is on that line, at another stamp.
+    assert_eq!(rt;
+        (room[1].name, room[1].place.stamp, room[1].common_pid),
+        (255, 6, 0)
+    );
     let _ = lanes.take(1, line);
-    assert_eq!(rt; copy_events(&lanes, &places, 1, &mut room), 1);
+    assert_eq!(rt; copy_events(&lanes, &places, 2, &mut room), 1);
     assert_eq!(rt; (room[0].name, room[0].place.line), (255, line));
     Ok(())
 }

@@ -1,61 +1,45 @@
-use Rattle.std.proofs.Common.{◌≡◌, ◌≢◌, ℕ, ◌+◌, ◌≤◌, false, List, [], ◌∷◌, ◌++◌, All, Option, Result, Ok, Err, OnOk, length, take, subst, sym, ap, ◌∙◌, ⊎_elim, arith, rules}
-use Rattle.std.specs.Result.{is_err}
-use Rattle.std.specs.Io.KnownBytes.{Consumes}
-use Rattle.std.specs.Io.BufRead.{FillKeeps}
+use Rattle.std.proofs.Common.{◌≡◌, ℕ, ◌≤◌, List, [], ◌++◌, Option, None, Some, Ok, IfSome, length, take, sym, ap, subst, ◌∙◌, arith, rules}
+use Rattle.std.specs.Io.KnownBytes.{Keeps, Consumes, IsAtEnd}
+use Rattle.std.specs.Io.BufRead.{DropsConsumable}
 use Rattle.std.proofs.BufReadLemmas.{Consumes_shown}
-use Rattle.std.proofs.lemmas.Bool.{eqb-false}
-use Rattle.std.proofs.lemmas.List.{take_more, take_all}
-use Rattle.ft_script.specs.Script.{line_limit}
+use Rattle.std.proofs.lemmas.List.{take_all}
 use Rattle.ft_desk.specs.declared.pieces.Taken.{Taken}
 use Rattle.ft_desk.specs.declared.pieces.Taken.TheVariants as takes
-use Rattle.ft_desk.specs.Steps.{CutsAt, TakingGives}
-use Rattle.ft_desk.proofs.pieces.take_part.Goals.{in-Line, in-Part}
+use Rattle.ft_desk.specs.inner.Asking.{TakesBytes, Shows}
+use Rattle.ft_desk.specs.Steps.{TakingGives}
 use Rattle.ft_desk.proofs.pieces.take_part.Goals as goal
 
--- how many bytes are consumed with a part
-abbrev amount_with : Taken → ℕ → ℕ
-amount_with takes.Part part = part
-amount_with takes.Line part = part + 1
-amount_with takes.End part = part
+-- no byte of the reader was shown
+at_end : (left : Option (List ℕ)) (shown : List ℕ) → IfSome left (λ bytes. length shown ≡ 0 → bytes ≡ []) → shown ≡ [] → IsAtEnd left
+at_end None shown end none = tt
+at_end (Some bytes) shown end none = end (ap length none)
 
--- they are among those shown
-amount_within : (took : Taken) (shown : List ℕ) (part amount : ℕ) → CutsAt took shown part → amount ≡ amount_with took part → amount ≤ length shown
-amount_within takes.Part shown part amount end is = omega arith
-amount_within takes.Line shown part amount end is = omega arith
-amount_within takes.End shown part amount end is = absurd end
+-- none is consumed
+kept_of : (left rest : Option (List ℕ)) (bytes : List ℕ) → Consumes left rest bytes → bytes ≡ [] → Keeps left rest
+kept_of None rest bytes consumed none = tt
+kept_of (Some xs) None bytes consumed none = absurd consumed
+kept_of (Some xs) (Some ys) bytes consumed none = sym (consumed ∙ ap (λ front. front ++ ys) none)
 
--- what was added is known where memory didn't fail
-added : {E : Type 0} {P : Type 0} (result : Result (Unit {0}) E) → OnOk result P → false ≡ is_err result → P
-added (Ok x) kept is = kept
-added (Err e) kept is = absurd (cc)
-
--- what was taken, as a whole
-taking_gives : (took : Taken) (left rest : Option (List ℕ)) (before after shown : List ℕ) (part amount : ℕ)
-    → shown ≢ [] → All (λ byte. byte ≢ 10) (take part shown) → CutsAt took shown part → amount ≡ amount_with took part
-    → Consumes left rest (take amount shown) → after ≡ take (line_limit + 1) (before ++ take part shown)
+-- what is consumed of the bytes that are shown
+taking_gives : (took : Taken) (left held rest : Option (List ℕ)) (consumable : Option ℕ) (before after shown : List ℕ) (amount : ℕ)
+    → Shows left held consumable shown → amount ≤ length shown → TakesBytes took (take amount shown) shown before after → DropsConsumable held rest consumable amount
     → TakingGives (Ok took) left rest before after
-taking_gives takes.Part left rest before after shown part amount some plain end is consumed kept =
-    (take part shown, subst (λ n. Consumes left rest (take n shown)) is consumed, (plain, kept), λ none. some (sym (take_all part shown (omega (arith, end))) ∙ none))
-taking_gives takes.Line left rest before after shown part amount some plain end is consumed kept =
-    let line : take amount shown ≡ take part shown ++ 10 ∷ [] =
-    ap (λ n. take n shown) is ∙ take_more shown part 0 end.0 ∙ ap (λ byte. take part shown ++ byte ∷ []) end.1 in
-    (take part shown, subst (Consumes left rest) line consumed, (plain, kept))
-taking_gives takes.End left rest before after shown part amount some plain end is consumed kept = absurd end
+taking_gives takes.Part left held rest consumable before after shown amount shows within takes drops =
+    let moved = Consumes_shown _ _ _ _ shown amount within shows.front shows.end shows.kept shows.within drops in
+    (take amount shown, moved.0, takes.0, takes.1)
+taking_gives takes.Line left held rest consumable before after shown amount shows within takes drops =
+    let moved = Consumes_shown _ _ _ _ shown amount within shows.front shows.end shows.kept shows.within drops in
+    (takes.0, subst (Consumes left rest) takes.1 moved.0, takes.2)
+taking_gives takes.End left held rest consumable before after shown amount shows within takes drops =
+    let moved = Consumes_shown _ _ _ _ shown amount within shows.front shows.end shows.kept shows.within drops in
+    let end = at_end left shown shows.end takes.0 in
+    (kept_of left rest (take amount shown) moved.0 (ap (take amount) takes.0 ∙ take_all amount [] (omega arith)), end, takes.1)
 
 pub returns-clause-gives : goal.returns-clause-gives
 returns-clause-gives g c =
-    let shown = c.in-Ok.shown.now in
-    let took = c.cut-part.result.1 in
-    let part = c.cut-part.result.0 in
-    let rested = c.fill_buf.follows.lender-at-none in
-    let filled = subst (FillKeeps _ (g.R.Read.remaining rested) (g.R.BufRead.consumable_len rested)) c.in-Ok.is c.fill_buf.follows.holds-at-none in
-    let amount : c.match-taken.amount ≡ amount_with took part = elim c.match-taken.branch [
-      | in-Line w ↦ w.amount-is ∙ ap (λ t. amount_with t part) (sym w.in-Line.is)
-      | in-Part w ↦ w.amount-is ∙ ⊎_elim (λ e. ap (λ t. amount_with t part) (sym e)) (λ e. ap (λ t. amount_with t part) (sym e)) w.in-Part.is
-    ] in
-    let within = amount_within took shown part _ c.cut-part.ensures.end amount in
-    let moved = Consumes_shown _ _ _ _ shown c.match-taken.amount within c.in-Ok.ensures.front c.in-Ok.ensures.end filled.0 filled.1 c.consume.ensures.bytes in
-    taking_gives took _ _ _ _ shown part _ (λ none. eqb-false _ 0 (sym c.is_empty.ensures ∙ c.if-is_empty.false) (ap length none)) c.cut-part.ensures.plain c.cut-part.ensures.end amount moved.0 (added c.add_part.result c.add_part.ensures (sym c.if-is_err.false ∙ c.is_err.ensures.value))
+    let gives = c.in-Ok-Ok.ensures.gives in
+    let part = rw c.in-Ok-Ok.field-0-is at gives.2 in
+    taking_gives c.in-Ok-Ok.part.taken _ _ _ _ _ _ gives.0 c.in-Ok-Ok.part.amount gives.1 part.0 part.1 c.consume.ensures.bytes
 
 pub returns-in-Err-clause-gives : goal.returns-in-Err-clause-gives
 returns-in-Err-clause-gives g c = search rules

@@ -1,6 +1,6 @@
 use Rattle.std.proofs.Common.{map}
-use Rattle.ft_desk.proofs.Endings.{flush_ends}
-use Rattle.ft_desk.proofs.Flushed.{flush_asks, flush_once}
+use Rattle.ft_desk.proofs.Endings.{flush_ends, flush_calls}
+use Rattle.ft_desk.proofs.Flushed.{flush_asks}
 use Rattle.ft_desk.proofs.running.run_counted.Goals as goal
 
 pub returns-clause-ends : goal.returns-clause-ends
@@ -10,5 +10,6 @@ returns-clause-ends g c =
 pub returns-clause-asks : goal.returns-clause-asks
 returns-clause-asks g c = flush_asks _ _ _ _ c.answer_script-answer.ensures.asks c.flush_after.ensures.answer
 
-pub returns-clause-flushes : goal.returns-clause-flushes
-returns-clause-flushes g c = flush_once _ _ _ c.flush_after.ensures.answer
+pub returns-clause-calls : goal.returns-clause-calls
+returns-clause-calls g c =
+    rw c.flush_after.ensures.written (flush_calls (g.S.Session.means (map (λ f. f.items) c.args.files.now)) _ _ _ _ _ _ _ _ _ c.answer_script-answer.ensures.ends c.flush_after.ensures.kept c.answer_script-answer.ensures.failed c.flush_after.ensures.answer)

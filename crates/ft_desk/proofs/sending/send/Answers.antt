@@ -1,4 +1,4 @@
-use Rattle.std.proofs.Common.{◌≡◌, ℕ, ◌-◌, List, ◌++◌, length, take, drop, sym, ap, ◌∙◌, append_assoc, take-append-drop}
+use Rattle.std.proofs.Common.{◌≡◌, ℕ, ◌-◌, List, ◌++◌, length, take, drop, sym, ap, ◌∙◌, append_assoc, take-append-drop, arith}
 use Rattle.std.proofs.lemmas.List.{take_rest}
 use Rattle.std.proofs.KnownBytes.{Appends-trans}
 use Rattle.ft_desk.proofs.sending.send.Goals as goal
@@ -14,6 +14,9 @@ loop-rest-preserved g c =
     let taken = c.in_ok-taken.taken in
     record {
       sent = so_far.sent ++ take taken c.loop-rest.rest.now;
-      written = Appends-trans _ _ _ _ _ so_far.written c.in_ok-taken.ensures.bytes;
+      written = Appends-trans _ _ _ _ _ so_far.written c.in_ok-taken.ensures.ok;
       whole = sent_more _ _ _ taken so_far.whole;
+      well = omega (arith, c.in_ok-taken.ensures.written.1, so_far.well);
+      flushed = c.in_ok-taken.ensures.flushed ∙ so_far.flushed;
+      same = c.in_ok-taken.ensures.same ∙ so_far.same;
     }
