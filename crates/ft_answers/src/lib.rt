@@ -62,10 +62,13 @@
 //!   - Let through: any number of steps of the other edits, of all edits where made events are
 //!     counted, of another filter for a reader, and of tables built anew; the puts of any other
 //!     filter; which trigger took which steps (`ft_kept` says it of each); steps that are not
-//!     counted, or by another `Work`. That the boards' constructors alone make that `Work`, and
-//!     that in edits and answers `hit_of` alone evaluates keys and filters, is seen by reading.
-//! - `steps`: on a board that keeps tables and isn't deferred, no answer takes a step. Lets
-//!   through: any number of steps of the answers of other boards.
+//!     counted, or by another `Work`. That only the boards' constructors make that `Work`, and that
+//!     in edits and in answers from tables only `hit_of` evaluates filters, is seen by reading. Keys
+//!     are evaluated by it too, but for those that `grouped` of `ft_groups` looks up by a number,
+//!     which it doesn't count.
+//! - `steps`: on a board that keeps tables and isn't deferred, `hist`, `rows`, `counts`, `row`,
+//!   `totals`, `latencies` and `pairs` take no step. Lets through: any number of steps of these
+//!   answers of other boards.
 //! - `now` (`specs/Deferral.antt`): on a board that isn't deferred, these accepted edits put
 //!   nothing off, made events counted or not: `insert` of an event that no trigger hits; `strike`
 //!   of one that no trigger with a variable hits; `unload` of a lane of such events that are fewer

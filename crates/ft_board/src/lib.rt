@@ -37,10 +37,13 @@
 //!
 //! The laws `kept_shelves`, `others_stay` and `readers_stay` of `ft_repair` are reached here too.
 //!
-//! **Made events.** Mending takes no memory where no reading changed, and nothing is told of readings
-//! where no made event is counted (clauses of the private `mend` and `asked`). No clause bounds
-//! the steps of mending or of making anew where made events are counted. Where memory for either,
-//! or for the readings that changed, runs out, the shelves are given up too.
+//! **Made events.** Where no reading changed, mending never gives the shelves up. Where no made event
+//! is counted, it leaves them, and takes no step; and nothing is told of readings (clauses of the
+//! private `mend` and `asked`). No clause bounds the steps of mending or of making anew where made
+//! events are counted. Where memory for either, or for the readings that changed, runs out, the
+//! shelves are given up too. Where an accepted edit leaves no shelves, no table of made events is
+//! left either (clauses `ends` and `made` of the private edits of `Views`), so that what is built
+//! anew finds their memory.
 //!
 //! **Which tables an edit touches** is how the source does it: `insert` and `strike` repair the
 //! tables by the one event, `attach` and `remove` add or take one trigger's, `refilter` builds anew

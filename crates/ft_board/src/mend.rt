@@ -46,6 +46,7 @@ impl Views {
         ensures readings { (result.readings ≡ Some [])
             ⊎ ((result.readings ≡ None)
             × (MakeNone content.now.triggers ⊎ CountNone content.now.triggers)) }
+        ensures unasked { MakesNothing content.now.triggers → result.readings ≡ None }
     {
         let changes = Changes::unasked();
         if are_made(content.triggers()) {
@@ -82,6 +83,7 @@ impl Views {
         ft_changes::some_rivals();
         ft_made::turned_keys();
         if self.shelves.is_none() {
+            self.made = BTreeMap::new(self.alloc);
             return Kept::Later;
         }
         if !are_made(content.triggers()) {

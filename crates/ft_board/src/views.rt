@@ -1,13 +1,14 @@
 //! What is kept of a base, so that no answer replays its events.
 
 ghost use Rattle.std.specs.Prelude.{◌≡◌, false, None, IfSome};
+ghost use Rattle.std.specs.FinMap as map;
 ghost use Rattle.std.specs.Option.{is_none};
 ghost use Rattle.ft_hist.specs.Steps.{StepsGrow};
 ghost use Rattle.ft_answers.specs.Counting.{MakesNothing};
 ghost use Rattle.ft_answers.specs.Edited.{kept_of};
 ghost use Rattle.ft_base.specs.Base.{empty_base};
 ghost use Rattle.ft_repair.specs.KeptShelves.{AreKeptOf};
-ghost use Rattle.ft_board.specs.inner.Views.{AreFresh, EndsAs};
+ghost use Rattle.ft_board.specs.inner.Views.{AreFresh, EndsAs, made_in};
 
 use crate::made::made_tables;
 use ft_answers::Kept;
@@ -55,11 +56,13 @@ impl Views {
         }
     }
 
-    /// Builds all anew where there are shelves: whether there are some then.
+    /// Builds all anew where there are shelves: whether there are some then. What was kept goes
+    /// first, and takes no memory from what comes.
     pub(crate) fn rebuild(&mut self, content: &Content) -> Kept
         ensures fresh { AreFresh content.now self.new }
         ensures ends { EndsAs result self.old self.new }
     {
+        self.made = BTreeMap::new(self.alloc);
         renew(&mut self.shelves, self.alloc, content, &mut self.work);
         self.remake(content)
     }
@@ -73,17 +76,22 @@ impl Views {
         ensures grow { StepsGrow self.old.work self.new.work }
     {
         if self.shelves.is_none() {
+            // A refused edit may have left tables of made events.
+            self.made = BTreeMap::new(self.alloc);
             restore(&mut self.shelves, self.alloc, content, &mut self.work);
             self.remake(content);
         }
     }
 
-    /// Gives the shelves up.
+    /// Gives up all that is kept, the tables of made events too: nothing is kept then.
     pub(crate) fn give_up(&mut self) -> Kept
-        ensures none { self.new ≡ record self.old { shelves = None } }
+        ensures shelves { self.new.shelves ≡ None }
+        ensures made { made_in self.new ≡ map.empty }
+        ensures work { self.new.work ≡ self.old.work }
         ensures kept { result ≡ kept_of (is_none self.new.shelves) }
     {
         self.shelves = None;
+        self.made = BTreeMap::new(self.alloc);
         Kept::Later
     }
 

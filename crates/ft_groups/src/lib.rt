@@ -17,8 +17,10 @@
 //! - `grouped`, `Groups::keys`, `Groups::run`: of a list of events those that the trigger counts
 //!   under a key, in the order of the list, for each key under which it counts any; each such key
 //!   once (`specs/Grouped.antt`). At most as many ticks of `evals` as there are events. Lets
-//!   through: running out of memory at any time, and the order of the keys, which is that of their
-//!   first events.
+//!   through: running out of memory at any time; the order of the keys, which is that of their
+//!   first events; tests that are not counted. The source looks up the key of an event, uncounted,
+//!   where one number tells it and was met before, and tests each other event on the trigger's name
+//!   once.
 #![tactic(auto)]
 
 mod groups;

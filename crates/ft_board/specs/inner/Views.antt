@@ -2,6 +2,7 @@
 use Rattle.std.specs.Prelude.{◌≡◌, List, Option, None, IfSome}
 use Rattle.std.specs.Option.{is_none}
 use Rattle.std.specs.Ordering.{nat_cmp}
+use Rattle.std.specs.FinMap as map
 use Rattle.ft_changes.specs.declared.changed.ReadingChange.{ReadingChange}
 use Rattle.ft_made.specs.MadeTables.{found_in}
 use Rattle.ft_maps.specs.Seen.{seen}
@@ -33,6 +34,6 @@ AreFresh base views = AreOf base.triggers (merged base.lanes) views
 abbrev pub CanBeMended : Base → Option (List ReadingChange) → Views → Type 0
 CanBeMended base told views = IfSome views.shelves (λ shelves. CanMendTo base.triggers (merged base.lanes) told (found_in (readings_on shelves)) (made_in views))
 
--- how an edit ends: it answers whether there are shelves; where there were none there are none, and no count of steps falls
+-- how an edit ends: it answers whether there are shelves; where there were none there are none, and no count of steps falls; where there are none, no table of made events is kept either
 abbrev pub EndsAs : Kept → Views → Views → Type 0
-EndsAs kept old new = (kept ≡ kept_of (is_none new.shelves)) × ((old.shelves ≡ None → new.shelves ≡ None) × StepsGrow old.work new.work)
+EndsAs kept old new = (kept ≡ kept_of (is_none new.shelves)) × ((old.shelves ≡ None → new.shelves ≡ None) × (StepsGrow old.work new.work × (new.shelves ≡ None → made_in new ≡ map.empty)))
