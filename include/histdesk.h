@@ -36,6 +36,10 @@
  *   in common, so each thread may have its own.
  * - No pointer is null, also where its length or room is 0: any other pointer does then. Each points to as much as is
  *   said, and what a call reads and what it writes don't overlap. Lengths are at most PTRDIFF_MAX.
+ * - A bool that a call reads is 0 or 1: the has_place of a refusal that is handed to histdesk_refusal_text or
+ *   histdesk_refusal_words. What a call only writes may hold anything before.
+ * - One allocator: malloc, realloc and free, which the library takes from the program, belong together and stay the same
+ *   while there is a desk, and all calls of one handle come to one copy of the library.
  * - No call is made from a signal handler, nor in a forked child of a process that had several threads.
  * - histdesk_free ends a desk. What is copied is the caller's; the library keeps no pointer that it is handed. */
 #ifndef HISTDESK_H
@@ -302,8 +306,8 @@ uint32_t histdesk_matching(histdesk *desk, uint32_t event, const uint8_t *filter
 /* Copies the places that were asked for last, by one of these three calls. */
 size_t histdesk_places_copy(histdesk *desk, uint64_t from, histdesk_place *to, size_t room);
 
-/* Copies the events that are held now at the CPUs and lines of these places, HISTDESK_NONE where none is any more. The
- * place of each, with its stamp, is the one that was asked for. */
+/* Copies the events that are held now at these places, each with its place; HISTDESK_NONE where none is any more, also if
+ * an event of another stamp is now at the CPU and line. */
 size_t histdesk_events_copy(histdesk *desk, uint64_t from, histdesk_event *to, size_t room);
 
 /* Gives back the memory of all that was asked for, and of the report. What is held and attached stays. */

@@ -1,10 +1,10 @@
 #!/usr/bin/env bash
 # c_library.sh [LIBRARY [HISTDESK]]: tests the C library, libhistdesk.so.0, by programs in C: the header, what the object
 # exports and asks for, the rows and random scripts, line by line, with numbers held against texts and with growths of memory
-# refused, a desk that is full, each growth of a session refused in turn, buffers of just their size and threads (under
-# valgrind where it is installed), and the example. Where HISTDESK is given, more random scripts are held against that
-# program. Without a word, LIBRARY is the one that the variable LIBHISTDESK names, or the one built here. It prints what went
-# wrong, and a last line with the counts.
+# refused, a desk that is full, each growth of a session refused in turn, what is held of the heap once all events are struck,
+# buffers of just their size and threads (under valgrind where it is installed), and the example. Where HISTDESK is given,
+# more random scripts are held against that program. Without a word, LIBRARY is the one that the variable LIBHISTDESK names,
+# or the one built here. It prints what went wrong, and a last line with the counts.
 # shellcheck disable=SC2154 # what counts.sh assigns
 set -uo pipefail
 
@@ -125,10 +125,12 @@ done
 full_row
 row "$folder/full" "$folder/script"
 
-# ---- Growths that are refused, and buffers of just their size.
+# ---- Growths that are refused, what is held of the heap, and buffers of just their size.
 
 program fail "$tests"/library/c/{fail,heap}.c
 holds "$folder/fail"
+program freed "$tests"/library/c/{freed,heap}.c
+holds "$folder/freed"
 program exact "$tests/library/c/exact.c"
 holds "$folder/exact"
 program threads -pthread "$tests/library/c/threads.c"

@@ -6,7 +6,8 @@
 //!
 //! A caller in C passes no argument for a `Global`, and a pointer and a length for a slice. Nothing
 //! checks what it must keep: it passes a handle that is all zero or that these calls left so, no copy
-//! of one, from one thread at a time; and no null pointer, not even for a text of no bytes.
+//! of one, from one thread at a time; no null pointer, not even for a text of no bytes; and a `bool` of
+//! 0 or 1 in a refusal that is read.
 //!
 //! ```ignore
 //! let mut desk = Handle::empty();
@@ -23,16 +24,18 @@
 //! - Each `histdesk_..` with a code: where the handle holds a session, what the session's call
 //!   says, and it is in the handle again; where it holds nothing, the code for that
 //!   (`specs/Calls.antt`), and nothing is written. A copy copies from what the session holds
-//!   (`specs/Copies.antt`), or nothing. Lets through: what the session does.
+//!   (`specs/Copies.antt`), or nothing; `histdesk_events_copy` copies what is held now at the places
+//!   that the session holds, by stamp, CPU and line. Lets through: what the session does.
 //! - `Handle::empty`, `take`, `put`: contracts see what a handle holds: a session, or nothing,
 //!   which is null. `take` gives the session and leaves nothing; `put` drops what was there and
 //!   holds the session; exact. `end` drops what is held, and has no clause. `Handle` has no `Drop`,
-//!   so that no code lets a session go unseen.
+//!   so that no code lets a session go unseen. Lets through: that the memory of a session that is let
+//!   go is kept, in `end`, `put`, `histdesk_new` and `histdesk_free`; tests see that it is freed.
 //! - `Parts::of`, `Parts::into_box`: the parts of a box own what the box owned and have its value,
 //!   and the box is that of the parts.
-//! - `histdesk_refusal_text` copies the line of a refusal; `histdesk_refusal_words` copies nothing
-//!   where the numbers are of no refusal. Let through: copying nothing at any time, since memory may
-//!   run out; any words.
+//! - `histdesk_refusal_text` copies the line of a refusal; `histdesk_refusal_words` copies some words,
+//!   as much of them as has room, and none where the numbers are of no refusal. Both answer how many
+//!   bytes that is. Let through: copying nothing at any time, since memory may run out; any words.
 //!
 //! What C owes stands at the head of `include/histdesk.h`, and is assumed. That a handle is null or
 //! owns its session is what every export leaves, so that C can break it only by writing to it.

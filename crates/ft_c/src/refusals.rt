@@ -3,7 +3,7 @@
 ghost use Rattle.std.specs.Prelude.{◌≡◌, ◌⊎◌, None};
 ghost use Rattle.ft_layout.specs.Refusals.{refused_of};
 ghost use Rattle.ft_layout.specs.Words.{refusal_text};
-ghost use Rattle.ft_c.specs.Copies.{IsCopied};
+ghost use Rattle.ft_c.specs.Copies.{IsCopied, AreWordsCopied};
 
 use ft_layout::{RefusalLayout, copy_bytes, refusal_text, refusal_words};
 use std::alloc::Global;
@@ -33,7 +33,8 @@ pub extern "C" fn histdesk_refusal_words(
     refusal: &RefusalLayout,
     to: &mut [u8],
 ) -> usize
-    ensures { refused_of refusal.now ≡ None → (result ≡ 0) × (to.new ≡ to.old) }
+    ensures part { AreWordsCopied to.old result to.new }
+    ensures of_none { refused_of refusal.now ≡ None → (result ≡ 0) × (to.new ≡ to.old) }
 {
     match refusal_words(alloc, refusal) {
         Ok(words) => copy_bytes(words.as_slice(), 0, to),

@@ -8,7 +8,8 @@ use Rattle.ft_fields.specs.declared.event.Body.TheVariants as bodies
 use Rattle.ft_fields.specs.declared.event.Turn.{Turn}
 use Rattle.ft_fields.specs.declared.event.Wake.{Wake}
 use Rattle.ft_fields.specs.declared.pos.Pos.{Pos}
-use Rattle.ft_lanes.specs.Held.{Lanes, event_at}
+use Rattle.ft_lanes.specs.Held.{Lanes}
+use Rattle.ft_replay.specs.Merged.{held_at}
 use Rattle.ft_layout.specs.Names.{name_layout, name_number}
 use Rattle.ft_layout.specs.Places.{place_layout}
 use Rattle.ft_layout.specs.declared.events.EventLayout.{EventLayout}
@@ -73,9 +74,9 @@ held_event_layout at event = with_body (record (none_at at) { name = name_number
 abbrev pub event_layout : Pos → Option Traced → EventLayout
 event_layout at event = option_map_or (held_event_layout at) event (none_at at)
 
--- what lanes hold at a place
+-- what lanes hold at a place: at its CPU and line, with its stamp
 abbrev pub event_in : Lanes → Pos → EventLayout
-event_in lanes at = event_layout at (event_at lanes at.cpu at.line)
+event_in lanes at = event_layout at (held_at lanes at)
 
 -- an attached trigger: its id, and the number of its events' name
 abbrev pub trigger_layout : AttachedTrigger → TriggerLayout

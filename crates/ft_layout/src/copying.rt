@@ -2,7 +2,7 @@
 
 ghost use Rattle.std.specs.Prelude.{◌≡◌, ◌-◌, length, min, drop};
 ghost use Rattle.ft_fields.specs.Traced.{Traced};
-ghost use Rattle.ft_lanes.specs.Held.{event_at};
+ghost use Rattle.ft_replay.specs.Merged.{held_at};
 ghost use Rattle.ft_layout.specs.Copied.{copied};
 ghost use Rattle.ft_layout.specs.Places.{place_layout, latency_layout};
 ghost use Rattle.ft_layout.specs.Rows.{row_layout, changed_layout};
@@ -13,7 +13,7 @@ use crate::places::{LatencyLayout, PlaceLayout};
 use crate::rows::{ChangedLayout, RowLayout};
 use ft_base::AttachedTrigger;
 use ft_changes::Changed;
-use ft_fields::Pos;
+use ft_fields::{Event, Pos};
 use ft_lanes::Lanes;
 use ft_replay::Pair;
 use ft_table::Row;
@@ -104,7 +104,17 @@ impl Shows<Pos> for Lanes {
     ghost shown = { event_in };
 
     fn show(&self, item: &Pos) -> EventLayout {
-        EventLayout::of(item, self.get(item.cpu, item.line))
+        EventLayout::of(item, held_at(self, item))
+    }
+}
+
+/// The event that the lanes hold at a place: the one of its CPU's line, if that has its stamp.
+fn held_at(lanes: &Lanes, at: &Pos) -> Option<Event>
+    ensures { result ≡ held_at lanes.now at.now }
+{
+    match lanes.get(at.cpu, at.line) {
+        Some(event) if event.stamp == at.stamp => Some(event),
+        _ => None,
     }
 }
 
@@ -162,7 +172,7 @@ pub fn copy_places(all: &[Pos], from: u64, to: &mut [PlaceLayout]) -> usize
 }
 
 /// Copies the events that the lanes hold at places, from the place of this number on, as `copy_part`
-/// does.
+/// does: no event for a place where none is held, or one of another stamp.
 pub fn copy_events(lanes: &Lanes, places: &[Pos], from: u64, to: &mut [EventLayout]) -> usize
     ensures part { to.new ≡ copied (event_in lanes.now) from places.now to.old }
     ensures count { result ≡ min (length to.old) (length places.now - from) }

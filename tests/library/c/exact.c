@@ -185,7 +185,8 @@ static void ask_and_copy(void) {
     copy_all();
 }
 
-/* What was asked for stays over edits, and events are those that are held now. */
+/* What was asked for stays over edits, and events are those that are held at the places now: none where another one of
+ * another stamp came to the line. */
 static void ask_and_edit(void) {
     histdesk_line at;
     histdesk_event event;
@@ -205,6 +206,10 @@ static void ask_and_edit(void) {
     HOLDS(histdesk_events_copy(desk, 4, &event, 1) == 1 && event.name == HISTDESK_SWITCH && event.prio == -1);
     HOLDS(insert("b-1 [001] 1.000120: x: y", &at) == HISTDESK_OK && at.cpu == 1 && at.line == 1);
     HOLDS(histdesk_events_copy(desk, 2, &event, 1) == 1 && event.name == HISTDESK_OTHER && event.task.bytes[0] == 'b');
+    HOLDS(histdesk_unload(desk, 1, &count) == HISTDESK_OK && load("c-1 [001] 1.000121: x: y", &count) == HISTDESK_OK);
+    HOLDS(histdesk_event_at(desk, 1, 1, &event) == HISTDESK_OK && event.place.stamp == 1000121);
+    HOLDS(histdesk_events_copy(desk, 2, &event, 1) == 1 && event.name == HISTDESK_NONE && event.task.length == 0);
+    HOLDS(event.place.stamp == 1000120 && event.place.cpu == 1 && event.place.line == 1 && event.common_pid == 0);
     HOLDS(histdesk_rows(desk, 4, &rows_before) == HISTDESK_NO_TRIGGER && rows_before == 77);
     HOLDS(histdesk_rows_copy(desk, 1, &row, 1) == 1 && row.key.part[0].text.bytes[0] == 'w');
 }

@@ -310,7 +310,10 @@ static void ask_refusals(void) {
 
 static void end_all(void) {
     uint64_t events;
+    int64_t held = heap.blocks;
     histdesk_forget(&desk);
+    /* A text, rows, latencies, places and triggers were held, each in one block or more. */
+    HOLDS(heap.blocks <= held - 5);
     ALWAYS(HISTDESK_OK, histdesk_unload(&desk, 1, &events));
     HOLDS(events == 1);
     ALWAYS(HISTDESK_OK, histdesk_remove(&desk, 2));
