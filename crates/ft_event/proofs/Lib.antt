@@ -8,6 +8,7 @@ mod Firsts
 mod HeadLoop
 mod Heads
 mod Lines
+mod Marks
 mod Numbers
 mod PartLemmas
 pub mod Runs

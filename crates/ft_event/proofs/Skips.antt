@@ -113,7 +113,7 @@ lost_found bytes e =
     }
 
 -- nothing is left
-at_end : (o : Option (List ℕ)) → is_at_end o ≡ true → o ≡ Some []
+pub at_end : (o : Option (List ℕ)) → is_at_end o ≡ true → o ≡ Some []
 at_end None e = absurd cc
 at_end (Some rest) e = ap (λ (t : List ℕ). Some t) (nil_from_length rest (eqb-true _ _ e))
 

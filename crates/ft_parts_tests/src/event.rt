@@ -2,6 +2,7 @@
 
 mod fields;
 mod lines;
+mod marks;
 
 use ft_event::*;
 use std::cmp::Ordering;
