@@ -1,0 +1,11 @@
+mod Acting
+mod Counting
+mod Cuts
+mod Cutting
+mod Joined
+mod Noticing
+mod Ordering
+mod Places
+mod ReadingLines
+mod Streaming
+mod Written

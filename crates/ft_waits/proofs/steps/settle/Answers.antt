@@ -1,0 +1,12 @@
+use Rattle.std.proofs.Common.{subst, List}
+use Rattle.ft_waits.specs.inner.Known.{entries_of, TakesAll}
+use Rattle.ft_waits.specs.declared.held.Held.{Held}
+use Rattle.ft_waits.proofs.steps.settle.Goals as goal
+
+pub returns-clause-settles : goal.returns-clause-settles
+returns-clause-settles c = record {
+  ordered = c.sort.new.held.items;
+  moved = c.sort.ensures.moved;
+  sorted = c.sort.ensures.sorted;
+  takes = subst (λ (held : List Held). TakesAll (entries_of held) c.args.tasks.now c.args.out.now.items c.take_all.new.tasks c.take_all.new.out.items) c.deref.ensures.value c.in_ok-take_all.ensures;
+}

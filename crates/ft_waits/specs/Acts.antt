@@ -1,0 +1,37 @@
+-- What an event says of who runs (kernel: events.rst, the events of `sched`).
+use Rattle.std.specs.Prelude.{ℕ, ℤ, Bool, ◌||◌, List, Option, Some, None, codes}
+use Rattle.std.specs.Str.{bytes_eq}
+use Rattle.ft_fields.specs.declared.event.Body.{Body}
+use Rattle.ft_fields.specs.declared.event.Body.TheVariants as bodies
+use Rattle.ft_fields.specs.declared.event.Turn.{Turn}
+
+-- a CPU goes from one task to the next, which it runs with this priority and name; whether the one before can still run
+pub record Handover : Type 0 where
+  pub prev_pid : ℤ
+  pub prev_runnable : Bool
+  pub next_pid : ℤ
+  pub next_prio : ℤ
+  pub next_comm : List ℕ
+
+-- what an event says of who runs: a task is woken, a task is created, or a CPU goes from one task to the next
+pub data Act : Type 0 where
+  Waking : ℤ → Act
+  Creation : ℤ → Act
+  Switch : Handover → Act
+
+-- whether the task that a switch leaves can still run (kernel: events.rst, `prev_state` of `sched_switch`)
+abbrev pub is_runnable : List ℕ → Bool
+is_runnable state = bytes_eq state (codes "R") || bytes_eq state (codes "R+")
+
+-- what a switch says
+abbrev pub handover : Turn → Handover
+handover turn = record { prev_pid = turn.prev_pid; prev_runnable = is_runnable turn.prev_state; next_pid = turn.next_pid; next_prio = turn.next_prio; next_comm = turn.next_comm }
+
+-- what an event says of who runs, if it says anything
+abbrev pub act_of : Body → Option Act
+act_of (bodies.Waking wake) = Some (Waking wake.pid)
+act_of (bodies.WakeupNew wake) = Some (Creation wake.pid)
+act_of (bodies.Switch turn) = Some (Switch (handover turn))
+act_of (bodies.Wakeup wake) = None
+act_of (bodies.WakeupLatency matched) = None
+act_of bodies.Other = None

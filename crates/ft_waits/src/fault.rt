@@ -1,0 +1,72 @@
+//! What was read of a text, and why it is refused.
+
+use crate::missing::Missing;
+use ft_event::LineFault;
+use std::alloc::AllocError;
+use thiserror::Error;
+
+/// What is done with lines that can't be read.
+#[derive(Clone, Copy, Debug, PartialEq, Eq)]
+pub enum BadLines {
+    /// The first one ends the reading.
+    Refuse,
+    /// They are counted and skipped.
+    Skip,
+}
+
+/// A line that can't be read.
+#[derive(Clone, Copy, Debug, PartialEq, Eq)]
+pub struct BadLine {
+    /// Its number in the text, from 1.
+    pub line: u64,
+    /// The first thing that is wrong with it.
+    pub fault: LineFault,
+}
+
+/// How many lines a text has, and which of them can't be read.
+#[derive(Clone, Copy, Debug, PartialEq, Eq)]
+pub struct LinesRead {
+    /// How many lines there are.
+    pub lines: u64,
+    /// How many of them can't be read.
+    pub bad: u64,
+    /// The first one of these.
+    pub first: Option<BadLine>,
+}
+
+/// What was read of a text.
+#[derive(Clone, Copy, Debug, PartialEq, Eq)]
+pub struct TextRead {
+    /// Its lines.
+    pub lines: LinesRead,
+    /// The switches that are missing in it.
+    pub missing: Missing,
+}
+
+/// Why a text is read no further.
+#[derive(Clone, Copy, Debug, PartialEq, Eq, Error)]
+pub enum WaitsFault {
+    /// Out of memory.
+    #[error("out of memory")]
+    Memory,
+    /// The first line that can't be read.
+    #[error("line {}: it can't be read", .0.line)]
+    BadLine(BadLine),
+    /// The number of the first line whose stamp is before the last event's.
+    #[error("line {0}: its stamp is before that of the event above")]
+    Backwards(u64),
+    /// The text has more than 4,294,967,295 lines.
+    #[error("more than 4294967295 lines")]
+    TooLong,
+}
+
+impl From<AllocError> for WaitsFault {
+    ghost use Rattle.std.specs.Prelude.{◌≡◌};
+    ghost use Rattle.ft_waits.specs.declared.fault.WaitsFault.TheVariants.{Memory};
+
+    ghost from_gives = { λ _ fault. fault ≡ Memory };
+
+    fn from(_error: AllocError) -> WaitsFault {
+        WaitsFault::Memory
+    }
+}

@@ -1,0 +1,105 @@
+//! Switches that are missing.
+
+ghost use Rattle.std.specs.Prelude.{◌≡◌, ◌+◌, ◌∷◌, [], List, OnOk, IfOk, IfErr, vec_len};
+ghost use Rattle.ft_fields.specs.Borrowed.{event_told};
+ghost use Rattle.ft_fields.specs.Traced.{Traced};
+ghost use Rattle.ft_waits.specs.Missing.{runs_after, is_other, with_event, running as running_on};
+ghost use Rattle.ft_waits.specs.inner.Running.{RunsTasks};
+
+use crate::fault::WaitsFault;
+use ft_fields::{BodyRef, EventRef, Pos};
+use std::alloc::{AllocError, Global};
+
+/// How many CPUs there can be.
+const CPUS: usize = 8192;
+
+/// Switches that are missing in a text though no line reports them, as far as its events show it.
+#[derive(Clone, Copy, Debug, PartialEq, Eq)]
+pub struct Missing {
+    /// How many events another task ran than the one that their CPU went to last.
+    pub switches: u64,
+    /// The place of the first of these events.
+    pub first: Option<Pos>,
+}
+
+/// Of no CPU it is known what it runs.
+#[tactic(auto, unfolding(crate::specs::Missing::running))]
+pub(crate) fn none_running(alloc: Global) -> Result<Vec<Option<i32>>, AllocError>
+    ensures len { IfOk result (λ running. vec_len running ≡ 8192) }
+    ensures none { IfOk result (λ running. RunsTasks running.items []) }
+{
+    let mut running = Vec::new(alloc);
+    running.resize(CPUS, None)?;
+    Ok(running)
+}
+
+/// The task that a CPU runs after an event.
+#[inline(always)]
+fn runs_after(event: &EventRef<'_>) -> i32
+    ensures { result ≡ runs_after (event_told event.now) }
+{
+    match event.body {
+        BodyRef::Switch(turn) => turn.next_pid,
+        _ => event.pid,
+    }
+}
+
+/// Whether another task runs than the one that ran last.
+#[inline(always)]
+fn is_other(ran: Option<i32>, pid: i32) -> bool
+    ensures { result ≡ is_other ran pid }
+{
+    match ran {
+        Some(ran) => ran != pid,
+        None => false,
+    }
+}
+
+impl Missing {
+    /// No event showed that a switch is missing.
+    pub(crate) fn none() -> Missing
+        ensures switches { result.switches ≡ 0 }
+        ensures first { result.first ≡ None }
+    {
+        Missing {
+            switches: 0,
+            first: None,
+        }
+    }
+
+    /// Counts an event at a place, if it shows that a switch is missing. Fails if the count does not fit.
+    #[inline(always)]
+    fn count(&mut self, is_missing: bool, place: Pos) -> Result<(), WaitsFault>
+        ensures ok { OnOk result (self.new ≡ with_event is_missing place self.old) }
+        ensures full { IfErr result (λ fault. (fault ≡ WaitsFault.TooLong) × (self.old.switches ≡ 18446744073709551615)) }
+    {
+        if is_missing {
+            self.switches = self.switches.checked_add(1).ok_or(WaitsFault::TooLong)?;
+            self.first = Some(self.first.unwrap_or(place));
+        }
+        Ok(())
+    }
+}
+
+/// Takes note of an event at its place: whether it shows that a switch is missing, and which task its CPU
+/// runs then.
+#[inline(always)]
+pub(crate) fn notice(
+    running: &mut Vec<Option<i32>>,
+    missing: &mut Missing,
+    event: &EventRef<'_>,
+    place: Pos,
+) -> Result<(), WaitsFault>
+    requires { vec_len running.old ≡ 8192 }
+    ensures len { vec_len running.new ≡ 8192 }
+    ensures running { OnOk result ((before : List Traced) → RunsTasks running.old.items before
+        → RunsTasks running.new.items (event_told event.now ∷ before)) }
+    ensures missing { OnOk result ((before : List Traced) → RunsTasks running.old.items before
+        → missing.new ≡ with_event (is_other (running_on event.now.cpu before) event.now.pid) place missing.old) }
+    ensures full { IfErr result (λ fault. (fault ≡ WaitsFault.TooLong) × (missing.old.switches ≡ 18446744073709551615)) }
+{
+    let cpu = event.cpu as usize;
+    missing.count(is_other(running[cpu], event.pid), place)?;
+    running[cpu] = Some(runs_after(event));
+    Ok(())
+}
