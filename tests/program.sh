@@ -38,6 +38,7 @@ holds "$tests/documents/crates.py"
 holds "$tests/documents/proof.py"
 holds "$tests/documents/reference.py" "$histdesk"
 holds "$tests/documents/pages.py"
+holds "$tests/documents/python_names.py"
 
 echo "$passed passed, $failed failed"
 ((failed == 0))

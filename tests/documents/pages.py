@@ -5,11 +5,10 @@
     pages.py --links PAGE.. > WHAT WENT WRONG
 
 Of each document: a link leads to a file that is there, and to a heading of it; each file and folder of the repository that it
-names is there; a line has at most 120 characters, except in tables and blocks; no word of AVOIDED stands in it. Each page of
-WORDS has as many words as stand there, to a quarter, and docs/ has no other page. A document or script that sources and
-scripts name is there. README.md has the line that tools/needs prints, and docs/TESTING.md counts what there is; --write has
-these counts written there first. --links looks at the links of these pages alone, which may stand anywhere. The last line says
-how many things hold.
+names is there; a line has at most 120 characters, except in tables and blocks; no word of AVOIDED stands in it. docs/ has the
+pages of PAGES and no others. A document or script that sources and scripts name is there. README.md has
+the line that tools/needs prints, and docs/TESTING.md counts what there is; --write has these counts written there first.
+--links looks at the links of these pages alone, which may stand anywhere. The last line says how many things hold.
 """
 
 import ast
@@ -20,21 +19,22 @@ import subprocess
 import sys
 import unicodedata
 from collections import Counter
+from typing import List
 
 ROOT = os.path.realpath(os.path.join(os.path.dirname(os.path.realpath(__file__)), "..", ".."))
-# How many words each page has, as `wc -w` counts them.
-WORDS = {
-    "README.md": 700,
-    "docs/GUIDE.md": 3000,
-    "docs/REFERENCE.md": 7000,
-    "docs/LIBRARY.md": 1500,
-    "docs/PROOF.md": 3000,
-    "docs/TESTING.md": 1500,
-    "docs/HACKING.md": 1800,
-    "docs/DECISIONS.md": 1300,
-    "bench/README.md": 500,
-}
-# Documents without a length of their own: one that tells of the past, one that a program writes, and what points elsewhere.
+# The pages, each for one reader.
+PAGES = [
+    "README.md",
+    "docs/GUIDE.md",
+    "docs/REFERENCE.md",
+    "docs/LIBRARY.md",
+    "docs/PROOF.md",
+    "docs/TESTING.md",
+    "docs/HACKING.md",
+    "docs/DECISIONS.md",
+    "bench/README.md",
+]
+# The other documents: one that tells of the past, one that a program writes, and what points elsewhere.
 PAST = "CHANGELOG.md"
 OTHERS = [PAST, "docs/CRATES.md", "examples/README.md", "tools/README.md", "python/README.md"]
 COUNTING = "docs/TESTING.md"
@@ -52,7 +52,7 @@ MADE = re.compile(r"/out(/|$)|^dist(/|$)")
 NAME = re.compile(r"(?:\./)?[\w.*{},+-]+(?:/[\w.*{},+-]+)*/?")
 
 
-def text_of(path):
+def text_of(path: str) -> str:
     with open(os.path.join(ROOT, path), encoding="utf-8") as file:
         return file.read()
 
@@ -64,7 +64,7 @@ def is_there(path):
 # ---- a document's parts
 
 
-def without_blocks(text):
+def without_blocks(text: str) -> List[str]:
     """The text without what stands in blocks, line by line."""
     lines, fence = [], None
     for line in text.split("\n"):
@@ -193,17 +193,11 @@ def form(path):
     return lines, wrong
 
 
-def length(path):
-    count, wanted = len(text_of(path).split()), WORDS[path]
-    right = wanted * 3 / 4 <= count <= wanted * 5 / 4
-    return [path], [] if right else [f"{path}: {count} words, where about {wanted} should stand"]
-
-
 def pages():
     """The pages of docs/, and which of them has no place."""
     there = [os.path.relpath(path, ROOT) for path in glob.glob(os.path.join(ROOT, "docs", "*.md"))]
-    wrong = [f"{path} has no place among the documents" for path in there if path not in [*WORDS, *OTHERS]]
-    return there, wrong + [f"{path} is missing" for path in WORDS if not is_there(path)]
+    wrong = [f"{path} has no place among the documents" for path in there if path not in [*PAGES, *OTHERS]]
+    return there, wrong + [f"{path} is missing" for path in PAGES if not is_there(path)]
 
 
 # ---- what is printed and counted
@@ -257,10 +251,9 @@ def counted(path):
 
 def all_things():
     """What there is of each kind, and what is wrong with it."""
-    documents = [path for path in [*WORDS, *OTHERS] if is_there(path)]
+    documents = [path for path in [*PAGES, *OTHERS] if is_there(path)]
     told = [links(path) for path in documents]
     told += [check(path) for path in documents if path != PAST for check in (names, form)]
-    told += [length(path) for path in documents if path in WORDS]
     return told + [mentions(), pages(), needed(), counted(COUNTING)]
 
 

@@ -37,7 +37,7 @@ from collections import Counter
 # Nothing is written beside the sources.
 sys.dont_write_bytecode = True
 
-from pages import ROOT, WORDS, is_there, text_of
+from pages import PAGES, ROOT, is_there, text_of
 
 # Kinds of blocks that no script runs here, and those that the script of a page reads, whatever they are.
 CODE, READ = ["rust", "rattle"], ["docs/REFERENCE.md"]
@@ -220,7 +220,7 @@ def main():
     count = Count()
     with tempfile.TemporaryDirectory() as folder:
         place = Place(folder, histdesk, histwatch)
-        for page in sys.argv[3:] or [page for page in WORDS if is_there(page)]:
+        for page in sys.argv[3:] or [page for page in PAGES if is_there(page)]:
             try_page(place, page, count)
     for why, number in count.left.items():
         print(f"not run: {number} blocks: {why}")

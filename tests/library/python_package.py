@@ -465,6 +465,34 @@ class Header(unittest.TestCase):
         self.assertEqual(_layout.place_type().itemsize, _layout.PLACE.size)
 
 
+class Places(unittest.TestCase):
+    """The library's copies of events are of the places that were asked for."""
+
+    def setUp(self):
+        self.handle, self.count = _layout.Handle(), ctypes.c_uint64()
+        self.assertEqual(_library.library.histdesk_new(self.handle), _layout.OK)
+        self.addCleanup(_library.library.histdesk_free, self.handle)
+
+    def load(self, text):
+        self.assertEqual(_library.library.histdesk_load(self.handle, text, len(text), self.count), _layout.OK)
+
+    def copied(self):
+        """The stamp, the number of the name and the PID of the first place's event."""
+        room = ctypes.create_string_buffer(_layout.EVENT.size)
+        self.assertEqual(_library.library.histdesk_events_copy(self.handle, 0, room, 1), 1)
+        stamp, _, _, name, pid = _layout.EVENT.unpack(room.raw)[:5]
+        return stamp, name, pid
+
+    def test_another_stamp_is_another_event(self):
+        self.load(b"a-1 [000] 1.000100: x:")
+        self.assertEqual(_library.library.histdesk_events(self.handle, self.count), _layout.OK)
+        self.assertEqual(self.copied(), (1000100, _layout.OTHER, 1))
+        self.assertEqual(_library.library.histdesk_unload(self.handle, 0, self.count), _layout.OK)
+        self.assertEqual(self.copied(), (1000100, _layout.NO_EVENT, 0))
+        self.load(b"b-2 [000] 2.000100: x:")
+        self.assertEqual(self.copied(), (1000100, _layout.NO_EVENT, 0))
+
+
 class Documents(unittest.TestCase):
     def test_examples(self):
         tried = doctest.testmod(histdesk)
