@@ -7,7 +7,7 @@ use Rattle.std.proofs.lemmas.List.{get_or-set_other}
 use Rattle.std.proofs.lemmas.Grind.{get_or-set_at}
 use Rattle.std.proofs.lemmas.List.Sums.{sum_by-cons}
 use Rattle.ft_fields.specs.Traced.{Traced}
-use Rattle.ft_waits.specs.inner.Known.{CountsLines}
+use Rattle.ft_waits.specs.Reading.{CountsEvents}
 
 -- so many events of a CPU
 abbrev pub of_cpu : ℕ → List Traced → ℕ
@@ -28,7 +28,7 @@ of_other e cpu before apart =
     omega (arith, parts, none)
 
 -- the counts with the event's own raised
-pub counted : (lines : List ℕ) (before : List Traced) (e : Traced) (line : ℕ) → CountsLines lines before → e.cpu < length lines → line ≡ suc (of_cpu e.cpu before) → CountsLines (set lines e.cpu line) (e ∷ before)
+pub counted : (lines : List ℕ) (before : List Traced) (e : Traced) (line : ℕ) → CountsEvents lines before → e.cpu < length lines → line ≡ suc (of_cpu e.cpu before) → CountsEvents (set lines e.cpu line) (e ∷ before)
 counted lines before e line counts within is cpu fits = elim (cases_eq e.cpu cpu) [
   | inl same ↦ get_or-set_at lines e.cpu cpu line 0 (sym same) within ∙ is ∙ ap (λ k. suc (of_cpu k before)) same ∙ sym (of_own e cpu before same)
   | inr apart ↦ get_or-set_other lines e.cpu cpu line 0 (λ same. apart (sym same)) ∙ counts cpu fits ∙ sym (of_other e cpu before apart)

@@ -1,16 +1,20 @@
 -- The lines of a text that comes in pieces.
-use Rattle.std.specs.Prelude.{◌≡◌, ◌==◌, ◌<◌, ℕ, suc, Bool, true, false, ◌||◌, List, [], ◌∷◌, ◌++◌, length, take, reverse, if◌then◌else◌, Option, Some}
+use Rattle.std.specs.Prelude.{◌≡◌, ◌==◌, ◌<◌, ℕ, suc, Bool, true, false, ◌||◌, List, [], ◌∷◌, ◌++◌, length, take, reverse, if◌then◌else◌, Option, Some, Result, Ok, Err}
 use Rattle.std.specs.List.{list_any}
 use Rattle.std.specs.Option.{option_or}
 use Rattle.std.proofs.Common.{refl, sym, ap, subst, ◌∙◌, append_assoc, arith, inl, inr}
 use Rattle.std.proofs.lemmas.Bool.{cases_lt, lt-ltb}
 use Rattle.std.proofs.lemmas.List.{append-nil, reverse-append, reverse-reverse, length-append, length-take, take_all}
 use Rattle.ft_event.specs.Line.{line_of}
+use Rattle.ft_event.specs.declared.fault.Line.{Line}
+use Rattle.ft_event.specs.declared.fault.Line.TheVariants as lines
+use Rattle.ft_event.specs.declared.fault.LineFault.{LineFault}
+use Rattle.ft_event.specs.declared.fault.LineFault.TheVariants.{LineLong}
 use Rattle.ft_script.specs.Lines.{lines_of, onto_first}
 use Rattle.ft_waits.specs.Reading.{history, refused, events_of, refusal_of, latest, FailsAt, Fails}
 use Rattle.ft_waits.specs.declared.fault.BadLines.{BadLines}
 use Rattle.ft_waits.specs.declared.fault.WaitsFault.{WaitsFault}
-use Rattle.ft_waits.specs.inner.Streams.{Cuts, room}
+use Rattle.ft_waits.specs.inner.Streams.{Cuts, IsLike, room}
 
 -- neither holds
 pub or-left : (a b : Bool) → (a || b) ≡ false → a ≡ false
@@ -98,6 +102,25 @@ line-kept line = elim (cases_lt room (length line)) [
       rw (cut, whole) refl
   | inr fits ↦ ap line_of (take_all room line fits)
 ]
+
+-- a line that is longer can't be read, so one that is skipped is whole
+long-line : (line : List ℕ) → room < length line → line_of (take room line) ≡ Err LineLong
+unfolding line_of
+long-line line long =
+    let kept = length-take room line in
+    let cut = lt-ltb 4096 (length (take room line)) (omega (arith, kept, long)) in
+    rw cut refl
+
+pub like-kept : (line : List ℕ) → IsLike (take room line) line
+like-kept line = (
+  sym (line-kept line),
+  λ skipped. elim (cases_lt room (length line)) [
+    | inl long ↦
+        let wrong : ◌≡◌ {A = Result Line LineFault} (Err LineLong) (Ok lines.Skip) = sym (long-line line long) ∙ skipped in
+        absurd (cc wrong)
+    | inr fits ↦ sym (take_all room line fits)
+  ],
+)
 
 -- ---- refusals
 

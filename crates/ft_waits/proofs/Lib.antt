@@ -1,11 +1,10 @@
-mod Acting
 mod Counting
 mod Cuts
 mod Cutting
 mod Joined
+mod Moves
 mod Noticing
 mod Ordering
 mod Places
 mod ReadingLines
 mod Streaming
-mod Written

@@ -4,12 +4,10 @@ use Rattle.std.specs.List.{AllByRecursion, IsDistinct}
 use Rattle.std.specs.List.Sorted.{IsSorted, IsSortedByKey, IsStrictlySortedBy}
 use Rattle.std.specs.FinMap as map
 use Rattle.std.specs.FinMap.{get-from_entries, same_map}
-use Rattle.std.specs.Map.{keys_of, lookup}
-use Rattle.std.specs.Option.{unwrap_or}
-use Rattle.std.specs.BTreeMap.{BTreeMap}
+use Rattle.std.specs.Map.{keys_of}
 use Rattle.std.specs.declared.cmp.Ordering.{Ordering}
 use Rattle.std.specs.declared.cmp.Ordering.TheVariants.{Less}
-use Rattle.std.specs.Ordering.{nat_cmp, int_cmp, eq_by_cmp, is_eq, is_lt, ordering_then}
+use Rattle.std.specs.Ordering.{nat_cmp, eq_by_cmp, is_lt, ordering_then}
 use Rattle.std.specs.Cmp.{nat_cmp_is, eq_by_cmp_equiv}
 use Rattle.std.proofs.Common.{refl, sym, ap, subst, ◌∙◌, append_assoc, arith, get_or}
 use Rattle.std.proofs.lemmas.List.{append-nil, reverse-append, get_or-map, length-map}
@@ -21,14 +19,14 @@ use Rattle.ft_table.proofs.Rising.{strictly}
 use Rattle.ft_replay.proofs.Placing.{find-moved}
 use Rattle.ft_fields.specs.Places.{pos_cmp, pos_cmp_total, pos_same}
 use Rattle.ft_fields.specs.declared.pos.Pos.{Pos}
-use Rattle.ft_waits.specs.Acts.{Act}
+use Rattle.ft_dispatch.specs.Acts.{Act}
 use Rattle.ft_waits.specs.Reading.{act_at, in_order}
-use Rattle.ft_waits.specs.Waits.{runnable_since, last_since_run, dispatches}
-use Rattle.ft_waits.specs.inner.Known.{unknown, entry_of, entries_of, Tells, Settles, Orders}
-use Rattle.ft_waits.specs.declared.dispatch.Since.{Since}
-use Rattle.ft_waits.specs.declared.dispatch.Dispatch.{Dispatch}
-use Rattle.ft_waits.specs.declared.held.Held.{Held}
-use Rattle.ft_waits.specs.declared.tasks.Task.{Task}
+use Rattle.ft_dispatch.specs.Dispatches.{dispatches}
+use Rattle.ft_dispatch.specs.Telling.{entry_of, entries_of, Tells}
+use Rattle.ft_waits.specs.inner.Known.{Settles, Orders}
+use Rattle.ft_dispatch.specs.declared.dispatch.Dispatch.{Dispatch}
+use Rattle.ft_dispatch.specs.declared.act.PlacedAct.{PlacedAct}
+use Rattle.ft_dispatch.specs.declared.tasks.Tasks.{Tasks}
 
 -- ---- lists
 
@@ -69,14 +67,14 @@ all-below stamp xs ys low at = at-keys (λ x. AllByRecursion (λ y. pos_cmp x y 
 
 -- ---- held acts
 
-places-of : (held : List Held) → keys_of (entries_of held) ≡ list_map (λ one. one.place) held
+places-of : (held : List PlacedAct) → keys_of (entries_of held) ≡ list_map (λ one. one.place) held
 places-of [] = refl
 places-of (x ∷ held) = ap (λ ks. x.place ∷ ks) (places-of held)
 
-keys-sorted : (held : List Held) → IsSortedByKey (λ one. one.place) pos_cmp held → IsSorted pos_cmp (keys_of (entries_of held))
+keys-sorted : (held : List PlacedAct) → IsSortedByKey (λ one. one.place) pos_cmp held → IsSorted pos_cmp (keys_of (entries_of held))
 keys-sorted [] up = λ k d low inside. absurd (omega (arith, inside))
 keys-sorted (x ∷ held) up = λ k d low inside.
-    let xs : List Held = x ∷ held in
+    let xs : List PlacedAct = x ∷ held in
     let keys : List Pos = keys_of (entries_of xs) in
     let size : length keys ≡ length xs = ap length (places-of xs) ∙ length-map xs (λ one. one.place) in
     let within : k + 1 < length xs = omega (arith, inside, size) in
@@ -94,7 +92,7 @@ entries-moved xs ys moved distinct sorted =
     ∙ sym (get-from_entries pos_cmp_total xs q)))
 
 -- the acts of a microsecond are taken where a later one begins
-pub settled : (old new : BTreeMap Task Since) (held : List Held) (latest stamp : ℕ) (acts : List (Pos × Act)) (told out out_now : List Dispatch)
+pub settled : (old new : Tasks) (held : List PlacedAct) (latest stamp : ℕ) (acts : List (Pos × Act)) (told out out_now : List Dispatch)
     → latest < stamp → Settles held old out new out_now → Orders old held latest acts (told ++ out) → Orders new [] stamp acts (told ++ out_now)
 settled old new held latest stamp acts told out out_now later settles orders =
     let now : List (Pos × Act) = entries_of settles.ordered in
@@ -119,7 +117,7 @@ settled old new held latest stamp acts told out out_now later settles orders =
     }
 
 -- one act more is held, if there is one
-pub held-more : (tasks : BTreeMap Task Since) (old new : List Held) (stamp : ℕ) (place : Pos) (act : Option Act) (acts : List (Pos × Act)) (told : List Dispatch)
+pub held-more : (tasks : Tasks) (old new : List PlacedAct) (stamp : ℕ) (place : Pos) (act : Option Act) (acts : List (Pos × Act)) (told : List Dispatch)
     → entries_of new ≡ entries_of old ++ act_at place act → place.stamp ≡ stamp → IsDistinct (eq_by_cmp pos_cmp) (keys_of (act_at place act ++ acts))
     → Orders tasks old stamp acts told → Orders tasks new stamp (act_at place act ++ acts) told
 held-more tasks old new stamp place act acts told is at distinct orders =
@@ -141,7 +139,7 @@ held-more tasks old new stamp place act acts told is at distinct orders =
     one_at stamp place at (Some act) = (at, tt)
 
 -- at the end all acts are taken in order
-pub all-settled : (old new : BTreeMap Task Since) (held : List Held) (latest : ℕ) (acts : List (Pos × Act)) (told out out_now : List Dispatch)
+pub all-settled : (old new : Tasks) (held : List PlacedAct) (latest : ℕ) (acts : List (Pos × Act)) (told out out_now : List Dispatch)
     → Settles held old out new out_now → Orders old held latest acts (told ++ out) → told ++ out_now ≡ dispatches (reverse (in_order acts))
 all-settled old new held latest acts told out out_now settles orders =
     let last = settled old new held latest (suc latest) acts told out out_now (omega arith) settles orders in
@@ -149,17 +147,14 @@ all-settled old new held latest acts told out out_now settles orders =
     last.tells.tells ∙ ap (λ (es : List (Pos × Act)). dispatches (reverse es)) (entries-moved acts last.done all orders.distinct last.sorted)
 
 -- no acts
-pub orders-nothing : (tasks : BTreeMap Task Since) (held : List Held) → held ≡ [] → tasks.entries ≡ [] → Orders tasks held 0 [] []
-unfolding runnable_since last_since_run dispatches IsDistinct IsStrictlySortedBy
-orders-nothing tasks held none empty = record {
+pub orders-nothing : (tasks : Tasks) (held : List PlacedAct) → held ≡ [] → Tells tasks [] [] → Orders tasks held 0 [] []
+unfolding IsDistinct IsStrictlySortedBy
+orders-nothing tasks held none tells = record {
   done = [];
   sorted = tt;
   earlier = tt;
-  now = subst (λ (h : List Held). AllByRecursion (λ (e : Pos × Act). e.0.stamp ≡ 0) (entries_of h)) (sym none) tt;
-  all = subst (λ (h : List Held). IsPermutation [] (entries_of h)) (sym none) (IsPermutation-refl []);
+  now = subst (λ (h : List PlacedAct). AllByRecursion (λ (e : Pos × Act). e.0.stamp ≡ 0) (entries_of h)) (sym none) tt;
+  all = subst (λ (h : List PlacedAct). IsPermutation [] (entries_of h)) (sym none) (IsPermutation-refl []);
   distinct = tt;
-  tells = record {
-    knows = λ pid. ap (λ es. unwrap_or (lookup (λ (task : Task). is_eq (int_cmp pid task.pid)) es) unknown) empty;
-    tells = refl;
-  };
+  tells = tells;
 }

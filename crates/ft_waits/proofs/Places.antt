@@ -9,7 +9,7 @@ use Rattle.ft_maps.specs.Entries.{same_from_tie}
 use Rattle.ft_fields.specs.Traced.{Traced}
 use Rattle.ft_fields.specs.Places.{pos_cmp, pos_same}
 use Rattle.ft_fields.specs.declared.pos.Pos.{Pos}
-use Rattle.ft_waits.specs.Acts.{Act, act_of}
+use Rattle.ft_dispatch.specs.Acts.{Act, act_of}
 use Rattle.ft_waits.specs.Reading.{place_after, act_at, acts_of}
 use Rattle.ft_waits.proofs.Counting.{of_cpu, of_own, of_more}
 

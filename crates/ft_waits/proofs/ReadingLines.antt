@@ -1,8 +1,8 @@
 -- One line more is read.
-use Rattle.std.specs.Prelude.{◌≡◌, ◌<◌, ◌≤◌, ◌+◌, ℕ, suc, Bool, false, List, [], ◌∷◌, length, nat_lt, if◌then◌else◌, Option, Some, None, Result, Ok, Err, ◌⊎◌, unwrap_or}
+use Rattle.std.specs.Prelude.{◌≡◌, ◌<◌, ◌≤◌, ◌+◌, ℕ, suc, Bool, false, List, [], ◌∷◌, length, nat_lt, if◌then◌else◌, Option, Some, None, Result, Ok, Err, ◌⊎◌, unwrap_or, IfSome, IfNone, option_map}
 use Rattle.std.specs.List.{count_by}
 use Rattle.std.specs.Option.{option_or}
-use Rattle.std.proofs.Common.{refl, sym, ap, subst, ◌∙◌, arith, cond, inl, inr}
+use Rattle.std.proofs.Common.{refl, sym, ap, subst, ◌∙◌, arith, cond, inl, inr, add-one}
 use Rattle.std.proofs.lemmas.Bool.{lt-ltb, false_from_ne_true, ltb-true}
 use Rattle.std.proofs.lemmas.List.Sums.{sum_by-cons, count_by-le-length}
 use Rattle.ft_fields.specs.Traced.{Traced}
@@ -10,8 +10,12 @@ use Rattle.ft_event.specs.declared.fault.Line.{Line}
 use Rattle.ft_event.specs.declared.fault.Line.TheVariants as lines
 use Rattle.ft_event.specs.declared.fault.LineFault.{LineFault}
 use Rattle.ft_event.specs.Line.{line_of}
-use Rattle.ft_waits.specs.Reading.{events_of, with_line, is_bad, bad_at, first_bad, lines_read, latest, refusal_of, refused, number_limit, FailsAt}
-use Rattle.ft_waits.specs.declared.dispatch.Dispatch.{Dispatch}
+use Rattle.ft_event.specs.Marks.{MarkIs}
+use Rattle.ft_event.specs.declared.mark.Mark.{Mark}
+use Rattle.ft_losses.specs.Notes.{Note, NoteBy, NoteIs, SkippedIs, AreNotes, quiet_note}
+use Rattle.ft_losses.specs.Telling.{Keeps}
+use Rattle.ft_waits.specs.Reading.{events_of, with_line, is_bad, bad_at, first_bad, lines_read, first_stamp, last_stamp, latest, refusal_of, refused, number_limit, FailsAt}
+use Rattle.ft_dispatch.specs.declared.dispatch.Dispatch.{Dispatch}
 use Rattle.ft_waits.specs.declared.fault.BadLine.{BadLine}
 use Rattle.ft_waits.specs.declared.fault.BadLines.{BadLines}
 use Rattle.ft_waits.specs.declared.fault.BadLines.TheVariants as policies
@@ -75,16 +79,38 @@ all-fit (line ∷ before) = events-fit (line_of line) (events_of before) (length
 
 -- ---- a line is read
 
+-- each line reports one thing
+as-many : (lines : List (List ℕ)) (notes : List Note) → AreNotes lines notes → length notes ≡ length lines
+as-many [] notes none = ap length none
+as-many (line ∷ before) [] wrong = absurd wrong
+as-many (line ∷ before) (note ∷ notes) are = ap suc (as-many before notes are.1)
+
+-- the mark that a line is, if it is one
+pub skipped-by : (line : List ℕ) (mark : Option Mark) → IfSome mark (MarkIs line) → IfNone mark ((other : Mark) → MarkIs line other → ⊥) → SkippedIs line (quiet_note mark)
+skipped-by line None some none = none
+skipped-by line (Some mark) some none = some
+
+-- what is kept of losses after one note more
+abbrev pub TakesNote : Reading → Reading → Note → Type 0
+TakesNote old new note = (notes : List Note) → Keeps old.losses notes → old.read.lines + 1 ≡ suc (length notes) → Keeps new.losses (note ∷ notes)
+
+-- what a line reports that reads so
+pub note-by : (line : List ℕ) (given : Result Line LineFault) (note : Note) → line_of line ≡ given → NoteBy given line note → NoteIs line note
+note-by line given note is by = subst (λ (g : Result Line LineFault). NoteBy g line note) (sym is) by
+
 -- what is read after one more line
 pub reads-more : (old new : Reading) (given : Result Line LineFault) (line : List ℕ) (before : List (List ℕ)) (told told_now : List Dispatch)
     → line_of line ≡ given → ReadsLines old before told → new.bad_lines ≡ old.bad_lines → new.read ≡ read-more old.read given
-    → refusal_of old.bad_lines (old.read.lines + 1) old.state.latest given ≡ None → Follows new.state (with_line given (events_of before)) told_now
+    → refusal_of old.bad_lines (old.read.lines + 1) old.state.latest given ≡ None → (note : Note) → NoteIs line note → TakesNote old new note → Follows new.state (with_line given (events_of before)) told_now
     → ReadsLines new (line ∷ before) told_now
 unfolding events_of lines_read
-reads-more old new given line before told told_now is reads same read taken follows = record {
+reads-more old new given line before told told_now is reads same read taken note noted takes follows = record {
   unrefused = ap (λ (p : BadLines). refused p (line ∷ before)) same
       ∙ refused-more old.bad_lines line before given (old.read.lines + 1) old.state.latest reads.unrefused is (ap (λ (r : LinesRead). r.lines + 1) reads.read) reads.state.last ∙ taken;
   read = read ∙ ap (λ (r : LinesRead). read-more r given) reads.read ∙ ap (read-more (lines_read before)) (sym is) ∙ sym (lines-more line before);
+  notes = note ∷ reads.notes;
+  noted = (noted, reads.noted);
+  losses = takes reads.notes reads.losses (ap (λ (r : LinesRead). r.lines + 1) reads.read ∙ add-one (length before) ∙ ap suc (sym (as-many before reads.notes reads.noted)));
   state = subst (λ (g : Result Line LineFault). Follows new.state (with_line g (events_of before)) told_now) (sym is) follows;
 }
 
@@ -112,7 +138,7 @@ quiet old number (Ok line) good is =
 quiet old number (Err fault) good is = absurd cc
 
 -- a line that can't be read is counted, and is the first if there was none
-first-or : (first : Option BadLine) (line : BadLine) → Some (unwrap_or first line) ≡ option_or first (Some line)
+pub first-or : {X : Type 0} (first : Option X) (line : X) → Some (unwrap_or first line) ≡ option_or first (Some line)
 first-or None line = refl
 first-or (Some found) line = refl
 
@@ -148,3 +174,13 @@ bad-full old before told reads most =
     let same = ap (λ (r : LinesRead). r.bad) reads.read in
     let fits = count_by-le-length (λ (line : List ℕ). is_bad (line_of line)) before in
     omega (arith, most, same, fits)
+
+-- the last event's stamp
+pub last-known : (events : List Traced) → option_map (λ stamp. latest events) (first_stamp events) ≡ last_stamp events
+unfolding first_stamp
+last-known [] = refl
+last-known (event ∷ before) = some-or (first_stamp before) event.stamp event.stamp
+  where
+    some-or : (first : Option ℕ) (stamp last : ℕ) → option_map (λ (s : ℕ). last) (option_or first (Some stamp)) ≡ Some last
+    some-or None stamp last = refl
+    some-or (Some found) stamp last = refl

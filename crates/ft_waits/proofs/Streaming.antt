@@ -9,13 +9,13 @@ use Rattle.std.proofs.Math.Seq.{take-append-add}
 use Rattle.ft_event.specs.Line.{line_of}
 use Rattle.ft_waits.specs.Reading.{history, FailsAt, Fails}
 use Rattle.ft_waits.specs.Streams.{HasRead, HasReadBy}
-use Rattle.ft_waits.specs.declared.dispatch.Dispatch.{Dispatch}
+use Rattle.ft_dispatch.specs.declared.dispatch.Dispatch.{Dispatch}
 use Rattle.ft_waits.specs.declared.fault.BadLines.{BadLines}
 use Rattle.ft_waits.specs.declared.fault.WaitsFault.{WaitsFault}
 use Rattle.ft_waits.specs.declared.reading.Reading.{Reading}
 use Rattle.ft_waits.specs.declared.stream.Waits.{Waits}
-use Rattle.ft_waits.specs.inner.Streams.{Reads, ReadsOn, TakesLine, FailsLine, FailsIn, Cuts, room}
-use Rattle.ft_waits.proofs.Cutting.{or-left, or-both, cuts-piece, cuts-line, fails-cut, line-kept}
+use Rattle.ft_waits.specs.inner.Streams.{Reads, ReadsOn, TakesLine, FailsLine, FailsIn, Cuts, IsLike, room}
+use Rattle.ft_waits.proofs.Cutting.{or-left, or-both, cuts-piece, cuts-line, fails-cut, like-kept}
 
 -- ---- lines of a part
 
@@ -24,12 +24,12 @@ reads-nothing reading out part = λ text lines told cuts reads. (lines, cuts, re
 
 -- one line more of it
 pub reads-line : (old on new : Reading) (out out_on out_now : List Dispatch) (part rest line behind : List ℕ)
-    → rest ≡ line ++ 10 ∷ behind → list_any (λ b. b == 10) line ≡ false → ReadsOn old out part on out_on rest → TakesLine (line_of line) on out_on new out_now → ReadsOn old out part new out_now behind
+    → rest ≡ line ++ 10 ∷ behind → list_any (λ b. b == 10) line ≡ false → ReadsOn old out part on out_on rest → TakesLine line on out_on new out_now → ReadsOn old out part new out_now behind
 reads-line old on new out out_on out_now part rest line behind cut plain reads takes = λ text lines told cuts before.
     let so_far = reads text lines told cuts before in (
       line ∷ so_far.0,
       cuts-line text so_far.0 line behind plain (subst (λ (r : List ℕ). Cuts text so_far.0 r) cut so_far.1),
-      takes line so_far.0 told refl so_far.2,
+      takes line so_far.0 told (refl, λ skipped. refl) so_far.2,
     )
 
 -- or a line that ends the reading
@@ -83,9 +83,9 @@ ends-here policy reading old text piece front behind told reads cut plain =
 
 -- what is kept of the line reads as the line
 pub reads-alike : (policy : BadLines) (reading : Reading) (old new text front : List ℕ) (told : List Dispatch) (reads : Reads policy reading old text told)
-    → new ≡ old ++ take (room - length old) front → line_of (reads.rest ++ front) ≡ line_of new
+    → new ≡ old ++ take (room - length old) front → IsLike new (reads.rest ++ front)
 reads-alike policy reading old new text front told reads is =
-    sym (line-kept (reads.rest ++ front)) ∙ ap line_of (sym (is ∙ ap (λ (r : List ℕ). r ++ take (room - length r) front) reads.kept ∙ kept-more reads.rest front))
+    subst (λ (kept : List ℕ). IsLike kept (reads.rest ++ front)) (sym (is ∙ ap (λ (r : List ℕ). r ++ take (room - length r) front) reads.kept ∙ kept-more reads.rest front)) (like-kept (reads.rest ++ front))
 
 -- ---- the whole stream
 

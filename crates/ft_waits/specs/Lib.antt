@@ -1,7 +1,5 @@
-pub mod Acts
-pub mod Waits
-pub mod Began
 pub mod Reading
 pub mod Missing
+pub mod Moving
 pub mod Streams
 pub mod inner

@@ -1,19 +1,19 @@
 -- The dispatches of a trace text, and why a text is refused. Lines and events stand newest first.
-use Rattle.std.specs.Prelude.{◌≡◌, ◌<◌, ◌⊎◌, ℕ, suc, Bool, true, false, List, [], ◌∷◌, ◌++◌, length, reverse, Option, Some, None, Result, Ok, Err, ◌==◌, nat_lt, if◌then◌else◌}
+use Rattle.std.specs.Prelude.{◌≡◌, ◌≤◌, ◌<◌, ◌⊎◌, ℕ, suc, Bool, true, false, List, [], ◌∷◌, ◌++◌, length, reverse, Option, Some, None, Result, Ok, Err, ◌==◌, nat_lt, if◌then◌else◌}
 use Rattle.std.specs.Option.{option_or}
-use Rattle.std.specs.List.{count_by}
+use Rattle.std.specs.List.{count_by, slice_index}
 use Rattle.std.specs.FinMap as map
 use Rattle.ft_fields.specs.Places.{pos_cmp}
-use Rattle.ft_fields.specs.Traced.{Traced}
+use Rattle.ft_fields.specs.Traced.{Traced, last_cpu}
 use Rattle.ft_fields.specs.declared.pos.Pos.{Pos}
 use Rattle.ft_event.specs.declared.fault.Line.{Line}
 use Rattle.ft_event.specs.declared.fault.Line.TheVariants as lines
 use Rattle.ft_event.specs.declared.fault.LineFault.{LineFault}
 use Rattle.ft_event.specs.Line.{line_of}
 use Rattle.ft_script.specs.Lines.{lines_of}
-use Rattle.ft_waits.specs.Acts.{Act, act_of}
-use Rattle.ft_waits.specs.Waits.{dispatches}
-use Rattle.ft_waits.specs.declared.dispatch.Dispatch.{Dispatch}
+use Rattle.ft_dispatch.specs.Acts.{Act, act_of}
+use Rattle.ft_dispatch.specs.Dispatches.{dispatches}
+use Rattle.ft_dispatch.specs.declared.dispatch.Dispatch.{Dispatch}
 use Rattle.ft_waits.specs.declared.fault.BadLine.{BadLine}
 use Rattle.ft_waits.specs.declared.fault.BadLines.{BadLines}
 use Rattle.ft_waits.specs.declared.fault.BadLines.TheVariants as policies
@@ -86,6 +86,20 @@ first_bad (line ∷ before) = option_or (first_bad before) (bad_at (suc (length 
 -- how many lines there are, how many of them can't be read, and which is the first of these
 unfoldable pub lines_read : List (List ℕ) → LinesRead
 lines_read lines = record { lines = length lines; bad = count_by (λ line. is_bad (line_of line)) lines; first = first_bad lines }
+
+-- the stamp of the first event
+unfoldable pub first_stamp : List Traced → Option ℕ
+first_stamp [] = None
+first_stamp (event ∷ before) = option_or (first_stamp before) (Some event.stamp)
+
+-- the stamp of the last event
+abbrev pub last_stamp : List Traced → Option ℕ
+last_stamp [] = None
+last_stamp (event ∷ before) = Some event.stamp
+
+-- so many events of each CPU are among these
+abbrev pub CountsEvents : List ℕ → List Traced → Type 0
+CountsEvents counts events = (cpu : ℕ) → cpu ≤ last_cpu → slice_index counts cpu ≡ count_by (λ e. e.cpu == cpu) events
 
 -- ---- why a text is refused
 

@@ -3,29 +3,24 @@
 ghost use Rattle.std.specs.Prelude.{◌≡◌, ◌≤◌, ◌++◌, ◌∷◌, [], List, reverse, OnOk, IfOk, IfErr, vec_len, ◌⊎◌};
 ghost use Rattle.ft_fields.specs.Borrowed.{event_told, owned_body};
 ghost use Rattle.ft_fields.specs.Traced.{Traced};
-ghost use Rattle.ft_waits.specs.Acts.{Act, act_of};
-ghost use Rattle.ft_waits.specs.Reading.{place_after, act_at, in_order, acts_of};
-ghost use Rattle.ft_waits.specs.Waits.{dispatches};
-ghost use Rattle.ft_waits.specs.inner.Known.{CountsLines, Follows, IsNumbered, Orders, entries_of};
+ghost use Rattle.ft_dispatch.specs.Acts.{Act, act_of};
+ghost use Rattle.ft_waits.specs.Reading.{place_after, act_at, in_order, acts_of, CountsEvents};
+ghost use Rattle.ft_dispatch.specs.Dispatches.{dispatches};
+ghost use Rattle.ft_waits.specs.inner.Known.{Follows, IsNumbered, Orders};
+ghost use Rattle.ft_dispatch.specs.Telling.{entries_of};
 
-use crate::dispatch::{Dispatch, Since};
 use crate::fault::WaitsFault;
-use crate::held::Held;
 use crate::missing::{Missing, none_running, notice};
-use crate::state::State;
+use crate::state::{CPUS, State};
 use crate::steps::settle;
-use crate::tasks::Task;
+use ft_dispatch::{Dispatch, PlacedAct, Tasks};
 use ft_fields::{BodyRef, EventRef, Pos};
 use std::alloc::{AllocError, Global};
-use std::collections::BTreeMap;
-
-/// How many CPUs there can be.
-const CPUS: usize = 8192;
 
 /// No events of any CPU.
 fn no_lines(alloc: Global) -> Result<Vec<u32>, AllocError>
     ensures len { IfOk result (λ lines. vec_len lines ≡ 8192) }
-    ensures none { IfOk result (λ lines. CountsLines lines.items []) }
+    ensures none { IfOk result (λ lines. CountsEvents lines.items []) }
 {
     let mut lines = Vec::new(alloc);
     lines.resize(CPUS, 0)?;
@@ -37,12 +32,12 @@ fn no_lines(alloc: Global) -> Result<Vec<u32>, AllocError>
 fn count(lines: &mut Vec<u32>, event: &EventRef<'_>) -> Result<Pos, WaitsFault>
     requires { vec_len lines.old ≡ 8192 }
     ensures len { vec_len lines.new ≡ 8192 }
-    ensures place { IfOk result (λ place. (before : List Traced) → CountsLines lines.old.items before
+    ensures place { IfOk result (λ place. (before : List Traced) → CountsEvents lines.old.items before
         → place ≡ place_after before (event_told event.now)) }
-    ensures counts { OnOk result ((before : List Traced) → CountsLines lines.old.items before
-        → CountsLines lines.new.items (event_told event.now ∷ before)) }
+    ensures counts { OnOk result ((before : List Traced) → CountsEvents lines.old.items before
+        → CountsEvents lines.new.items (event_told event.now ∷ before)) }
     ensures full { IfErr result (λ fault. (fault ≡ WaitsFault.TooLong)
-        × ((before : List Traced) → CountsLines lines.old.items before → IsNumbered before)) }
+        × ((before : List Traced) → CountsEvents lines.old.items before → IsNumbered before)) }
 {
     let cpu = event.cpu as usize;
     let Some(line) = lines[cpu].checked_add(1) else {
@@ -59,8 +54,8 @@ fn count(lines: &mut Vec<u32>, event: &EventRef<'_>) -> Result<Pos, WaitsFault>
 /// Goes on to a stamp: the acts of an earlier one are taken in their order, and their dispatches added.
 #[inline(always)]
 fn advance(
-    tasks: &mut BTreeMap<Task, Since>,
-    held: &mut Vec<Held>,
+    tasks: &mut Tasks,
+    held: &mut Vec<PlacedAct>,
     latest: u64,
     stamp: u64,
     out: &mut Vec<Dispatch>,
@@ -78,10 +73,10 @@ fn advance(
 
 /// Holds what an event says of who runs, if it says anything.
 #[inline(always)]
-fn hold(held: &mut Vec<Held>, body: &BodyRef<'_>, place: Pos) -> Result<(), AllocError>
+fn hold(held: &mut Vec<PlacedAct>, body: &BodyRef<'_>, place: Pos) -> Result<(), AllocError>
     ensures { OnOk result (entries_of held.new.items ≡ entries_of held.old.items ++ act_at place (act_of (owned_body body.now))) }
 {
-    match Held::of(body, place) {
+    match PlacedAct::of(body, place) {
         Some(one) => held.push(one)?,
         None => {}
     }
@@ -95,9 +90,10 @@ impl State {
     {
         Ok(State {
             lines: no_lines(alloc)?,
+            first: None,
             latest: 0,
             held: Vec::new(alloc),
-            tasks: BTreeMap::new(alloc),
+            tasks: Tasks::new(alloc),
             running: none_running(alloc)?,
             missing: Missing::none(),
         })
@@ -122,6 +118,7 @@ impl State {
         notice(&mut self.running, &mut self.missing, event, place)?;
         let latest = self.latest;
         advance(&mut self.tasks, &mut self.held, latest, event.stamp, out)?;
+        self.first = Some(self.first.unwrap_or(event.stamp));
         self.latest = event.stamp;
         hold(&mut self.held, &event.body, place)?;
         Ok(())
@@ -133,6 +130,9 @@ impl State {
             → Follows self.old events (told ++ out.old.items)
             → told ++ out.new.items ≡ dispatches (reverse (in_order (acts_of events)))) }
         ensures missing { self.new.missing ≡ self.old.missing }
+        ensures first { self.new.first ≡ self.old.first }
+        ensures latest { self.new.latest ≡ self.old.latest }
+        ensures lines { self.new.lines ≡ self.old.lines }
     {
         settle(&mut self.tasks, &mut self.held, out)
     }

@@ -2,6 +2,7 @@
 
 use crate::missing::Missing;
 use ft_event::LineFault;
+use ft_losses::LossesRead;
 use std::alloc::AllocError;
 use thiserror::Error;
 
@@ -35,12 +36,20 @@ pub struct LinesRead {
 }
 
 /// What was read of a text.
-#[derive(Clone, Copy, Debug, PartialEq, Eq)]
+#[derive(Drop)]
 pub struct TextRead {
     /// Its lines.
     pub lines: LinesRead,
+    /// The stamp of its first event, in microseconds; `None` if it has none.
+    pub first: Option<u64>,
+    /// The stamp of its last event.
+    pub last: Option<u64>,
+    /// How many events each CPU has, by the CPU's number.
+    pub events: Vec<u32>,
     /// The switches that are missing in it.
     pub missing: Missing,
+    /// Where events were lost.
+    pub losses: LossesRead,
 }
 
 /// Why a text is read no further.

@@ -19,8 +19,7 @@
 //!
 //! - `Waits::new`, `feed`, `finish`: what was told of the pieces is what the whole text tells, however
 //!   it is cut: `dispatches_in` (`specs/Reading.antt`). Events count in the order of stamp, CPU and
-//!   line, as in the desk. A dispatch has where its task was last woken, created, and left while it
-//!   could still run, each since it last ran (`specs/Waits.antt`). `finish` reports how many lines there
+//!   line, as in the desk; what a dispatch is, `ft_dispatch` says. `finish` reports how many lines there
 //!   are, how many of them can't be read, and the first of these (`lines_read`); and how many switches
 //!   are missing, as far as events show it by the task that ran (`missing_in`, `specs/Missing.antt`). A
 //!   text is refused at the first line that can't be read, unless such lines are skipped, or whose stamp
@@ -28,29 +27,25 @@
 //!   4,294,967,295 lines. A stream that failed answers the same from then on. Lets through: running out
 //!   of memory at any time; how early a dispatch is told, and which are told before a failure.
 //! - `waits_in`: the same of pieces that are all there.
-//! - `Since::waiting`: which of the three places a wait counts from, and why; exact, `waiting_since`
-//!   (`specs/Began.antt`).
+//! - `moved_place`: a place of a part that was read apart, behind so many events of each CPU; exact,
+//!   `moved_within` (`specs/Moving.antt`). `places_move`: the law that such places are those of the whole.
 #![tactic(auto)]
 
-mod began;
-mod dispatch;
 mod events;
 mod fault;
-mod held;
 mod missing;
+mod moving;
 mod pieces;
 mod reading;
 mod state;
 mod steps;
 mod stream;
-mod tasks;
 #[cfg(test)]
 mod tests;
 mod whole;
 
-pub use began::{Began, Cause};
-pub use dispatch::{Dispatch, Since};
 pub use fault::{BadLine, BadLines, LinesRead, TextRead, WaitsFault};
 pub use missing::Missing;
+pub use moving::{moved_place, places_move};
 pub use stream::Waits;
 pub use whole::{WaitsRead, waits_in};

@@ -7,11 +7,9 @@ ghost use Rattle.ft_waits.specs.Missing.{runs_after, is_other, with_event, runni
 ghost use Rattle.ft_waits.specs.inner.Running.{RunsTasks};
 
 use crate::fault::WaitsFault;
+use crate::state::CPUS;
 use ft_fields::{BodyRef, EventRef, Pos};
 use std::alloc::{AllocError, Global};
-
-/// How many CPUs there can be.
-const CPUS: usize = 8192;
 
 /// Switches that are missing in a text though no line reports them, as far as its events show it.
 #[derive(Clone, Copy, Debug, PartialEq, Eq)]

@@ -1,16 +1,16 @@
 //! A text that comes in pieces, and the dispatches in it.
 
-ghost use Rattle.std.specs.Prelude.{◌≡◌, ◌==◌, ◌<◌, ◌-◌, ◌++◌, ◌∷◌, [], List, ℕ, false, length, take, OnOk, OnErr, IfOk, IfErr, IfSome, IfNone, Some};
+ghost use Rattle.std.specs.Prelude.{◌≡◌, ◌==◌, ◌<◌, ◌-◌, ◌++◌, ◌∷◌, [], List, ℕ, false, length, take, OnOk, OnErr, IfOk, IfErr, IfSome, IfNone, Some, option_map};
 ghost use Rattle.std.specs.List.{list_any};
 ghost use Rattle.ft_event.specs.Line.{line_of};
 ghost use Rattle.ft_waits.specs.Reading.{history, FailsAt, Fails};
 ghost use Rattle.ft_waits.specs.Streams.{HasRead, AreDispatches};
 ghost use Rattle.ft_waits.specs.inner.Streams.{Reads, EndsLines, ReadsLines, ReadsOn, TakesLine, FailsLine, FailsIn, Cuts, room};
 
-use crate::dispatch::Dispatch;
 use crate::fault::{BadLines, TextRead, WaitsFault};
 use crate::reading::Reading;
 use crate::stream::Waits;
+use ft_dispatch::Dispatch;
 use memchr::memchr;
 use std::alloc::{AllocError, Global};
 
@@ -85,7 +85,7 @@ fn take_unended(
     out: &mut Vec<Dispatch>,
 ) -> Result<(), WaitsFault>
     requires { list_any (λ b. b == 10) unended.old.items ≡ false }
-    ensures ok { OnOk result (TakesLine (line_of unended.old.items) reading.old out.old.items reading.new out.new.items) }
+    ensures ok { OnOk result (TakesLine unended.old.items reading.old out.old.items reading.new out.new.items) }
     ensures err { IfErr result (λ fault. FailsLine (line_of unended.old.items) reading.old fault) }
     ensures policy { reading.new.bad_lines ≡ reading.old.bad_lines }
     ensures none { OnOk result (unended.new.items ≡ []) }
@@ -145,25 +145,47 @@ fn take_last(
     reading.take_line(unended, out)
 }
 
+/// The last event's stamp, if there is a first event.
+fn last_stamp(first: Option<u64>, latest: u64) -> Option<u64>
+    ensures { result ≡ option_map (λ stamp. latest) first }
+{
+    match first {
+        Some(_) => Some(latest),
+        None => None,
+    }
+}
+
 /// Ends the text: what has not ended is its last line, and its last microsecond is over.
 fn end(
-    reading: &mut Reading,
+    alloc: Global,
+    reading: Reading,
     unended: &[u8],
     out: &mut Vec<Dispatch>,
 ) -> Result<TextRead, WaitsFault>
     requires { list_any (λ b. b == 10) unended.now ≡ false }
     ensures reads { IfOk result (λ read. (policy : BadLines) (text : List ℕ) (told : List Dispatch)
-        → Reads policy reading.old unended.now text (told ++ out.old.items)
+        → Reads policy reading unended.now text (told ++ out.old.items)
         → AreDispatches policy text (told ++ out.new.items) read) }
     ensures fails { IfErr result (λ fault. (policy : BadLines) (text : List ℕ) (told : List Dispatch)
-        → Reads policy reading.old unended.now text (told ++ out.old.items)
+        → Reads policy reading unended.now text (told ++ out.old.items)
         → FailsAt policy (history text) fault) }
 {
-    take_last(reading, unended, out)?;
+    let mut reading = reading;
+    take_last(&mut reading, unended, out)?;
     reading.state.finish(out)?;
+    let Reading {
+        read,
+        losses,
+        state,
+        ..
+    } = reading;
     Ok(TextRead {
-        lines: reading.read,
-        missing: reading.state.missing,
+        lines: read,
+        first: state.first,
+        last: last_stamp(state.first, state.latest),
+        events: state.lines,
+        missing: state.missing,
+        losses: losses.finish(alloc)?,
     })
 }
 
@@ -209,10 +231,11 @@ impl Waits {
     }
 
     /// Takes the line that has not ended, if there is one, as the last, and adds the dispatches that are
-    /// left. Answers how many lines there were and which can't be read, and which switches are missing.
+    /// left. Answers how many lines there were and which can't be read, which switches are missing, and
+    /// where events were lost.
     ///
     /// Fails as `feed` does.
-    pub fn finish(self, out: &mut Vec<Dispatch>) -> Result<TextRead, WaitsFault>
+    pub fn finish(self, alloc: Global, out: &mut Vec<Dispatch>) -> Result<TextRead, WaitsFault>
         ensures reads { IfOk result (λ read. (policy : BadLines) (text : List ℕ) (told : List Dispatch)
             → HasRead policy self text (told ++ out.old.items)
             → AreDispatches policy text (told ++ out.new.items) read) }
@@ -221,13 +244,13 @@ impl Waits {
             → FailsAt policy (history text) fault) }
     {
         let Waits {
-            mut reading,
+            reading,
             unended,
             failed,
         } = self;
         match failed {
             Some(fault) => Err(fault),
-            None => end(&mut reading, &unended, out),
+            None => end(alloc, reading, &unended, out),
         }
     }
 }

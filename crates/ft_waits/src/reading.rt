@@ -5,13 +5,15 @@ ghost use Rattle.std.specs.List.{list_any};
 ghost use Rattle.ft_event.specs.Line.{line_of};
 ghost use Rattle.ft_event.specs.declared.fault.Line.TheVariants as lines;
 ghost use Rattle.ft_fields.specs.Borrowed.{event_told};
-ghost use Rattle.ft_waits.specs.inner.Streams.{ReadsLines, TakesLine, TakesQuietly, FailsLine};
+ghost use Rattle.ft_waits.specs.inner.Streams.{ReadsLines, TakesLine, TakesEvent, TakesQuietly, FailsLine};
+ghost use Rattle.ft_losses.specs.Notes.{Silent, quiet_note};
 
-use crate::dispatch::Dispatch;
 use crate::fault::{BadLine, BadLines, LinesRead, WaitsFault};
 use crate::state::State;
-use ft_event::{LineFault, read_cut_line};
+use ft_dispatch::Dispatch;
+use ft_event::{LineFault, Mark, mark_of, read_cut_line};
 use ft_fields::{Event, EventRef};
+use ft_losses::Losses;
 use ft_quick::cut_line;
 use std::alloc::{AllocError, Global};
 
@@ -20,6 +22,7 @@ use std::alloc::{AllocError, Global};
 pub(crate) struct Reading {
     pub(crate) bad_lines: BadLines,
     pub(crate) read: LinesRead,
+    pub(crate) losses: Losses,
     pub(crate) state: State,
 }
 
@@ -56,6 +59,7 @@ impl Reading {
                 bad: 0,
                 first: None,
             },
+            losses: Losses::new(alloc)?,
             state: State::new(alloc)?,
         })
     }
@@ -67,7 +71,7 @@ impl Reading {
         event: &EventRef<'_>,
         out: &mut Vec<Dispatch>,
     ) -> Result<(), WaitsFault>
-        ensures ok { OnOk result (TakesLine (Ok (lines.Event (event_told event.now))) self.old out.old.items self.new out.new.items) }
+        ensures ok { OnOk result (TakesEvent (event_told event.now) self.old out.old.items self.new out.new.items) }
         ensures err { IfErr result (λ fault. FailsLine (Ok (lines.Event (event_told event.now))) self.old fault) }
         ensures policy { self.new.bad_lines ≡ self.old.bad_lines }
     {
@@ -76,22 +80,25 @@ impl Reading {
             return Err(WaitsFault::Backwards(number));
         }
         self.read.lines = number;
+        self.losses.pass(event)?;
         self.state.push(event, out)
     }
 
-    /// Takes a line without an event.
-    fn take_skipped(&mut self) -> Result<(), WaitsFault>
-        ensures ok { OnOk result (TakesQuietly (Ok lines.Skip) self.old self.new) }
+    /// Takes a line without an event, and the mark that it is, if it is one.
+    fn take_skipped(&mut self, mark: Option<Mark>) -> Result<(), WaitsFault>
+        ensures ok { OnOk result (TakesQuietly (Ok lines.Skip) (quiet_note mark) self.old self.new) }
         ensures err { IfErr result (λ fault. FailsLine (Ok lines.Skip) self.old fault) }
         ensures policy { self.new.bad_lines ≡ self.old.bad_lines }
     {
-        self.read.lines = one_more(self.read.lines)?;
+        let number = one_more(self.read.lines)?;
+        self.read.lines = number;
+        self.losses.skip(number, mark);
         Ok(())
     }
 
     /// Takes a line that can't be read.
     fn take_bad(&mut self, fault: LineFault) -> Result<(), WaitsFault>
-        ensures ok { OnOk result (TakesQuietly (Err fault) self.old self.new) }
+        ensures ok { OnOk result (TakesQuietly (Err fault) Silent self.old self.new) }
         ensures err { IfErr result (λ why. FailsLine (Err fault) self.old why) }
         ensures policy { self.new.bad_lines ≡ self.old.bad_lines }
     {
@@ -101,6 +108,7 @@ impl Reading {
         self.read.bad = one_more(self.read.bad)?;
         self.read.lines = line;
         self.read.first = Some(self.read.first.unwrap_or(bad_line));
+        self.losses.skip(line, None);
         Ok(())
     }
 
@@ -108,14 +116,14 @@ impl Reading {
     #[inline(never)]
     fn take_other(&mut self, line: &[u8], out: &mut Vec<Dispatch>) -> Result<(), WaitsFault>
         requires { list_any (λ b. b == 10) line.now ≡ false }
-        ensures ok { OnOk result (TakesLine (line_of line.now) self.old out.old.items self.new out.new.items) }
+        ensures ok { OnOk result (TakesLine line.now self.old out.old.items self.new out.new.items) }
         ensures err { IfErr result (λ fault. FailsLine (line_of line.now) self.old fault) }
         ensures policy { self.new.bad_lines ≡ self.old.bad_lines }
     {
         let mut event = Event::blank();
         match read_cut_line(line, &mut event) {
             Ok(true) => self.take_event(&event.borrowed(), out),
-            Ok(false) => self.take_skipped(),
+            Ok(false) => self.take_skipped(mark_of(line)),
             Err(fault) => self.take_bad(fault),
         }
     }
@@ -128,7 +136,7 @@ impl Reading {
         out: &mut Vec<Dispatch>,
     ) -> Result<(), WaitsFault>
         requires { list_any (λ b. b == 10) line.now ≡ false }
-        ensures ok { OnOk result (TakesLine (line_of line.now) self.old out.old.items self.new out.new.items) }
+        ensures ok { OnOk result (TakesLine line.now self.old out.old.items self.new out.new.items) }
         ensures err { IfErr result (λ fault. FailsLine (line_of line.now) self.old fault) }
         ensures policy { self.new.bad_lines ≡ self.old.bad_lines }
     {

@@ -1,6 +1,8 @@
 //! What a reader of the definitions would try first: small texts, whole and cut anywhere.
 
-use crate::{BadLines, Dispatch, Waits, WaitsFault, WaitsRead, waits_in};
+use crate::{BadLines, Waits, WaitsFault, WaitsRead, waits_in};
+use ft_dispatch::Dispatch;
+use ft_losses::Hole;
 use std::alloc::{AllocError, Global};
 use std::test::*;
 
@@ -22,6 +24,16 @@ w-42 [000] 1.000200: sched_switch: prev_comm=w prev_pid=42 prev_prio=120 prev_st
 const FAULTY: &[u8] = b"a-1 [000] 1.000100: sched_waking: comm=w pid=42 prio=120 target_cpu=000
 no line of a trace
 a-1 [000] 1.000099: sched_waking: comm=w pid=42 prio=120 target_cpu=000
+";
+
+/// Events of CPU 1 with losses before the first one and between the two, which two lines report, and a loss of CPU 0.
+const TORN: &[u8] = b"##### CPU 1 buffer started ####
+a-1 [001] 1.000100: sched_waking: comm=w pid=42 prio=120 target_cpu=000
+CPU:1 [LOST 5 EVENTS]
+CPU:1 [LOST 7 EVENTS]
+a-1 [001] 1.000200: sched_waking: comm=w pid=42 prio=120 target_cpu=000
+CPU:0 [LOST EVENTS]
+# CPU 1: 9 events overwritten
 ";
 
 /// Adds an item.
@@ -117,13 +129,41 @@ a-1 [001] 1.000190: sched_waking: comm=x pid=7 prio=120 target_cpu=000
     assert!(rt; missing.switches == 1 && matches!(missing.first, Some(place) if place.line == 2));
 }
 
+/// A hole of CPU 1.
+fn hole(line: u64, after: Option<u64>, before: u64, count: u64) -> Hole {
+    Hole {
+        cpu: 1,
+        line,
+        after,
+        before: Some(before),
+        count: Some(count),
+    }
+}
+
+#[test]
+fn losses_are_holes(rt: HostRuntime) {
+    for cut in 0..TORN.len() {
+        let Ok(read) = read_cut(rt.alloc(), BadLines::Refuse, TORN, cut) else {
+            panic!(rt; "a text that is read");
+        };
+        let holes = read.text.losses.holes.as_slice();
+        assert!(rt; holes.len() == 3 && holes[0] == hole(1, None, 1_000_100, 9));
+        assert!(rt; holes[1] == hole(3, Some(1_000_100), 1_000_200, 12));
+        let last = holes[2];
+        assert!(rt;
+            last.cpu == 0 && last.line == 6 && last.after.is_none() && last.before.is_none()
+        );
+        assert!(rt; last.count.is_none() && read.text.losses.buffers.is_none());
+    }
+}
+
 /// What a stream answers that is fed a text twice.
 fn fed_twice(alloc: Global, text: &[u8]) -> Result<bool, AllocError> {
     let mut waits = Waits::new(alloc, BadLines::Refuse)?;
     let mut out = Vec::new(alloc);
     let first = waits.feed(text, &mut out);
     let again = waits.feed(LIFE, &mut out);
-    Ok(first.is_err() && again == first && waits.finish(&mut out).err() == first.err())
+    Ok(first.is_err() && again == first && waits.finish(alloc, &mut out).err() == first.err())
 }
 
 #[test]

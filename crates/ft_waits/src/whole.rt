@@ -5,9 +5,9 @@ ghost use Rattle.std.specs.List.{flat_map};
 ghost use Rattle.ft_waits.specs.Reading.{history, FailsAt};
 ghost use Rattle.ft_waits.specs.Streams.{AreDispatches};
 
-use crate::dispatch::Dispatch;
 use crate::fault::{BadLines, TextRead, WaitsFault};
 use crate::stream::Waits;
+use ft_dispatch::Dispatch;
 use std::alloc::Global;
 
 /// The dispatches of a text, and what was read of it.
@@ -15,7 +15,7 @@ use std::alloc::Global;
 pub struct WaitsRead {
     /// The switches to tasks, in the order of stamp, CPU and line.
     pub dispatches: Vec<Dispatch>,
-    /// Its lines, and the switches that are missing in it.
+    /// Its lines, the switches that are missing in it, and where events were lost.
     pub text: TextRead,
 }
 
@@ -39,6 +39,6 @@ pub fn waits_in(
     for piece in pieces {
         waits.feed(piece, &mut dispatches)?;
     }
-    let text = waits.finish(&mut dispatches)?;
+    let text = waits.finish(alloc, &mut dispatches)?;
     Ok(WaitsRead { dispatches, text })
 }

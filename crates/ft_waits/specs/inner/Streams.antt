@@ -1,13 +1,17 @@
 -- What a stream has read of a text.
-use Rattle.std.specs.Prelude.{◌≡◌, ◌==◌, false, ℕ, List, ◌∷◌, ◌++◌, reverse, take, None, Result}
+use Rattle.std.specs.Prelude.{◌≡◌, ◌==◌, false, ℕ, List, ◌∷◌, ◌++◌, reverse, take, None, Result, Ok}
 use Rattle.std.specs.List.{list_any}
 use Rattle.ft_event.specs.declared.fault.Line.{Line}
+use Rattle.ft_event.specs.declared.fault.Line.TheVariants as lines
 use Rattle.ft_event.specs.declared.fault.LineFault.{LineFault}
 use Rattle.ft_event.specs.Line.{line_of}
+use Rattle.ft_fields.specs.Traced.{Traced}
+use Rattle.ft_losses.specs.Notes.{Note, NoteIs, AreNotes}
+use Rattle.ft_losses.specs.Telling.{Keeps}
 use Rattle.ft_script.specs.Lines.{lines_of}
 use Rattle.ft_waits.specs.Reading.{events_of, history, lines_read, refused, FailsAt, Fails}
 use Rattle.ft_waits.specs.inner.Known.{Follows}
-use Rattle.ft_waits.specs.declared.dispatch.Dispatch.{Dispatch}
+use Rattle.ft_dispatch.specs.declared.dispatch.Dispatch.{Dispatch}
 use Rattle.ft_waits.specs.declared.fault.BadLines.{BadLines}
 use Rattle.ft_waits.specs.declared.fault.WaitsFault.{WaitsFault}
 use Rattle.ft_waits.specs.declared.reading.Reading.{Reading}
@@ -16,15 +20,26 @@ use Rattle.ft_waits.specs.declared.reading.Reading.{Reading}
 pub record ReadsLines (reading : Reading) (lines : List (List ℕ)) (told : List Dispatch) : Type 0 where
   pub unrefused : refused reading.bad_lines lines ≡ None
   pub read : reading.read ≡ lines_read lines
+  pub notes : List Note
+  pub noted : AreNotes lines notes
+  pub losses : Keeps reading.losses notes
   pub state : Follows reading.state (events_of lines) told
 
--- a line that gives this is read after whatever lines
-abbrev pub TakesLine : Result Line LineFault → Reading → List Dispatch → Reading → List Dispatch → Type 0
-TakesLine given old out new out_now = (line : List ℕ) (before : List (List ℕ)) (told : List Dispatch) → line_of line ≡ given → ReadsLines old before (told ++ out) → ReadsLines new (line ∷ before) (told ++ out_now)
+-- a line reads as another one, and is the same, if that is skipped
+abbrev pub IsLike : List ℕ → List ℕ → Type 0
+IsLike other line = (line_of line ≡ line_of other) × ((line_of other ≡ Ok lines.Skip) → line ≡ other)
 
--- the same of a line that adds no dispatch
-abbrev pub TakesQuietly : Result Line LineFault → Reading → Reading → Type 0
-TakesQuietly given old new = (line : List ℕ) (before : List (List ℕ)) (told : List Dispatch) → line_of line ≡ given → ReadsLines old before told → ReadsLines new (line ∷ before) told
+-- a line like this is read after whatever lines
+abbrev pub TakesLine : List ℕ → Reading → List Dispatch → Reading → List Dispatch → Type 0
+TakesLine other old out new out_now = (line : List ℕ) (before : List (List ℕ)) (told : List Dispatch) → IsLike other line → ReadsLines old before (told ++ out) → ReadsLines new (line ∷ before) (told ++ out_now)
+
+-- a line with this event is
+abbrev pub TakesEvent : Traced → Reading → List Dispatch → Reading → List Dispatch → Type 0
+TakesEvent event old out new out_now = (line : List ℕ) (before : List (List ℕ)) (told : List Dispatch) → line_of line ≡ Ok (lines.Event event) → ReadsLines old before (told ++ out) → ReadsLines new (line ∷ before) (told ++ out_now)
+
+-- a line without an event that gives and reports this is, which adds no dispatch
+abbrev pub TakesQuietly : Result Line LineFault → Note → Reading → Reading → Type 0
+TakesQuietly given note old new = (line : List ℕ) (before : List (List ℕ)) (told : List Dispatch) → line_of line ≡ given → NoteIs line note → ReadsLines old before told → ReadsLines new (line ∷ before) told
 
 -- a line that gives this ends the reading after whatever lines
 abbrev pub FailsLine : Result Line LineFault → Reading → WaitsFault → Type 0

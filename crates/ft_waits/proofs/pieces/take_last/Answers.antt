@@ -3,9 +3,9 @@ use Rattle.std.proofs.lemmas.Grind.{common_steps}
 use Rattle.std.proofs.lemmas.Result.{on_ok_weaker, IfErr-weaker}
 use Rattle.ft_event.specs.Line.{line_of}
 use Rattle.ft_waits.specs.Reading.{history, FailsAt}
-use Rattle.ft_waits.specs.inner.Streams.{ReadsLines}
+use Rattle.ft_waits.specs.inner.Streams.{IsLike, ReadsLines}
 use Rattle.ft_waits.specs.declared.fault.BadLines.{BadLines}
-use Rattle.ft_waits.proofs.Cutting.{history-ended, history-last, line-kept}
+use Rattle.ft_waits.proofs.Cutting.{history-ended, history-last, like-kept, line-kept}
 use Rattle.ft_waits.proofs.Streaming.{none-kept, some-kept}
 use Rattle.ft_waits.proofs.pieces.take_last.Goals as goal
 
@@ -25,7 +25,7 @@ returns-clause-reads c =
       by_policy = c.take_line.ensures.policy ∙ reads.by_policy;
       reads = subst (λ (lines : List (List ℕ)). ReadsLines c.take_line.new.self lines (told ++ c.take_line.new.out.items))
           (sym (history-last text reads.lines reads.rest reads.cuts reads.unbroken (some-kept reads.rest c.args.unended.now reads.kept some)))
-          (takes reads.rest reads.lines told (sym (line-kept reads.rest) ∙ ap line_of (sym reads.kept)) reads.reads);
+          (takes reads.rest reads.lines told (subst (λ (kept : List ℕ). IsLike kept reads.rest) (sym reads.kept) (like-kept reads.rest)) reads.reads);
     }) c.take_line.ensures.ok
 
 pub returns-clause-fails : goal.returns-clause-fails

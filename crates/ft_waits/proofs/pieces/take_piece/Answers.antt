@@ -30,7 +30,7 @@ returns-in_err-take_unended-in-Some-clause-fails c =
     subst (λ (by : BadLines). Fails by (text ++ piece) c.in_err-take_unended-in-Some.field-0.0) reads.by_policy
     (fails-cut reading.bad_lines (text ++ piece) ((reads.rest ++ front) ∷ reads.lines) behind c.in_err-take_unended-in-Some.field-0.0
     (ends-here policy reading old text piece front behind (told ++ out) reads c.in-Some.ensures.cut c.in-Some.ensures.line)
-    (c.in_err-take_unended-in-Some.ensures.err (reads.rest ++ front) reads.lines (told ++ out) (reads-alike policy reading old c.keep.new.unended.items text front (told ++ out) reads c.in_ok-keep-in-Some.ensures.ok) reads.reads)))
+    (c.in_err-take_unended-in-Some.ensures.err (reads.rest ++ front) reads.lines (told ++ out) (reads-alike policy reading old c.keep.new.unended.items text front (told ++ out) reads c.in_ok-keep-in-Some.ensures.ok).0 reads.reads)))
 
 pub returns-in_ok-take_unended-in-Some-clause-reads : goal.returns-in_ok-take_unended-in-Some-clause-reads
 returns-in_ok-take_unended-in-Some-clause-reads c =

@@ -1,6 +1,6 @@
 use Rattle.std.proofs.Common.{subst, List}
-use Rattle.ft_waits.specs.inner.Known.{entries_of, TakesAll}
-use Rattle.ft_waits.specs.declared.held.Held.{Held}
+use Rattle.ft_dispatch.specs.Telling.{entries_of, TakesAll}
+use Rattle.ft_dispatch.specs.declared.act.PlacedAct.{PlacedAct}
 use Rattle.ft_waits.proofs.steps.settle.Goals as goal
 
 pub returns-clause-settles : goal.returns-clause-settles
@@ -8,5 +8,5 @@ returns-clause-settles c = record {
   ordered = c.sort.new.held.items;
   moved = c.sort.ensures.moved;
   sorted = c.sort.ensures.sorted;
-  takes = subst (λ (held : List Held). TakesAll (entries_of held) c.args.tasks.now c.args.out.now.items c.take_all.new.tasks c.take_all.new.out.items) c.deref.ensures.value c.in_ok-take_all.ensures;
+  takes = subst (λ (held : List PlacedAct). TakesAll (entries_of held) c.args.tasks.now c.args.out.now.items c.take_all.new.self c.take_all.new.out.items) c.deref.ensures.value c.in_ok-take_all.ensures;
 }

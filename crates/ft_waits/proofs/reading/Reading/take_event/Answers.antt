@@ -4,7 +4,8 @@ use Rattle.ft_fields.specs.Borrowed.{event_told}
 use Rattle.ft_waits.specs.Reading.{events_of}
 use Rattle.ft_event.specs.declared.fault.Line.TheVariants as lines
 use Rattle.ft_waits.specs.declared.fault.WaitsFault.TheVariants as faults
-use Rattle.ft_waits.proofs.ReadingLines.{reads-more, fails-more, too-long, lines-full, quiet, in-time, too-early, too-many}
+use Rattle.ft_losses.specs.Notes.{Passed}
+use Rattle.ft_waits.proofs.ReadingLines.{note-by, reads-more, fails-more, too-long, lines-full, quiet, in-time, too-early, too-many}
 use Rattle.ft_waits.proofs.reading.Reading.take_event.Goals as goal
 
 pub returns-in_err-number-clause-err : goal.returns-in_err-number-clause-err
@@ -22,7 +23,7 @@ returns-then-event-self-clause-err c = λ line before told is reads.
 pub returns-clause-ok : goal.returns-clause-ok
 returns-clause-ok c = on_ok_weaker c.push.result (λ follows line before told is reads.
     reads-more c.args.self.now _ (Ok (lines.Event (event_told c.args.event.now))) line before (told ++ c.args.out.now.items) (told ++ c.push.new.out.items) is reads refl (quiet c.args.self.now.read c.in_ok-number.number (Ok (lines.Event (event_told c.args.event.now))) refl c.in_ok-number.ensures.ok)
-    (in-time c.args.self.now.bad_lines (c.args.self.now.read.lines + 1) c.args.self.now.state.latest (event_told c.args.event.now) (omega arith)) (follows (events_of before) told reads.state)) c.push.ensures.follows
+    (in-time c.args.self.now.bad_lines (c.args.self.now.read.lines + 1) c.args.self.now.state.latest (event_told c.args.event.now) (omega arith)) (Passed (event_told c.args.event.now)) (note-by line (Ok (lines.Event (event_told c.args.event.now))) (Passed (event_told c.args.event.now)) is refl) (λ notes keeps number. c.in_ok-pass.ensures notes keeps) (follows (events_of before) told reads.state)) c.push.ensures.follows
 
 pub returns-clause-err : goal.returns-clause-err
 returns-clause-err c = IfErr-weaker c.push.result _ _ (λ fault fails line before told is reads. too-many c.args.self.now line before told fault reads fails) c.push.ensures.fails

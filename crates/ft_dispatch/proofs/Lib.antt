@@ -1,0 +1,5 @@
+mod Acting
+mod Behind
+mod Steps
+mod Joins
+mod Written

@@ -1,0 +1,88 @@
+-- Since when a task that a CPU switches to was runnable, as the acts before say it. Acts stand with their places, newest first.
+use Rattle.std.specs.Prelude.{ℤ, pos, Bool, false, List, [], ◌∷◌, ◌++◌, Option, Some, None, if◌then◌else◌}
+use Rattle.std.specs.Ordering.{int_eq}
+use Rattle.ft_fields.specs.declared.pos.Pos.{Pos}
+use Rattle.ft_dispatch.specs.Acts.{Act, Waking, Creation, Switch, Handover}
+use Rattle.ft_dispatch.specs.declared.dispatch.Left.{Left}
+use Rattle.ft_dispatch.specs.declared.dispatch.Since.{Since}
+use Rattle.ft_dispatch.specs.declared.dispatch.Dispatch.{Dispatch}
+
+-- whether an act wakes a task
+abbrev pub wakes : ℤ → Act → Bool
+wakes pid (Waking woken) = int_eq woken pid
+wakes pid (Creation created) = false
+wakes pid (Switch turn) = false
+
+-- whether it creates a task
+abbrev pub creates : ℤ → Act → Bool
+creates pid (Waking woken) = false
+creates pid (Creation created) = int_eq created pid
+creates pid (Switch turn) = false
+
+-- whether it takes the CPU from a task
+abbrev pub leaves : ℤ → Act → Bool
+leaves pid (Waking woken) = false
+leaves pid (Creation created) = false
+leaves pid (Switch turn) = int_eq turn.prev_pid pid
+
+-- whether it runs a task
+abbrev pub runs : ℤ → Act → Bool
+runs pid (Waking woken) = false
+runs pid (Creation created) = false
+runs pid (Switch turn) = int_eq turn.next_pid pid
+
+-- whether it leaves a task that can still run
+abbrev pub leaves_runnable : Act → Bool
+leaves_runnable (Waking woken) = false
+leaves_runnable (Creation created) = false
+leaves_runnable (Switch turn) = turn.prev_runnable
+
+-- the last act that passes a test, of those since the task last ran
+unfoldable pub last_since_run : (Act → Bool) → ℤ → List (Pos × Act) → Option (Pos × Act)
+last_since_run passes pid [] = None
+last_since_run passes pid (entry ∷ before) =
+    if runs pid entry.1 then None
+    else (if passes entry.1 then Some entry else last_since_run passes pid before)
+
+-- where it stands
+abbrev pub place_of : Option (Pos × Act) → Option Pos
+place_of None = None
+place_of (Some entry) = Some entry.0
+
+-- where it stands, and whether it leaves a task that can still run
+abbrev pub left_by : Option (Pos × Act) → Option Left
+left_by None = None
+left_by (Some entry) = Some (record { place = entry.0; runnable = leaves_runnable entry.1 })
+
+-- where a task became runnable: its last waking, its last creation, and the last switch that took the CPU from it, with whether it could still run then; each since it last ran
+unfoldable pub runnable_since : ℤ → List (Pos × Act) → Since
+runnable_since pid before = record {
+  woken = place_of (last_since_run (wakes pid) pid before);
+  created = place_of (last_since_run (creates pid) pid before);
+  left = left_by (last_since_run (leaves pid) pid before);
+}
+
+-- a task that a switch at a place left, and that could not run then
+abbrev pub blocked_at : Pos → Since → Since
+blocked_at place since = record { woken = since.woken; created = since.created; left = Some (record { place = place; runnable = false }) }
+
+-- what a switch at a place ends: a task that the CPU takes from itself was left there, and waited for nothing
+abbrev pub ended_by : Pos → Handover → Since → Since
+ended_by place turn since = if int_eq turn.prev_pid turn.next_pid then blocked_at place since else since
+
+-- the dispatch by a switch at a place; task 0 runs where no other can, and waits for nothing
+abbrev pub dispatch_at : Pos → Handover → Since → List Dispatch
+dispatch_at place turn since =
+    if int_eq turn.next_pid (pos 0) then []
+    else record { pid = turn.next_pid; prio = turn.next_prio; name = turn.next_comm; place = place; since = ended_by place turn since } ∷ []
+
+-- the dispatch by an act, if it is a switch, from where each task became runnable
+abbrev pub dispatch_of : Pos → Act → (ℤ → Since) → List Dispatch
+dispatch_of place (Waking woken) since = []
+dispatch_of place (Creation created) since = []
+dispatch_of place (Switch turn) since = dispatch_at place turn (since turn.next_pid)
+
+-- the dispatches of acts, the oldest first
+unfoldable pub dispatches : List (Pos × Act) → List Dispatch
+dispatches [] = []
+dispatches (entry ∷ before) = dispatches before ++ dispatch_of entry.0 entry.1 (λ pid. runnable_since pid before)

@@ -1,0 +1,63 @@
+-- Acts that were read apart from the acts before them: what is known, and the dispatches, behind those. Acts and dispatches stand newest first, if nothing else is said.
+use Rattle.std.specs.Prelude.{ℤ, Bool, List, [], ◌∷◌, ◌++◌, reverse, if◌then◌else◌}
+use Rattle.std.specs.List.{list_any}
+use Rattle.std.specs.Option.{option_or}
+use Rattle.std.specs.Ordering.{int_eq}
+use Rattle.ft_fields.specs.declared.pos.Pos.{Pos}
+use Rattle.ft_dispatch.specs.Acts.{Act}
+use Rattle.ft_dispatch.specs.Dispatches.{runs}
+use Rattle.ft_dispatch.specs.Telling.{unknown, Tells}
+use Rattle.ft_dispatch.specs.declared.dispatch.Dispatch.{Dispatch}
+use Rattle.ft_dispatch.specs.declared.dispatch.Since.{Since}
+use Rattle.ft_dispatch.specs.declared.tasks.Tasks.{Tasks}
+
+-- ---- what is known
+
+-- whether an act of a part ran a task
+abbrev pub ran : ℤ → List (Pos × Act) → Bool
+ran pid part = list_any (λ entry. runs pid entry.1) part
+
+-- each place from what a part says, if it says one, else from what was known before
+abbrev pub over : Since → Since → Since
+over part before = record {
+  woken = option_or part.woken before.woken;
+  created = option_or part.created before.created;
+  left = option_or part.left before.left;
+}
+
+-- what is known of a task behind a part, by whether the part ran it: a task that ran has only what the part says since then
+abbrev pub known_behind : Bool → Since → Since → Since
+known_behind has_run part before = if has_run then part else over part before
+
+-- ---- dispatches
+
+-- whether dispatches have one of a task
+abbrev pub has_one : ℤ → List Dispatch → Bool
+has_one pid told = list_any (λ one. int_eq one.pid pid) told
+
+-- a dispatch of a part by what was known of its task before the part
+abbrev pub completed_by : Since → Dispatch → Dispatch
+completed_by before one = record { pid = one.pid; prio = one.prio; name = one.name; place = one.place; since = over one.since before }
+
+-- a dispatch of a part behind earlier ones of the part: the first one of its task is completed, any other stays
+abbrev pub completed : (ℤ → Since) → List Dispatch → Dispatch → Dispatch
+completed known earlier one = if has_one one.pid earlier then one else completed_by (known one.pid) one
+
+-- the dispatches of a part by what was known of each task before the part
+unfoldable pub all_completed : (ℤ → Since) → List Dispatch → List Dispatch
+all_completed known [] = []
+all_completed known (one ∷ earlier) = completed known earlier one ∷ all_completed known earlier
+
+-- the same, the oldest first
+abbrev pub joined : (ℤ → Since) → List Dispatch → List Dispatch
+joined known told = reverse (all_completed known (reverse told))
+
+-- what is left of what was known of a task, behind dispatches, the oldest first: nothing, if it ran
+abbrev pub left_over : (ℤ → Since) → List Dispatch → ℤ → Since
+left_over known told pid = if has_one pid (reverse told) then unknown else known pid
+
+-- ---- tasks
+
+-- whatever acts a map of tasks tells, and whatever acts a part tells that was read apart: the new map and dispatches tell the part's acts behind the acts before
+abbrev pub Joins : Tasks → Tasks → List Dispatch → Tasks → List Dispatch → Type 0
+Joins old part apart new behind = (before acts : List (Pos × Act)) (told : List Dispatch) → Tells old before told → Tells part acts apart → Tells new (acts ++ before) (told ++ behind)

@@ -1,0 +1,6 @@
+pub mod Acts
+pub mod Dispatches
+pub mod Began
+pub mod Joining
+pub mod Telling
+pub mod inner

@@ -1,0 +1,56 @@
+-- What a map of tasks tells after acts: since when each task is runnable, and the dispatches so far.
+use Rattle.std.specs.Prelude.{◌≡◌, ℤ, pos, false, List, ◌++◌, reverse, None, map as list_map}
+use Rattle.std.specs.Option.{unwrap_or}
+use Rattle.std.specs.Map.{lookup}
+use Rattle.std.specs.Ordering.{int_cmp, int_eq, is_eq}
+use Rattle.std.specs.BTreeMap.{BTreeMap}
+use Rattle.ft_fields.specs.declared.pos.Pos.{Pos}
+use Rattle.ft_dispatch.specs.Acts.{Act, Waking, Creation, Switch, Handover}
+use Rattle.ft_dispatch.specs.Dispatches.{runnable_since, dispatches}
+use Rattle.ft_dispatch.specs.declared.act.Kind.{Kind}
+use Rattle.ft_dispatch.specs.declared.act.Kind.TheVariants as kinds
+use Rattle.ft_dispatch.specs.declared.act.PlacedAct.{PlacedAct}
+use Rattle.ft_dispatch.specs.declared.dispatch.Dispatch.{Dispatch}
+use Rattle.ft_dispatch.specs.declared.dispatch.Since.{Since}
+use Rattle.ft_dispatch.specs.declared.tasks.Task.{Task}
+use Rattle.ft_dispatch.specs.declared.tasks.Tasks.{Tasks}
+
+-- ---- tasks
+
+-- nothing made the task runnable
+abbrev pub unknown : Since
+unknown = record { woken = None; created = None; left = None }
+
+-- what is known of a task
+abbrev pub known : BTreeMap Task Since → ℤ → Since
+known tasks pid = unwrap_or (lookup (λ task. is_eq (int_cmp pid task.pid)) tasks.entries) unknown
+
+-- ---- acts at their places
+
+-- what a switch says
+abbrev pub handover_of : PlacedAct → Handover
+handover_of act = record { prev_pid = act.prev_pid; prev_runnable = act.prev_runnable; next_pid = act.pid; next_prio = act.prio; next_comm = act.name }
+
+-- what an act says, by its kind
+abbrev pub act_from : Kind → PlacedAct → Act
+act_from kinds.Waking act = Waking act.pid
+act_from kinds.Creation act = Creation act.pid
+act_from kinds.Switch act = Switch (handover_of act)
+
+-- an act at its place
+abbrev pub entry_of : PlacedAct → Pos × Act
+entry_of act = (act.place, act_from act.kind act)
+
+abbrev pub entries_of : List PlacedAct → List (Pos × Act)
+entries_of acts = list_map entry_of acts
+
+-- ---- after acts
+
+-- what is known of each task but task 0, which waits for nothing, is what these acts say, newest first, and their dispatches are told
+pub record Tells (tasks : Tasks) (before : List (Pos × Act)) (told : List Dispatch) : Type 0 where
+  pub knows : (pid : ℤ) → int_eq pid (pos 0) ≡ false → known tasks.since pid ≡ runnable_since pid before
+  pub tells : told ≡ dispatches before
+
+-- after whatever acts, these follow in order
+abbrev pub TakesAll : List (Pos × Act) → Tasks → List Dispatch → Tasks → List Dispatch → Type 0
+TakesAll acts old out new out_now = (before : List (Pos × Act)) (told : List Dispatch) → Tells old before (told ++ out) → Tells new (reverse acts ++ before) (told ++ out_now)

@@ -1,0 +1,5 @@
+pub mod Notes
+pub mod Holes
+pub mod Doubt
+pub mod Telling
+pub mod inner

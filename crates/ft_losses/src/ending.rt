@@ -1,0 +1,81 @@
+//! The end of a text.
+
+ghost use Rattle.std.specs.Prelude.{◌≡◌, ◌++◌, List, OnOk, IfOk};
+ghost use Rattle.std.specs.List.{flat_map};
+ghost use Rattle.ft_losses.specs.Holes.{cpus_below, hole_of, counted_as, counted_by};
+ghost use Rattle.ft_losses.specs.Notes.{Note};
+ghost use Rattle.ft_losses.specs.Telling.{Keeps, AreLosses};
+ghost use Rattle.ft_losses.specs.inner.Lanes.{lane_in};
+
+use crate::hole::Hole;
+use crate::lanes::{CPUS, Lane, lane_of};
+use crate::losses::{Losses, LossesRead};
+use crate::reading::add_hole;
+use std::alloc::{AllocError, Global};
+
+/// Adds the holes that last to the end, by CPU.
+fn add_open(lanes: &[Lane], holes: &mut Vec<Hole>) -> Result<(), AllocError>
+    ensures { OnOk result (holes.new.items ≡ holes.old.items
+        ++ flat_map (λ cpu. hole_of cpu (lane_in lanes.now cpu).last None (lane_in lanes.now cpu).lost) (cpus_below 8192)) }
+{
+    for cpu in 0..CPUS {
+        add_hole(holes, cpu, lane_of(lanes, cpu), None)?;
+    }
+    Ok(())
+}
+
+/// Adds a hole of which such a line knows the count: none if it is 0.
+fn add_counted_as(holes: &mut Vec<Hole>, hole: &Hole, count: Option<u64>) -> Result<(), AllocError>
+    ensures { OnOk result (holes.new.items ≡ holes.old.items ++ counted_as hole.now count) }
+{
+    match count {
+        None => holes.push(*hole)?,
+        Some(0) => {}
+        Some(count) => holes.push(Hole {
+            count: Some(count),
+            ..*hole
+        })?,
+    }
+    Ok(())
+}
+
+/// Adds a hole, by how many events of its CPU were overwritten before the first one.
+fn add_counted(holes: &mut Vec<Hole>, hole: &Hole, count: Option<u64>) -> Result<(), AllocError>
+    ensures { OnOk result (holes.new.items ≡ holes.old.items ++ counted_by count hole.now) }
+{
+    if hole.after.is_none() && hole.count.is_none() {
+        return add_counted_as(holes, hole, count);
+    }
+    holes.push(*hole)?;
+    Ok(())
+}
+
+/// The holes, each by how many events of its CPU were overwritten before the first one.
+fn counted(alloc: Global, lanes: &[Lane], holes: &[Hole]) -> Result<Vec<Hole>, AllocError>
+    ensures { IfOk result (λ counted. counted.items
+        ≡ flat_map (λ hole. counted_by (lane_in lanes.now hole.cpu).overwritten hole) holes.now) }
+{
+    let mut counted = Vec::new(alloc);
+    for hole in holes {
+        add_counted(&mut counted, hole, lane_of(lanes, hole.cpu).overwritten)?;
+    }
+    Ok(counted)
+}
+
+impl Losses {
+    /// The holes of all lines, and what the kernel's header counts. Fails only for memory.
+    pub fn finish(self, alloc: Global) -> Result<LossesRead, AllocError>
+        ensures { IfOk result (λ read. (notes : List Note) → Keeps self notes → AreLosses notes read) }
+    {
+        let Losses {
+            lanes,
+            mut ended,
+            buffers,
+        } = self;
+        add_open(&lanes, &mut ended)?;
+        Ok(LossesRead {
+            holes: counted(alloc, &lanes, &ended)?,
+            buffers,
+        })
+    }
+}

@@ -1,0 +1,48 @@
+//! Losses: where events of a recording were lost, as the lines of its text report it, and how sure a wait is in whose
+//! time that was.
+//!
+//! ```ignore
+//! let mut losses = Losses::new(alloc)?;
+//! losses.pass(&event)?;
+//! losses.skip(2, Some(Mark::Lost { cpu: 0, count: Some(12) }));
+//! losses.pass(&next_event)?;
+//! let read = losses.finish(alloc)?;
+//! let doubts = Doubts::of(alloc, &read.holes)?;
+//! for dispatch in &dispatches {
+//!     if let Some(wait) = doubts.wait_of(dispatch) {
+//!         let micros = dispatch.place.stamp - wait.began.place.stamp;
+//!     }
+//! }
+//! ```
+//!
+//! # Contracts
+//!
+//! - `Losses::new`, `pass`, `skip`, `finish`: after one call for each line, the holes are those that the lines report:
+//!   `holes` (`specs/Holes.antt`) of what each line reports (`specs/Notes.antt`). A hole stands between two events of a
+//!   CPU, if a line between them reports a loss: several lines there are one hole. `finish` has the counts of
+//!   the kernel's header too. Fails only for memory. Lets through: running out of memory at any time.
+//! - `Doubts::of`, `holes`: an index of holes is seen as the list of these holes, in their order. Fails
+//!   only for memory. Lets through: running out of memory at any time.
+//! - `Doubts::doubt`: how sure a wait from a place to another is; exact, `doubt` (`specs/Doubt.antt`). Any
+//!   hole in its time makes it likely at most, and one of the CPU on which it began or ended, doubtful.
+//! - `Doubts::wait`, `wait_of`: the wait that a dispatch ends, and how sure it is; exact, `wait_of_both` and
+//!   `wait_of` (`specs/Doubt.antt`). If a task waits since the CPU was taken from it, and that isn't sure, it
+//!   counts as waiting since it was woken or created, if that is.
+//! - `Doubt::is_sure`: exact, `is_sure` (`specs/Doubt.antt`).
+#![tactic(auto)]
+
+mod doubt;
+mod ending;
+mod hole;
+mod index;
+mod lanes;
+mod losses;
+mod reading;
+mod stretches;
+#[cfg(test)]
+mod tests;
+
+pub use doubt::{Doubt, Wait};
+pub use hole::{Buffers, Hole};
+pub use index::Doubts;
+pub use losses::{Losses, LossesRead};
