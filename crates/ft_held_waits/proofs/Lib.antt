@@ -1,0 +1,4 @@
+mod Latencies
+mod Matching
+mod Ordered
+mod TwoTriggers

@@ -1,0 +1,3 @@
+mod Filtered
+mod Loaded
+mod Read
