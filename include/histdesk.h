@@ -37,7 +37,7 @@
  * - No pointer is null, also where its length or room is 0: any other pointer does then. Each points to as much as is
  *   said, and what a call reads and what it writes don't overlap. Lengths are at most PTRDIFF_MAX.
  * - A bool that a call reads is 0 or 1: the has_place of a refusal that is handed to histdesk_refusal_text or
- *   histdesk_refusal_words. What a call only writes may hold anything before.
+ *   histdesk_refusal_words, and the one of histdesk_waits_new. What a call only writes may hold anything before.
  * - One allocator: malloc, realloc and free, which the library takes from the program, belong together and stay the same
  *   while there is a desk, and all calls of one handle come to one copy of the library.
  * - No call is made from a signal handler, nor in a forked child of a process that had several threads.
@@ -78,7 +78,23 @@ enum {
     HISTDESK_TOO_MANY_TRIGGERS = 15, /* 64 triggers are attached, or the ids are used up */
     HISTDESK_BAD_COMMAND = 16,       /* no such event, or of scripts: no such command */
     HISTDESK_NOT_READING = 17,       /* the trigger reads no variable, so it has no latencies */
+    HISTDESK_BACKWARDS = 18,         /* of waits: a stamp is before that of the event above: line */
+    HISTDESK_NO_STREAM = 19,         /* of waits: no stream takes pieces, or none has ended */
     HISTDESK_CLOSED = 255            /* the handle has no desk */
+};
+
+/* Causes of a wait. */
+enum {
+    HISTDESK_WOKEN = 1,    /* the task was woken: sched_waking */
+    HISTDESK_CREATED = 2,  /* it is new: sched_wakeup_new */
+    HISTDESK_PREEMPTED = 3 /* the CPU was taken from it while it could run: sched_switch */
+};
+
+/* How sure a wait is, by the events that were lost in its time. */
+enum {
+    HISTDESK_SURE = 0,    /* no CPU lost events in its time */
+    HISTDESK_LIKELY = 1,  /* the CPUs on which it began and ended lost none */
+    HISTDESK_DOUBTFUL = 2 /* one of these CPUs lost events: the wait may be false */
 };
 
 /* Names of events. Triggers are attached to the first five; of any other event the task, PID, CPU and stamp are held. */
@@ -201,9 +217,52 @@ typedef struct histdesk_refusal {
     uint32_t cpu;          /* of 4 and 5 */
     uint32_t trigger;      /* of 11 and 12 */
     bool has_place;        /* of 8 and 9: whether the fault has a place */
-    uint64_t line;         /* of 3: the text's line, from 1 */
+    uint64_t line;         /* of 3 and 18: the text's line, from 1 */
     uint64_t place;        /* of 8 and 9: the byte, from 0; in the filter's own text where the fault is the filter's */
 } histdesk_refusal;
+
+/* A wait for a processor: a switch runs a task that something made runnable before. */
+typedef struct histdesk_wait {
+    histdesk_place ended;   /* of the switch that runs the task; lines are numbered by CPU, as in a desk */
+    histdesk_place began;   /* of the event that the wait began with */
+    histdesk_place awoken;  /* if awoken_cause isn't 0: of the event that woke or created the task; else all zero */
+    int32_t pid;            /* not 0 */
+    int32_t prio;           /* with which the task runs */
+    uint32_t cause;         /* HISTDESK_WOKEN .. */
+    uint32_t awoken_cause;  /* 0; or if the cause is HISTDESK_PREEMPTED and the task was woken or created besides, how */
+    uint32_t doubt;         /* HISTDESK_SURE ..; histdesk_waits_copy writes 0, and histdesk_waits_doubt tells it */
+    uint32_t zero;          /* 0 */
+    histdesk_name name;     /* of the task, as the switch has it */
+} histdesk_wait;
+
+/* A stretch of time in which a CPU's events were lost, as lines of the text report it. What it doesn't have is 0. */
+typedef struct histdesk_hole {
+    uint64_t line;   /* of the first line that reports it, from 1 */
+    uint64_t after;  /* the stamp of the CPU's last event before it; has_after is false if there is none */
+    uint64_t before; /* the stamp of the CPU's first event after it; has_before is false if there is none */
+    uint64_t count;  /* how many events were lost; has_count is false if no line tells it */
+    uint32_t cpu;
+    bool has_after;
+    bool has_before;
+    bool has_count;
+} histdesk_hole;
+
+/* What was read of a text. What isn't there is 0. */
+typedef struct histdesk_waits_read {
+    uint64_t lines;            /* how many lines it has */
+    uint64_t bad;              /* how many of them can't be read, if such lines are skipped */
+    uint64_t bad_line;         /* the first of these, from 1 */
+    uint64_t missing;          /* how many events show that a switch is missing before them, though no line reports it */
+    uint64_t holes;            /* how many holes there are */
+    uint64_t held;             /* if has_written: of the events that the kernel wrote to its buffers, how many they held */
+    uint64_t written;          /* if has_written: how many it wrote */
+    uint64_t first;            /* if has_first: the stamp of the first event */
+    uint64_t last;             /* if has_first: that of the last event */
+    histdesk_place missing_at; /* of the first event that shows a missing switch */
+    uint32_t bad_fault;        /* of bad_line, as in REFERENCE.md, Line faults */
+    bool has_first;            /* whether the text has an event */
+    bool has_written;          /* whether the text has the kernel's header with both numbers */
+} histdesk_waits_read;
 
 /* ---- A desk. */
 
@@ -313,10 +372,65 @@ size_t histdesk_events_copy(histdesk *desk, uint64_t from, histdesk_event *to, s
 /* Gives back the memory of all that was asked for, and of the report. What is held and attached stays. */
 void histdesk_forget(histdesk *desk);
 
+/* ---- Waits of a recording.
+ *
+ * A stream reads the text of a trace in pieces of any size and tells who waited for a processor: each time that a switch
+ * runs a task which was woken, created, or left while it could run. A desk has one stream, which keeps what the waits to
+ * come need, and no events. But for histdesk_waits_held it has nothing to do with what the desk holds, and its calls touch
+ * nothing else.
+ *
+ *     histdesk_waits_new(&desk, false);
+ *     while ((length = fread(piece, 1, sizeof piece, file)) > 0)
+ *         if ((code = histdesk_waits_feed(&desk, piece, length, &count)) != HISTDESK_OK)
+ *             ..
+ *         for (uint64_t from = 0; (count = histdesk_waits_copy(&desk, from, waits, 64)) > 0; from += count)
+ *             ..
+ *     histdesk_waits_finish(&desk, &read, &count);
+ *
+ * Waits come in the order of their ends, by stamp, CPU and line, however the text is cut. Those of the last microsecond
+ * come once it is over. */
+
+/* Begins a stream, and ends the one that was there. Lines that can't be read are skipped and counted, or the first one
+ * refuses the text. HISTDESK_MEMORY: the stream that was there stays. */
+uint32_t histdesk_waits_new(histdesk *desk, bool skips_bad_lines);
+
+/* Takes the next piece of the text. `count` is how many waits became known; they are copied until the next feed or finish.
+ * HISTDESK_NO_STREAM, HISTDESK_BAD_LINE, HISTDESK_BACKWARDS, HISTDESK_FULL (over 4,294,967,295 lines). But for
+ * HISTDESK_NO_STREAM, a refusal, HISTDESK_MEMORY too, leaves no waits, and the stream answers the same from then on. */
+uint32_t histdesk_waits_feed(histdesk *desk, const uint8_t *piece, size_t length, uint64_t *count);
+
+/* Ends the text: a line that has not ended is its last. `count` is how many waits were left; `read` is what was read of the
+ * text. The stream has ended then. Refused as histdesk_waits_feed is. */
+uint32_t histdesk_waits_finish(histdesk *desk, histdesk_waits_read *read, uint64_t *count);
+
+/* Copies the waits that the last feed, finish or histdesk_waits_held told. */
+size_t histdesk_waits_copy(histdesk *desk, uint64_t from, histdesk_wait *to, size_t room);
+
+/* Once the stream has ended, these copy the holes of the text, those that an event ended, the first one first, and those that
+ * last to the end, by CPU; and how many events each CPU had in it: item n is of CPU n, and there are 8192. */
+size_t histdesk_waits_holes(histdesk *desk, uint64_t from, histdesk_hole *to, size_t room);
+size_t histdesk_waits_events(histdesk *desk, uint64_t from, uint32_t *to, size_t room);
+
+/* Asks for the waits of the events that the desk holds now, in the order of their ends. `count` is how many. The stream goes
+ * on as before. No refusal but HISTDESK_MEMORY. */
+uint32_t histdesk_waits_held(histdesk *desk, uint64_t *count);
+
+/* Writes how sure waits of this text are, once the stream has ended. A task whose CPU was taken from it may have run unseen
+ * since then; if that wait isn't sure, and the one since the task was woken or created is, `began` and `cause` become the
+ * latter's. A wait whose cause is none of the three stays as it is. HISTDESK_NO_STREAM; never HISTDESK_MEMORY. */
+uint32_t histdesk_waits_doubt(histdesk *desk, histdesk_wait *waits, size_t count);
+
+/* Why the last of histdesk_waits_new, _feed, _finish, _held and _doubt was refused: number, and line and fault. Never
+ * HISTDESK_MEMORY. */
+uint32_t histdesk_waits_refused(histdesk *desk, histdesk_refusal *refusal);
+
+/* Ends the stream, if there is one, and gives back its memory. histdesk_free does so too, and histdesk_forget doesn't. */
+void histdesk_waits_free(histdesk *desk);
+
 /* ---- Refusals. */
 
-/* Why the last edit or question was refused: the last call with a code, except for histdesk_new, histdesk_report_of and this
- * one. Never HISTDESK_MEMORY. */
+/* Why the last edit or question was refused: the last call with a code, except for histdesk_new, histdesk_report_of, the
+ * calls of waits, and this one. Never HISTDESK_MEMORY. */
 uint32_t histdesk_refused(histdesk *desk, histdesk_refusal *refusal);
 
 /* Write a refusal as scripts print it, `refused 8: fault 3`, without a line break, and as words: as much as `room` allows, of
@@ -378,6 +492,37 @@ HISTDESK_ASSERT_(sizeof(histdesk_report) == 24);
 HISTDESK_AT_(histdesk_report, has_made, 1);
 HISTDESK_AT_(histdesk_report, rows, 8);
 HISTDESK_AT_(histdesk_report, made, 16);
+HISTDESK_ASSERT_(sizeof(histdesk_wait) == 104);
+HISTDESK_AT_(histdesk_wait, began, 16);
+HISTDESK_AT_(histdesk_wait, awoken, 32);
+HISTDESK_AT_(histdesk_wait, pid, 48);
+HISTDESK_AT_(histdesk_wait, prio, 52);
+HISTDESK_AT_(histdesk_wait, cause, 56);
+HISTDESK_AT_(histdesk_wait, awoken_cause, 60);
+HISTDESK_AT_(histdesk_wait, doubt, 64);
+HISTDESK_AT_(histdesk_wait, zero, 68);
+HISTDESK_AT_(histdesk_wait, name, 72);
+HISTDESK_ASSERT_(sizeof(histdesk_hole) == 40);
+HISTDESK_AT_(histdesk_hole, after, 8);
+HISTDESK_AT_(histdesk_hole, before, 16);
+HISTDESK_AT_(histdesk_hole, count, 24);
+HISTDESK_AT_(histdesk_hole, cpu, 32);
+HISTDESK_AT_(histdesk_hole, has_after, 36);
+HISTDESK_AT_(histdesk_hole, has_before, 37);
+HISTDESK_AT_(histdesk_hole, has_count, 38);
+HISTDESK_ASSERT_(sizeof(histdesk_waits_read) == 96);
+HISTDESK_AT_(histdesk_waits_read, bad, 8);
+HISTDESK_AT_(histdesk_waits_read, bad_line, 16);
+HISTDESK_AT_(histdesk_waits_read, missing, 24);
+HISTDESK_AT_(histdesk_waits_read, holes, 32);
+HISTDESK_AT_(histdesk_waits_read, held, 40);
+HISTDESK_AT_(histdesk_waits_read, written, 48);
+HISTDESK_AT_(histdesk_waits_read, first, 56);
+HISTDESK_AT_(histdesk_waits_read, last, 64);
+HISTDESK_AT_(histdesk_waits_read, missing_at, 72);
+HISTDESK_AT_(histdesk_waits_read, bad_fault, 88);
+HISTDESK_AT_(histdesk_waits_read, has_first, 92);
+HISTDESK_AT_(histdesk_waits_read, has_written, 93);
 HISTDESK_ASSERT_(sizeof(histdesk_refusal) == 40);
 HISTDESK_AT_(histdesk_refusal, fault, 4);
 HISTDESK_AT_(histdesk_refusal, filter_fault, 8);

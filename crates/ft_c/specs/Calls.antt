@@ -10,3 +10,7 @@ Calls old new code does = MatchOption old ((code ≡ closed) × (new ≡ None)) 
 -- the same of a call that writes: without a session nothing is written
 abbrev pub CallsWriting : {T : Type 0} → Option Held → Option Held → ℕ → T → T → (Held → Held → Type 0) → Type 0
 CallsWriting old new code before after does = MatchOption old ((code ≡ closed) × (new ≡ None) × (after ≡ before)) (λ held. IsSomeAnd new (does held))
+
+-- only the stream of waits may differ
+abbrev pub OnlyWaits : Held → Held → Type 0
+OnlyWaits before after = after ≡ record before { waits = after.waits }

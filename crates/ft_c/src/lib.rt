@@ -26,6 +26,8 @@
 //!   (`specs/Calls.antt`), and nothing is written. A copy copies from what the session holds
 //!   (`specs/Copies.antt`), or nothing; `histdesk_events_copy` copies what is held now at the places
 //!   that the session holds, by stamp, CPU and line. Lets through: what the session does.
+//! - `histdesk_waits_..`: what the call of the session's stream says (`specs/Calls.antt` of `ft_stream`), and
+//!   but for the stream the session is as before (`OnlyWaits`).
 //! - `Handle::empty`, `take`, `put`: contracts see what a handle holds: a session, or nothing,
 //!   which is null. `take` gives the session and leaves nothing; `put` drops what was there and
 //!   holds the session; exact. `end` drops what is held, and has no clause. `Handle` has no `Drop`,
@@ -48,3 +50,4 @@ mod desks;
 mod handle;
 mod parts;
 mod refusals;
+mod waits;

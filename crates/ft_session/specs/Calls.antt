@@ -22,6 +22,7 @@ use Rattle.ft_layout.specs.Rows.{totals_layout}
 use Rattle.ft_layout.specs.declared.events.EventLayout.{EventLayout}
 use Rattle.ft_layout.specs.declared.places.LineLayout.{LineLayout}
 use Rattle.ft_layout.specs.declared.rows.TotalsLayout.{TotalsLayout}
+use Rattle.ft_stream.specs.Calls.{IsIdle, Holds}
 use Rattle.ft_session.specs.declared.session.Session.{Session}
 use Rattle.ft_session.specs.Told.{code_of, edit_told, answer_told, shown_as, IsWritten, IsSized}
 
@@ -34,13 +35,13 @@ abbrev pub AsksNothing : Session → Type 0
 AsksNothing new =
     (new.text.items ≡ []) × (new.rows.items ≡ []) × (new.pairs.items ≡ []) × (new.places.items ≡ []) × (new.attached.items ≡ []) × (new.edited ≡ None)
 
--- a session that holds nothing, was asked for nothing, and has refused nothing
+-- a session that holds nothing, was asked for nothing, has refused nothing, and in which no stream has begun
 unfoldable pub IsNew : Session → Type 0
-IsNew new = (new.desk.base ≡ empty_base) × AsksNothing new × (new.refused ≡ None)
+IsNew new = (new.desk.base ≡ empty_base) × AsksNothing new × (new.refused ≡ None) × IsIdle new.waits
 
--- what was asked for is forgotten, and what the last insert or strike told; the desk and the last refusal stay
+-- what was asked for is forgotten, and what the last insert or strike told; the desk, the last refusal and the stream of waits stay
 unfoldable pub Forgets : Session → Session → Type 0
-Forgets old new = AsksNothing new × (new.desk ≡ old.desk) × (new.refused ≡ old.refused)
+Forgets old new = AsksNothing new × (new.desk ≡ old.desk) × (new.refused ≡ old.refused) × (new.waits ≡ old.waits)
 
 -- ---- edits
 
@@ -142,3 +143,9 @@ ReadsEvent line expected old before code event new =
     × (code ≡ code_of new.refused)
     × IsWritten new.refused before event
     × (new ≡ record old { refused = new.refused })
+
+-- ---- waits
+
+-- the waits of all held events, by the stream of waits: all else is as before
+unfoldable pub HoldsWaits : Session → ℕ → ℕ → ℕ → Session → Type 0
+HoldsWaits old before code count new = Holds old.desk.base.lanes old.waits before code count new.waits × (new ≡ record old { waits = new.waits })

@@ -15,7 +15,7 @@ ghost use Rattle.ft_session.specs.Calls.{IsNew, Forgets};
 ghost use Rattle.ft_session.specs.Calls.{Edits, EditsInPlace, Inserts, Strikes};
 ghost use Rattle.ft_session.specs.Calls.{AnswersTotals, AnswersText, AnswersRows};
 ghost use Rattle.ft_session.specs.Calls.{AnswersPairs, ReadsText, ReadsPlaces};
-ghost use Rattle.ft_session.specs.Calls.{ReadsTriggers, ReadsEvent};
+ghost use Rattle.ft_session.specs.Calls.{ReadsTriggers, ReadsEvent, HoldsWaits};
 
 use crate::told::{accept, all_told, hold, refuse, told};
 use ft_answers::{AttachedTrigger, Changed, Edited, Pair, Refused, Row};
@@ -23,6 +23,7 @@ use ft_board::KeptBoard;
 use ft_desk::Desk;
 use ft_fields::{Name, Pos};
 use ft_layout::{EventLayout, LineLayout, ReportLayout, TotalsLayout};
+use ft_stream::Stream;
 use std::alloc::Global;
 
 /// A desk over the board that keeps tables, and what was last asked of it.
@@ -46,6 +47,8 @@ pub struct Session {
     pub edited: Option<Edited>,
     /// Why the last call with a code was refused, if it was.
     pub refused: Option<Refused>,
+    /// A stream of waits. Its own calls touch nothing else, and of those below only `held_waits` touches it.
+    pub waits: Stream,
 }
 
 impl Session {
@@ -64,6 +67,7 @@ impl Session {
             attached: Vec::new(alloc),
             edited: None,
             refused: None,
+            waits: Stream::new(alloc),
         }
     }
 
@@ -295,6 +299,15 @@ impl Session {
         }
     }
 
+    /// Asks for the waits of all held events: how many they are. Refused only for memory, which the stream of
+    /// waits tells.
+    #[tactic(auto, unfolding(crate::specs::Calls::HoldsWaits))]
+    pub fn held_waits(&mut self, count: &mut u64) -> u32
+        ensures { HoldsWaits self.old count.old result count.new self.new }
+    {
+        self.waits.hold(self.desk.lanes(), count)
+    }
+
     /// How many rows the last accepted insert or strike may have changed, where that is told.
     pub fn report(&self) -> ReportLayout
         ensures { result ≡ report_layout (rows_told self.now.edited) (made_told self.now.edited) }
@@ -335,7 +348,7 @@ impl Session {
     }
 
     /// Forgets what was asked for, and what the last insert or strike told: their memory is given
-    /// back.
+    /// back. The stream of waits stays.
     #[tactic(auto, unfolding(crate::specs::Calls::Forgets))]
     pub fn forget(&mut self)
         ensures { Forgets self.old self.new }

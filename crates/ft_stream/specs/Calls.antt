@@ -1,0 +1,83 @@
+-- What each call of a stream does. All of it is our own choice.
+use Rattle.std.specs.Prelude.{◌≡◌, ℕ, List, [], ◌++◌, length, map, Option, Some, None, MatchOption, IsSomeAnd}
+use Rattle.ft_dispatch.specs.declared.dispatch.Dispatch.{Dispatch}
+use Rattle.ft_held_waits.specs.Held.{dispatches_held}
+use Rattle.ft_lanes.specs.Held.{Lanes}
+use Rattle.ft_waits.specs.declared.fault.BadLines.{BadLines}
+use Rattle.ft_waits.specs.declared.fault.WaitsFault.TheVariants.{Memory}
+use Rattle.ft_stream.specs.Doubting.{doubted}
+use Rattle.ft_stream.specs.Faults.{fault_code, code_of}
+use Rattle.ft_stream.specs.Layouts.{read_layout}
+use Rattle.ft_stream.specs.Telling.{Streams, Ends, refused_at, failed_at, unfinished_at, finished_at, holes_at, waits_of}
+use Rattle.ft_stream.specs.declared.fault.StreamFault.{StreamFault}
+use Rattle.ft_stream.specs.declared.fault.StreamFault.TheVariants.{Text}
+use Rattle.ft_stream.specs.declared.layouts.ReadLayout.{ReadLayout}
+use Rattle.ft_stream.specs.declared.layouts.WaitLayout.{WaitLayout}
+use Rattle.ft_stream.specs.declared.phase.Phase.TheVariants.{Idle}
+use Rattle.ft_stream.specs.declared.stream.Stream.{Stream}
+
+-- no stream has begun, no waits are there, and nothing was refused
+abbrev pub IsIdle : Stream → Type 0
+IsIdle new = (new.phase ≡ Idle) × (new.waits.items ≡ []) × (new.refused ≡ None)
+
+-- a call is refused for this: the stream is as before, but for the refusal that it holds
+abbrev pub Refuses : StreamFault → Stream → ℕ → Stream → Type 0
+Refuses why old code new = (code ≡ fault_code why) × (new ≡ record old { refused = Some why })
+
+-- a stream begins of which nothing is read; it is refused only for memory, and then the one that was there stays
+unfoldable pub Begins : BadLines → Stream → ℕ → Stream → Type 0
+Begins policy old code new =
+    MatchOption new.refused
+    ((code ≡ 0) × Streams policy new.phase [] [] × (new.waits.items ≡ []) × (new ≡ record old { phase = new.phase; waits = new.waits; refused = None }))
+    (λ why. (why ≡ Text Memory) × Refuses why old code new)
+
+-- the count is that of the waits that were told; after a refusal there are none, and the count is as before
+abbrev pub IsCounted : Option StreamFault → ℕ → List Dispatch → ℕ → Type 0
+IsCounted refused before waits count = MatchOption refused (count ≡ length waits) (λ _. (count ≡ before) × (waits ≡ []))
+
+-- a stream that runs takes a piece of whatever text it has read: the waits that it tells are there
+unfoldable pub FeedsOn : List ℕ → Stream → ℕ → ℕ → ℕ → Stream → Type 0
+FeedsOn piece old before code count new =
+    ((policy : BadLines) (text : List ℕ) (told : List Dispatch) → Streams policy old.phase text told → Streams policy new.phase (text ++ piece) (told ++ new.waits.items))
+    × (new.refused ≡ refused_at new.phase)
+    × (code ≡ code_of new.refused)
+    × IsCounted new.refused before new.waits.items count
+    × (new ≡ record old { phase = new.phase; waits = new.waits; refused = new.refused })
+
+-- a feed, by whether a stream runs
+unfoldable pub Feeds : List ℕ → Stream → ℕ → ℕ → ℕ → Stream → Type 0
+Feeds piece old before code count new =
+    MatchOption (refused_at old.phase)
+    (FeedsOn piece old before code count new)
+    (λ why. Refuses why old code new × (count ≡ before))
+
+-- a stream that runs ends: the waits that are left are there, and what was read is written
+unfoldable pub FinishesOn : Stream → ReadLayout → ℕ → ℕ → ReadLayout → ℕ → Stream → Type 0
+FinishesOn old read_before before code read count new =
+    ((policy : BadLines) (text : List ℕ) (told : List Dispatch) → Streams policy old.phase text told → Ends policy new.phase text (told ++ new.waits.items))
+    × (new.refused ≡ failed_at new.phase)
+    × (code ≡ code_of new.refused)
+    × IsCounted new.refused before new.waits.items count
+    × MatchOption new.refused (IsSomeAnd (finished_at new.phase) (λ finished. read ≡ read_layout finished)) (λ _. read ≡ read_before)
+    × (new ≡ record old { phase = new.phase; waits = new.waits; refused = new.refused })
+
+-- the end of a text, by whether a stream runs
+unfoldable pub Finishes : Stream → ReadLayout → ℕ → ℕ → ReadLayout → ℕ → Stream → Type 0
+Finishes old read_before before code read count new =
+    MatchOption (refused_at old.phase)
+    (FinishesOn old read_before before code read count new)
+    (λ why. Refuses why old code new × (read ≡ read_before) × (count ≡ before))
+
+-- the waits of held events are there now, and where the stream stands stays; it is refused only for memory, and then the waits stay too
+unfoldable pub Holds : Lanes → Stream → ℕ → ℕ → ℕ → Stream → Type 0
+Holds lanes old before code count new =
+    MatchOption new.refused
+    ((code ≡ 0) × (new.waits.items ≡ waits_of (dispatches_held lanes)) × (count ≡ length new.waits.items) × (new ≡ record old { waits = new.waits; refused = None }))
+    (λ why. (why ≡ Text Memory) × Refuses why old code new × (count ≡ before))
+
+-- how sure waits are is written by the holes of a text that has ended
+unfoldable pub DoubtsWaits : List WaitLayout → Stream → ℕ → List WaitLayout → Stream → Type 0
+DoubtsWaits before old code waits new =
+    MatchOption (unfinished_at old.phase)
+    ((code ≡ 0) × (waits ≡ map (doubted (holes_at old.phase)) before) × (new ≡ record old { refused = None }))
+    (λ why. Refuses why old code new × (waits ≡ before))

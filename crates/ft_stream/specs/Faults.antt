@@ -1,0 +1,43 @@
+-- Why a call of a stream is refused, as numbers. All of it is our own choice.
+use Rattle.std.specs.Prelude.{ℕ, Option, Some, None}
+use Rattle.ft_event.specs.LineFault.{line_number}
+use Rattle.ft_waits.specs.declared.fault.WaitsFault.{WaitsFault}
+use Rattle.ft_waits.specs.declared.fault.WaitsFault.TheVariants as texts
+use Rattle.ft_layout.specs.Refusals.{no_refusal}
+use Rattle.ft_layout.specs.declared.refusals.RefusalLayout.{RefusalLayout}
+use Rattle.ft_stream.specs.declared.fault.StreamFault.{StreamFault}
+use Rattle.ft_stream.specs.declared.fault.StreamFault.TheVariants as faults
+
+-- the code of a text's refusal; those that the desk has too are the desk's
+abbrev pub text_code : WaitsFault → ℕ
+text_code texts.Memory = 1
+text_code (texts.BadLine bad) = 3
+text_code texts.TooLong = 7
+text_code (texts.Backwards line) = 18
+
+-- the code of a refusal
+abbrev pub fault_code : StreamFault → ℕ
+fault_code (faults.Text fault) = text_code fault
+fault_code faults.NoStream = 19
+
+-- the code of a call: 0, or that of its refusal
+abbrev pub code_of : Option StreamFault → ℕ
+code_of None = 0
+code_of (Some fault) = fault_code fault
+
+-- with the line of a text's refusal, and its fault, if it has them
+abbrev pub with_text_detail : RefusalLayout → WaitsFault → RefusalLayout
+with_text_detail layout texts.Memory = layout
+with_text_detail layout (texts.BadLine bad) = record layout { line = bad.line; fault = line_number bad.fault }
+with_text_detail layout texts.TooLong = layout
+with_text_detail layout (texts.Backwards line) = record layout { line = line }
+
+-- with what a refusal says beside its number
+abbrev pub with_detail : RefusalLayout → StreamFault → RefusalLayout
+with_detail layout (faults.Text fault) = with_text_detail layout fault
+with_detail layout faults.NoStream = layout
+
+-- a refusal as C has it, or that nothing was refused
+abbrev pub refusal_layout : Option StreamFault → RefusalLayout
+refusal_layout None = no_refusal
+refusal_layout (Some fault) = with_detail (record no_refusal { number = fault_code fault }) fault

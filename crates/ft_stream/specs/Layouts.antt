@@ -1,0 +1,105 @@
+-- Waits, holes and what was read of a text, as C has them. All of it is our own choice.
+use Rattle.std.specs.Prelude.{ℕ, length, Option, Some, None, is_some, unwrap_or}
+use Rattle.std.specs.Option.{option_map_or}
+use Rattle.ft_event.specs.LineFault.{line_number}
+use Rattle.ft_dispatch.specs.Began.{waiting_since, awoken}
+use Rattle.ft_dispatch.specs.declared.began.Began.{Began}
+use Rattle.ft_dispatch.specs.declared.began.Cause.{Cause}
+use Rattle.ft_dispatch.specs.declared.began.Cause.TheVariants as causes
+use Rattle.ft_dispatch.specs.declared.dispatch.Dispatch.{Dispatch}
+use Rattle.ft_layout.specs.Names.{name_layout}
+use Rattle.ft_layout.specs.Places.{place_layout}
+use Rattle.ft_layout.specs.declared.places.PlaceLayout.{PlaceLayout}
+use Rattle.ft_losses.specs.declared.hole.Buffers.{Buffers}
+use Rattle.ft_losses.specs.declared.hole.Hole.{Hole}
+use Rattle.ft_stream.specs.declared.layouts.HoleLayout.{HoleLayout}
+use Rattle.ft_stream.specs.declared.layouts.ReadLayout.{ReadLayout}
+use Rattle.ft_stream.specs.declared.layouts.WaitLayout.{WaitLayout}
+use Rattle.ft_stream.specs.declared.phase.Finished.{Finished}
+
+-- no place
+abbrev pub no_place : PlaceLayout
+no_place = record { stamp = 0; cpu = 0; line = 0 }
+
+-- ---- waits
+
+-- the number of a cause
+abbrev pub cause_number : Cause → ℕ
+cause_number causes.Woken = 1
+cause_number causes.Created = 2
+cause_number causes.Preempted = 3
+
+-- the number of a beginning's cause, and 0 of none
+abbrev pub cause_of : Option Began → ℕ
+cause_of began = option_map_or (λ b. cause_number b.cause) began 0
+
+-- the place of a beginning, and zeros of none
+abbrev pub place_of : Option Began → PlaceLayout
+place_of began = option_map_or (λ b. place_layout b.place) began no_place
+
+-- what woke or created a task besides, by why it waited: only if the CPU was taken from it
+abbrev pub awoken_besides : Cause → Option Began → Option Began
+awoken_besides causes.Woken awoken = None
+awoken_besides causes.Created awoken = None
+awoken_besides causes.Preempted awoken = awoken
+
+-- the same of a wait, if there is one
+abbrev pub awoken_in : Option Began → Option Began → Option Began
+awoken_in None awoken = None
+awoken_in (Some began) awoken = awoken_besides began.cause awoken
+
+-- a wait, by what it began with and what woke or created the task besides
+abbrev pub wait_from : Dispatch → Option Began → Option Began → WaitLayout
+wait_from dispatch began besides = record {
+  ended = place_layout dispatch.place;
+  began = place_of began;
+  awoken = place_of besides;
+  pid = dispatch.pid;
+  prio = dispatch.prio;
+  cause = cause_of began;
+  awoken_cause = cause_of besides;
+  doubt = 0;
+  zero = 0;
+  name = name_layout dispatch.name;
+}
+
+-- the wait that a dispatch ends; how sure it is, is not told yet
+abbrev pub wait_layout : Dispatch → WaitLayout
+wait_layout dispatch = wait_from dispatch (waiting_since dispatch.since) (awoken_in (waiting_since dispatch.since) (awoken dispatch.since))
+
+-- ---- what was read
+
+-- a hole
+abbrev pub hole_layout : Hole → HoleLayout
+hole_layout hole = record {
+  line = hole.line;
+  after = unwrap_or hole.after 0;
+  before = unwrap_or hole.before 0;
+  count = unwrap_or hole.count 0;
+  cpu = hole.cpu;
+  has_after = is_some hole.after;
+  has_before = is_some hole.before;
+  has_count = is_some hole.count;
+}
+
+-- what a text without the kernel's header tells of the buffers
+abbrev pub no_buffers : Buffers
+no_buffers = record { held = 0; written = 0 }
+
+-- what was read: of the first line that can't be read its number and its fault, and the place of the first event that shows a missing switch
+abbrev pub read_layout : Finished → ReadLayout
+read_layout finished = record {
+  lines = finished.read.lines.lines;
+  bad = finished.read.lines.bad;
+  bad_line = option_map_or (λ bad. bad.line) finished.read.lines.first 0;
+  missing = finished.read.missing.switches;
+  holes = length finished.read.losses.holes.items;
+  held = (unwrap_or finished.read.losses.buffers no_buffers).held;
+  written = (unwrap_or finished.read.losses.buffers no_buffers).written;
+  first = unwrap_or finished.read.first 0;
+  last = unwrap_or finished.read.last 0;
+  missing_at = option_map_or place_layout finished.read.missing.first no_place;
+  bad_fault = option_map_or (λ bad. line_number bad.fault) finished.read.lines.first 0;
+  has_first = is_some finished.read.first;
+  has_written = is_some finished.read.losses.buffers;
+}

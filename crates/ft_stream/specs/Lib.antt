@@ -1,0 +1,5 @@
+pub mod Calls
+pub mod Doubting
+pub mod Faults
+pub mod Layouts
+pub mod Telling

@@ -1,0 +1,94 @@
+-- What a stream tells of a text: the dispatches that end a wait.
+use Rattle.std.specs.Prelude.{◌≡◌, ℕ, Bool, List, [], filter, Option, Some, None, is_some}
+use Rattle.ft_dispatch.specs.Began.{waiting_since}
+use Rattle.ft_dispatch.specs.declared.dispatch.Dispatch.{Dispatch}
+use Rattle.ft_waits.specs.Reading.{history, dispatches_in, Fails, FailsAt}
+use Rattle.ft_waits.specs.Streams.{HasRead, AreDispatches}
+use Rattle.ft_waits.specs.declared.fault.BadLines.{BadLines}
+use Rattle.ft_waits.specs.declared.stream.Waits.{Waits}
+use Rattle.ft_losses.specs.declared.hole.Hole.{Hole}
+use Rattle.ft_stream.specs.declared.fault.StreamFault.{StreamFault}
+use Rattle.ft_stream.specs.declared.fault.StreamFault.TheVariants.{Text, NoStream}
+use Rattle.ft_stream.specs.declared.phase.Finished.{Finished}
+use Rattle.ft_stream.specs.declared.phase.Phase.{Phase}
+use Rattle.ft_stream.specs.declared.phase.Phase.TheVariants as phases
+
+-- whether a dispatch ends a wait: something made its task runnable
+abbrev pub ends_wait : Dispatch → Bool
+ends_wait dispatch = is_some (waiting_since dispatch.since)
+
+-- the dispatches that end a wait
+abbrev pub waits_of : List Dispatch → List Dispatch
+waits_of dispatches = filter ends_wait dispatches
+
+-- the waits of a trace text
+abbrev pub waits_in : List ℕ → List Dispatch
+waits_in text = waits_of (dispatches_in text)
+
+-- a text was read so far, and these waits were told of it
+pub record HasTold (policy : BadLines) (waits : Waits) (text : List ℕ) (told : List Dispatch) : Type 0 where
+  pub dispatches : List Dispatch
+  pub has_read : HasRead policy waits text dispatches
+  pub are_waits : told ≡ waits_of dispatches
+
+-- the answer to a whole text: its waits were told, no line of it is refused, and waits are doubted by its holes
+pub record AreWaits (policy : BadLines) (text : List ℕ) (told : List Dispatch) (finished : Finished) : Type 0 where
+  pub are_waits : told ≡ waits_in text
+  pub answer : AreDispatches policy text (dispatches_in text) finished.read
+  pub doubts : finished.doubts ≡ finished.read.losses.holes.items
+
+-- by where a stream stands: what it has read of a text, and the waits that it told of it; or the text is refused
+abbrev pub Streams : BadLines → Phase → List ℕ → List Dispatch → Type 0
+Streams policy phases.Idle text told = ⊥
+Streams policy (phases.Running waits) text told = HasTold policy waits text told
+Streams policy (phases.Failed fault) text told = Fails policy text fault
+Streams policy (phases.Finished finished) text told = ⊥
+
+-- the same of a text that has ended
+abbrev pub Ends : BadLines → Phase → List ℕ → List Dispatch → Type 0
+Ends policy phases.Idle text told = ⊥
+Ends policy (phases.Running waits) text told = ⊥
+Ends policy (phases.Failed fault) text told = FailsAt policy (history text) fault
+Ends policy (phases.Finished finished) text told = AreWaits policy text told finished
+
+-- why a stream takes no piece and does not end there, if it is so
+abbrev pub refused_at : Phase → Option StreamFault
+refused_at phases.Idle = Some NoStream
+refused_at (phases.Running waits) = None
+refused_at (phases.Failed fault) = Some (Text fault)
+refused_at (phases.Finished finished) = Some NoStream
+
+-- why a text that has ended was refused, if it was
+abbrev pub failed_at : Phase → Option StreamFault
+failed_at phases.Idle = None
+failed_at (phases.Running waits) = None
+failed_at (phases.Failed fault) = Some (Text fault)
+failed_at (phases.Finished finished) = None
+
+-- why waits can't be doubted, if the text has not ended
+abbrev pub unfinished_at : Phase → Option StreamFault
+unfinished_at phases.Idle = Some NoStream
+unfinished_at (phases.Running waits) = Some NoStream
+unfinished_at (phases.Failed fault) = Some (Text fault)
+unfinished_at (phases.Finished finished) = None
+
+-- the holes of a text that has ended
+abbrev pub holes_at : Phase → List Hole
+holes_at phases.Idle = []
+holes_at (phases.Running waits) = []
+holes_at (phases.Failed fault) = []
+holes_at (phases.Finished finished) = finished.doubts
+
+-- how many events each CPU had, by its number, once the text has ended
+abbrev pub events_at : Phase → List ℕ
+events_at phases.Idle = []
+events_at (phases.Running waits) = []
+events_at (phases.Failed fault) = []
+events_at (phases.Finished finished) = finished.read.events.items
+
+-- what was read, if the text has ended
+abbrev pub finished_at : Phase → Option Finished
+finished_at phases.Idle = None
+finished_at (phases.Running waits) = None
+finished_at (phases.Failed fault) = None
+finished_at (phases.Finished finished) = Some finished

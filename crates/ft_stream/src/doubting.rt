@@ -1,0 +1,97 @@
+//! How sure waits are, by the holes of their text.
+
+ghost use Rattle.std.specs.Prelude.{◌≡◌, map};
+ghost use Rattle.ft_stream.specs.Doubting.{pos_of, cause_numbered, began_of, doubt_number, with_wait, doubted};
+
+use crate::layouts::{WaitLayout, cause_number};
+use ft_dispatch::{Began, Cause};
+use ft_fields::Pos;
+use ft_layout::PlaceLayout;
+use ft_losses::{Doubt, Doubts, Wait};
+
+/// The largest CPU that a place can have.
+const MOST_CPU: u32 = 65535;
+
+/// A place that C has; a larger CPU counts as the largest one.
+fn pos_of(place: &PlaceLayout) -> Pos
+    ensures { result ≡ pos_of place.now }
+{
+    Pos {
+        stamp: place.stamp,
+        cpu: place.cpu.min(MOST_CPU) as u16,
+        line: place.line,
+    }
+}
+
+/// The cause with a number.
+fn cause_numbered(number: u32) -> Option<Cause>
+    ensures { result ≡ cause_numbered number }
+{
+    match number {
+        1 => Some(Cause::Woken),
+        2 => Some(Cause::Created),
+        3 => Some(Cause::Preempted),
+        _ => None,
+    }
+}
+
+/// A beginning, if its number is that of a cause.
+fn began_of(number: u32, place: &PlaceLayout) -> Option<Began>
+    ensures { result ≡ began_of number place.now }
+{
+    match cause_numbered(number) {
+        Some(cause) => Some(Began {
+            cause,
+            place: pos_of(place),
+        }),
+        None => None,
+    }
+}
+
+/// The number of how sure a wait is.
+fn doubt_number(doubt: Doubt) -> u32
+    ensures { result ≡ doubt_number doubt }
+{
+    match doubt {
+        Doubt::Sure => 0,
+        Doubt::Likely => 1,
+        Doubt::Doubtful => 2,
+    }
+}
+
+impl WaitLayout {
+    /// With what the wait began with, and how sure it is.
+    fn with_wait(self, wait: Wait) -> WaitLayout
+        ensures { result ≡ with_wait self wait }
+    {
+        WaitLayout {
+            began: PlaceLayout::of(&wait.began.place),
+            cause: cause_number(wait.began.cause),
+            doubt: doubt_number(wait.doubt),
+            ..self
+        }
+    }
+
+    /// By the holes of its text: how sure it is, and if only the wait since the task was woken or created is
+    /// sure, that it began with that. It stays if its cause is none.
+    fn doubted(self, doubts: &Doubts) -> WaitLayout
+        ensures { result ≡ doubted doubts.now self }
+    {
+        match began_of(self.cause, &self.began) {
+            Some(began) => {
+                let awoken = began_of(self.awoken_cause, &self.awoken);
+                self.with_wait(doubts.wait(began, awoken, pos_of(&self.ended)))
+            }
+            None => self,
+        }
+    }
+}
+
+/// Writes how sure waits are.
+pub(crate) fn doubt_all(doubts: &Doubts, waits: &mut [WaitLayout])
+    ensures { waits.new ≡ map (doubted doubts.now) waits.old }
+{
+    for number in 0..waits.len() {
+        waits[number] = waits[number].doubted(doubts);
+    }
+}

@@ -1,0 +1,259 @@
+//! Waits and what was read of a text, as C lays them out.
+
+ghost use Rattle.std.specs.Prelude.{◌≡◌, unwrap_or};
+ghost use Rattle.ft_event.specs.LineFault.{line_number};
+ghost use Rattle.std.specs.Option.{option_map_or};
+ghost use Rattle.ft_layout.specs.Places.{place_layout};
+ghost use Rattle.ft_stream.specs.Layouts.{no_place, cause_number, cause_of, place_of, awoken_besides, awoken_in, no_buffers, wait_layout, hole_layout, read_layout};
+
+use crate::phase::Finished;
+use ft_dispatch::{Began, Cause, Dispatch};
+use ft_fields::Pos;
+use ft_layout::{NameLayout, PlaceLayout};
+use ft_losses::{Buffers, Hole};
+use ft_waits::BadLine;
+
+/// A wait for a processor.
+#[repr(C)]
+#[derive(Clone, Copy, Debug, PartialEq, Eq)]
+pub struct WaitLayout {
+    /// The place of the switch that runs the task.
+    pub ended: PlaceLayout,
+    /// The place of the event that the wait began with.
+    pub began: PlaceLayout,
+    /// The place of the event that woke or created the task besides; all zero if there is none.
+    pub awoken: PlaceLayout,
+    /// The task's PID.
+    pub pid: i32,
+    /// The priority with which it runs.
+    pub prio: i32,
+    /// Why it waited: 1 it was woken, 2 it was created, 3 the CPU was taken from it.
+    pub cause: u32,
+    /// 0; or if the CPU was taken from it, and it was woken or created besides, 1 or 2.
+    pub awoken_cause: u32,
+    /// How sure the wait is: 0 sure, 1 likely, 2 doubtful.
+    pub doubt: u32,
+    /// 0.
+    pub zero: u32,
+    /// The task's name.
+    pub name: NameLayout,
+}
+
+/// A stretch of time in which a CPU's events were lost. What isn't there is 0.
+#[repr(C)]
+#[derive(Clone, Copy, Debug, PartialEq, Eq)]
+pub struct HoleLayout {
+    /// The first line that reports it, from 1.
+    pub line: u64,
+    /// The stamp of the CPU's last event before it.
+    pub after: u64,
+    /// The stamp of the CPU's first event after it.
+    pub before: u64,
+    /// How many events were lost.
+    pub count: u64,
+    /// The CPU.
+    pub cpu: u32,
+    /// Whether there is an event before it.
+    pub has_after: bool,
+    /// Whether there is an event after it.
+    pub has_before: bool,
+    /// Whether a line tells how many events were lost.
+    pub has_count: bool,
+}
+
+/// What was read of a text. What isn't there is 0.
+#[repr(C)]
+#[derive(Clone, Copy, Debug, PartialEq, Eq)]
+pub struct ReadLayout {
+    /// How many lines there are.
+    pub lines: u64,
+    /// How many of them can't be read.
+    pub bad: u64,
+    /// The first of these lines, from 1.
+    pub bad_line: u64,
+    /// How many events show that a switch is missing before them, though no line reports it.
+    pub missing: u64,
+    /// How many holes there are.
+    pub holes: u64,
+    /// How many events the kernel's buffers held of those that were written to them.
+    pub held: u64,
+    /// How many events were written to them.
+    pub written: u64,
+    /// The stamp of the first event, in microseconds.
+    pub first: u64,
+    /// The stamp of the last event.
+    pub last: u64,
+    /// The place of the first of these events.
+    pub missing_at: PlaceLayout,
+    /// The number of the fault of the first line that can't be read.
+    pub bad_fault: u32,
+    /// Whether the text has an event.
+    pub has_first: bool,
+    /// Whether the text has the kernel's header, which tells what the buffers held.
+    pub has_written: bool,
+}
+
+impl HoleLayout {
+    /// The hole as C has it.
+    pub fn of(hole: &Hole) -> HoleLayout
+        ensures { result ≡ hole_layout hole.now }
+    {
+        HoleLayout {
+            line: hole.line,
+            after: hole.after.unwrap_or(0),
+            before: hole.before.unwrap_or(0),
+            count: hole.count.unwrap_or(0),
+            cpu: u32::from(hole.cpu),
+            has_after: hole.after.is_some(),
+            has_before: hole.before.is_some(),
+            has_count: hole.count.is_some(),
+        }
+    }
+}
+
+/// No place.
+fn no_place() -> PlaceLayout
+    ensures { result ≡ no_place }
+{
+    PlaceLayout {
+        stamp: 0,
+        cpu: 0,
+        line: 0,
+    }
+}
+
+/// A place as C has it; zeros if there is none.
+fn place_or_none(place: Option<Pos>) -> PlaceLayout
+    ensures { result ≡ option_map_or place_layout place no_place }
+{
+    match place {
+        Some(place) => PlaceLayout::of(&place),
+        None => no_place(),
+    }
+}
+
+/// The number of a cause.
+pub(crate) fn cause_number(cause: Cause) -> u32
+    ensures { result ≡ cause_number cause }
+{
+    match cause {
+        Cause::Woken => 1,
+        Cause::Created => 2,
+        Cause::Preempted => 3,
+    }
+}
+
+/// The number of a beginning's cause; 0 if there is none.
+fn cause_of(began: Option<Began>) -> u32
+    ensures { result ≡ cause_of began }
+{
+    match began {
+        Some(began) => cause_number(began.cause),
+        None => 0,
+    }
+}
+
+/// The place of a beginning; zeros if there is none.
+fn place_of(began: Option<Began>) -> PlaceLayout
+    ensures { result ≡ place_of began }
+{
+    match began {
+        Some(began) => PlaceLayout::of(&began.place),
+        None => no_place(),
+    }
+}
+
+/// What woke or created a task besides what its wait began with: only if the CPU was taken from it.
+fn awoken_in(began: Option<Began>, awoken: Option<Began>) -> Option<Began>
+    ensures { result ≡ awoken_in began awoken }
+{
+    match began {
+        Some(
+            Began {
+                cause: Cause::Preempted,
+                place: _,
+            },
+        ) => awoken,
+        _ => None,
+    }
+}
+
+impl WaitLayout {
+    /// The wait that a dispatch ends; how sure it is, is not told yet.
+    pub fn of(dispatch: &Dispatch) -> WaitLayout
+        ensures { result ≡ wait_layout dispatch.now }
+    {
+        let began = dispatch.since.waiting();
+        let besides = awoken_in(began, dispatch.since.awoken());
+        WaitLayout {
+            ended: PlaceLayout::of(&dispatch.place),
+            began: place_of(began),
+            awoken: place_of(besides),
+            pid: dispatch.pid,
+            prio: dispatch.prio,
+            cause: cause_of(began),
+            awoken_cause: cause_of(besides),
+            doubt: 0,
+            zero: 0,
+            name: NameLayout::of(&dispatch.name),
+        }
+    }
+}
+
+/// The line of the first one that can't be read; 0 if there is none.
+fn bad_line_of(first: Option<BadLine>) -> u64
+    ensures { result ≡ option_map_or (λ bad. bad.line) first 0 }
+{
+    match first {
+        Some(bad) => bad.line,
+        None => 0,
+    }
+}
+
+/// The number of its fault; 0 if there is none.
+fn bad_fault_of(first: Option<BadLine>) -> u32
+    ensures { result ≡ option_map_or (λ bad. line_number bad.fault) first 0 }
+{
+    match first {
+        Some(bad) => u32::from(bad.fault.number()),
+        None => 0,
+    }
+}
+
+/// What the kernel's header tells; zeros if the text has none.
+fn buffers_or_none(buffers: Option<Buffers>) -> Buffers
+    ensures { result ≡ unwrap_or buffers no_buffers }
+{
+    match buffers {
+        Some(buffers) => buffers,
+        None => Buffers {
+            held: 0,
+            written: 0,
+        },
+    }
+}
+
+impl ReadLayout {
+    /// What was read of a text that has ended.
+    pub fn of(finished: &Finished) -> ReadLayout
+        ensures { result ≡ read_layout finished.now }
+    {
+        let read = &finished.read;
+        let buffers = buffers_or_none(read.losses.buffers);
+        ReadLayout {
+            lines: read.lines.lines,
+            bad: read.lines.bad,
+            bad_line: bad_line_of(read.lines.first),
+            missing: read.missing.switches,
+            holes: read.losses.holes.len() as u64,
+            held: buffers.held,
+            written: buffers.written,
+            first: read.first.unwrap_or(0),
+            last: read.last.unwrap_or(0),
+            missing_at: place_or_none(read.missing.first),
+            bad_fault: bad_fault_of(read.lines.first),
+            has_first: read.first.is_some(),
+            has_written: read.losses.buffers.is_some(),
+        }
+    }
+}

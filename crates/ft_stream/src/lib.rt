@@ -1,0 +1,52 @@
+//! A stream of waits, for callers that take answers in parts: who waited for a processor in a text that
+//! comes in pieces, and since when.
+//!
+//! Each call that may be refused answers a code: 0 if it is accepted, else the refusal's number, of which
+//! 1 is that memory ran out. The refusal itself is held until the next such call.
+//!
+//! ```ignore
+//! let mut stream = Stream::new(rt.alloc());
+//! assert_eq!(rt; stream.begin(BadLines::Refuse), 0);
+//! let mut count = 0;
+//! while let Some(piece) = next_piece() {
+//!     assert_eq!(rt; stream.feed(piece, &mut count), 0);
+//!     for wait in stream.waits.as_slice() {
+//!         // A dispatch that ends a wait.
+//!     }
+//! }
+//! let mut read = ReadLayout::empty();
+//! assert_eq!(rt; stream.finish(&mut read, &mut count), 0);
+//! // The stream has ended.
+//! assert_eq!(rt; stream.feed(piece, &mut count), 19);
+//! ```
+//!
+//! # Contracts
+//!
+//! - `Stream::new`, `begin`, `feed`, `finish`, `end`: the waits that the calls leave, one after the other,
+//!   are those of the whole text, however it is cut: `waits_in` (`specs/Telling.antt`), over what
+//!   `ft_waits` says of a text. Each call is told whole by a relation (`specs/Calls.antt`): the code, what
+//!   is written, and what the stream is afterwards. A text is refused as `ft_waits` refuses it; from then on
+//!   each call answers the same, until a stream begins or ends. Lets through: running out of memory at any
+//!   time; how early a wait is told; memory that is kept of waits that were told.
+//! - `Stream::doubt`: how sure waits of a text that has ended are, by its holes; exact, `doubted`
+//!   (`specs/Doubting.antt`), over `wait_of_both` of `ft_losses`.
+//! - `Stream::hold`: the waits of held events, by `ft_held_waits`.
+//! - `WaitLayout::of` and the other layouts: each struct is a function of what it shows
+//!   (`specs/Layouts.antt`). `copy_waits`, `copy_holes`, `copy_numbers`: a part of a list, as the copies of
+//!   `ft_layout` are.
+#![tactic(auto)]
+
+mod copying;
+mod doubting;
+mod fault;
+mod held;
+mod layouts;
+mod phase;
+mod stream;
+
+pub use copying::{copy_holes, copy_numbers, copy_waits};
+pub use fault::{StreamFault, refusal_of};
+pub use ft_waits::BadLines;
+pub use layouts::{HoleLayout, ReadLayout, WaitLayout};
+pub use phase::{Finished, Phase};
+pub use stream::Stream;

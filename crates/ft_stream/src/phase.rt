@@ -1,0 +1,216 @@
+//! Where a stream stands.
+
+ghost use Rattle.std.specs.Prelude.{◌≡◌, ◌++◌, [], List, ℕ, OnOk, OnErr, IfOk, IfErr, IfSome, IfNone, IsSomeAnd, Some, None, Err, map};
+ghost use Rattle.ft_waits.specs.Reading.{history, Fails, FailsAt};
+ghost use Rattle.ft_waits.specs.Streams.{HasRead, AreDispatches};
+ghost use Rattle.ft_waits.specs.declared.fault.BadLines.{BadLines as Policy};
+ghost use Rattle.ft_dispatch.specs.declared.dispatch.Dispatch.{Dispatch as Told};
+ghost use Rattle.ft_stream.specs.Telling.{HasTold, AreWaits, Streams, Ends, refused_at, failed_at, unfinished_at, finished_at, holes_at, events_at, waits_of};
+ghost use Rattle.ft_stream.specs.Doubting.{doubted};
+ghost use Rattle.ft_stream.specs.Layouts.{read_layout};
+
+use crate::doubting::doubt_all;
+use crate::fault::StreamFault;
+use crate::layouts::{ReadLayout, WaitLayout};
+use ft_dispatch::Dispatch;
+use ft_losses::{Doubts, Hole};
+use ft_waits::{TextRead, Waits, WaitsFault};
+use std::alloc::Global;
+use std::mem;
+
+/// What was read of a text that has ended.
+#[derive(Drop)]
+pub struct Finished {
+    /// Its lines, the switches that are missing in it, and where events were lost.
+    pub read: TextRead,
+    /// An index of its holes.
+    pub doubts: Doubts,
+}
+
+/// Where a stream stands.
+#[derive(Drop)]
+pub enum Phase {
+    /// No stream has begun.
+    Idle,
+    /// It takes pieces.
+    Running(Waits),
+    /// It failed, and takes no more.
+    Failed(WaitsFault),
+    /// Its text has ended.
+    Finished(Finished),
+}
+
+/// Keeps the dispatches that end a wait.
+pub(crate) fn keep_waits(told: &mut Vec<Dispatch>)
+    ensures { told.new.items ≡ waits_of told.old.items }
+{
+    told.retain(|dispatch| dispatch.since.waiting().is_some());
+}
+
+/// Takes a piece into a stream that runs: the waits that it told are there then, and none if it fails.
+fn take_piece(running: &mut Waits, piece: &[u8], told: &mut Vec<Dispatch>) -> Result<(), WaitsFault>
+    ensures reads { OnOk result ((policy : Policy) (text : List ℕ) (before : List Told)
+        → HasTold policy running.old text before
+        → HasTold policy running.new (text ++ piece.now) (before ++ told.new.items)) }
+    ensures fails { IfErr result (λ fault. (policy : Policy) (text : List ℕ) (before : List Told)
+        → HasTold policy running.old text before
+        → Fails policy (text ++ piece.now) fault) }
+    ensures none { IfErr result (λ fault. told.new.items ≡ []) }
+{
+    told.clear();
+    match running.feed(piece, told) {
+        Ok(()) => {
+            keep_waits(told);
+            Ok(())
+        }
+        Err(fault) => {
+            told.clear();
+            Err(fault)
+        }
+    }
+}
+
+/// Ends the text of a stream that runs: the waits that are left are there then, and none if it fails.
+fn take_end(running: Waits, alloc: Global, told: &mut Vec<Dispatch>) -> Result<Finished, WaitsFault>
+    ensures reads { IfOk result (λ finished. (policy : Policy) (text : List ℕ) (before : List Told)
+        → HasTold policy running text before
+        → AreWaits policy text (before ++ told.new.items) finished) }
+    ensures fails { IfErr result (λ fault. (policy : Policy) (text : List ℕ) (before : List Told)
+        → HasTold policy running text before
+        → FailsAt policy (history text) fault) }
+    ensures none { IfErr result (λ fault. told.new.items ≡ []) }
+{
+    told.clear();
+    match end_text(running, alloc, told) {
+        Ok(finished) => {
+            keep_waits(told);
+            Ok(finished)
+        }
+        Err(fault) => {
+            told.clear();
+            Err(fault)
+        }
+    }
+}
+
+/// Ends the text of a stream that runs, and makes an index of its holes.
+fn end_text(running: Waits, alloc: Global, out: &mut Vec<Dispatch>) -> Result<Finished, WaitsFault>
+    ensures reads { IfOk result (λ finished. (policy : Policy) (text : List ℕ) (told : List Told)
+        → HasRead policy running text (told ++ out.old.items)
+        → AreDispatches policy text (told ++ out.new.items) finished.read) }
+    ensures doubts { IfOk result (λ finished. finished.doubts ≡ finished.read.losses.holes.items) }
+    ensures fails { IfErr result (λ fault. (policy : Policy) (text : List ℕ) (told : List Told)
+        → HasRead policy running text (told ++ out.old.items)
+        → FailsAt policy (history text) fault) }
+{
+    let read = running.finish(alloc, out)?;
+    let doubts = Doubts::of(alloc, &read.losses.holes)?;
+    Ok(Finished { read, doubts })
+}
+
+/// Feeds a stream, by where it stands.
+pub(crate) fn feed_phase(
+    phase: &mut Phase,
+    piece: &[u8],
+    told: &mut Vec<Dispatch>,
+) -> Result<(), StreamFault>
+    ensures reads { IfNone (refused_at phase.old) ((policy : Policy) (text : List ℕ) (before : List Told)
+        → Streams policy phase.old text before
+        → Streams policy phase.new (text ++ piece.now) (before ++ told.new.items)) }
+    ensures accepted { OnOk result (refused_at phase.new ≡ None) }
+    ensures refused { IfErr result (λ why. refused_at phase.new ≡ Some why) }
+    ensures none { IfNone (refused_at phase.old) (OnErr result (told.new.items ≡ [])) }
+    ensures stays { IfSome (refused_at phase.old) (λ why. (result ≡ Err why)
+        × (phase.new ≡ phase.old) × (told.new ≡ told.old)) }
+{
+    match phase {
+        Phase::Running(running) => match take_piece(running, piece, told) {
+            Ok(()) => Ok(()),
+            Err(fault) => {
+                *phase = Phase::Failed(fault);
+                Err(StreamFault::Text(fault))
+            }
+        },
+        Phase::Failed(fault) => Err(StreamFault::Text(*fault)),
+        Phase::Idle | Phase::Finished(_) => Err(StreamFault::NoStream),
+    }
+}
+
+/// Ends a stream's text, by where it stands: what was read of it, as C has it.
+pub(crate) fn finish_phase(
+    phase: &mut Phase,
+    alloc: Global,
+    told: &mut Vec<Dispatch>,
+) -> Result<ReadLayout, StreamFault>
+    ensures reads { IfNone (refused_at phase.old) ((policy : Policy) (text : List ℕ) (before : List Told)
+        → Streams policy phase.old text before
+        → Ends policy phase.new text (before ++ told.new.items)) }
+    ensures accepted { IfOk result (λ shown. (failed_at phase.new ≡ None)
+        × IsSomeAnd (finished_at phase.new) (λ finished. shown ≡ read_layout finished)) }
+    ensures refused { IfNone (refused_at phase.old) (IfErr result (λ why. (failed_at phase.new ≡ Some why)
+        × (told.new.items ≡ []))) }
+    ensures stays { IfSome (refused_at phase.old) (λ why. (result ≡ Err why)
+        × (phase.new ≡ phase.old) × (told.new ≡ told.old)) }
+{
+    match mem::replace(phase, Phase::Idle) {
+        Phase::Running(running) => match take_end(running, alloc, told) {
+            Ok(finished) => {
+                let shown = ReadLayout::of(&finished);
+                *phase = Phase::Finished(finished);
+                Ok(shown)
+            }
+            Err(fault) => {
+                *phase = Phase::Failed(fault);
+                Err(StreamFault::Text(fault))
+            }
+        },
+        Phase::Failed(fault) => {
+            *phase = Phase::Failed(fault);
+            Err(StreamFault::Text(fault))
+        }
+        Phase::Finished(finished) => {
+            *phase = Phase::Finished(finished);
+            Err(StreamFault::NoStream)
+        }
+        Phase::Idle => Err(StreamFault::NoStream),
+    }
+}
+
+/// Writes how sure waits are, if the text has ended.
+pub(crate) fn doubt_phase(phase: &Phase, waits: &mut [WaitLayout]) -> Result<(), StreamFault>
+    ensures accepted { OnOk result ((unfinished_at phase.now ≡ None)
+        × (waits.new ≡ map (doubted (holes_at phase.now)) waits.old)) }
+    ensures refused { IfErr result (λ why. (unfinished_at phase.now ≡ Some why)
+        × (waits.new ≡ waits.old)) }
+{
+    match phase {
+        Phase::Finished(finished) => {
+            doubt_all(&finished.doubts, waits);
+            Ok(())
+        }
+        Phase::Failed(fault) => Err(StreamFault::Text(*fault)),
+        Phase::Idle | Phase::Running(_) => Err(StreamFault::NoStream),
+    }
+}
+
+impl Phase {
+    /// The holes of a text that has ended.
+    pub fn holes(&self) -> &[Hole]
+        ensures { result.now ≡ holes_at self.now }
+    {
+        match self {
+            Phase::Finished(finished) => finished.doubts.holes(),
+            _ => &[],
+        }
+    }
+
+    /// How many events each CPU had, by its number, once the text has ended.
+    pub fn events(&self) -> &[u32]
+        ensures { result.now ≡ events_at self.now }
+    {
+        match self {
+            Phase::Finished(finished) => finished.read.events.as_slice(),
+            _ => &[],
+        }
+    }
+}

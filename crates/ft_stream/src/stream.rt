@@ -1,0 +1,141 @@
+//! A stream of waits, and its calls.
+
+ghost use Rattle.std.specs.Prelude.{◌≡◌, Some, None};
+ghost use Rattle.ft_stream.specs.Calls.{IsIdle, Begins, Feeds, Finishes, Holds, DoubtsWaits};
+ghost use Rattle.ft_stream.specs.Faults.{fault_code};
+
+use crate::fault::StreamFault;
+use crate::held::held_waits;
+use crate::layouts::{ReadLayout, WaitLayout};
+use crate::phase::{Phase, doubt_phase, feed_phase, finish_phase};
+use ft_dispatch::Dispatch;
+use ft_lanes::Lanes;
+use ft_waits::{BadLines, Waits, WaitsFault};
+use std::alloc::Global;
+
+/// A stream of waits: where it stands, and what it told last.
+#[derive(Drop)]
+pub struct Stream {
+    /// Its allocator.
+    pub alloc: Global,
+    /// Where it stands.
+    pub phase: Phase,
+    /// The waits that the last feed or finish told, or those of held events, whichever was asked for last:
+    /// the dispatches that end them.
+    pub waits: Vec<Dispatch>,
+    /// Why the last call with a code was refused, if it was.
+    pub refused: Option<StreamFault>,
+}
+
+/// Notes that a call is accepted: the code 0.
+fn accept(refused: &mut Option<StreamFault>) -> u32
+    ensures note { refused.new ≡ None }
+    ensures code { result ≡ 0 }
+{
+    *refused = None;
+    0
+}
+
+/// Notes why a call is refused: the refusal's code.
+fn refuse(refused: &mut Option<StreamFault>, why: StreamFault) -> u32
+    ensures note { refused.new ≡ Some why }
+    ensures code { result ≡ fault_code why }
+{
+    *refused = Some(why);
+    why.code()
+}
+
+impl Stream {
+    /// No stream has begun. It takes no memory.
+    pub fn new(alloc: Global) -> Stream
+        ensures { IsIdle result }
+    {
+        Stream {
+            alloc,
+            phase: Phase::Idle,
+            waits: Vec::new(alloc),
+            refused: None,
+        }
+    }
+
+    /// Begins a stream, and ends the one that was there. Refused only for memory: the one that was there
+    /// stays then.
+    #[tactic(auto, unfolding(crate::specs::Calls::Begins))]
+    pub fn begin(&mut self, bad_lines: BadLines) -> u32
+        ensures { Begins bad_lines self.old result self.new }
+    {
+        match Waits::new(self.alloc, bad_lines) {
+            Ok(running) => {
+                self.phase = Phase::Running(running);
+                self.waits.clear();
+                accept(&mut self.refused)
+            }
+            Err(_) => refuse(&mut self.refused, StreamFault::Text(WaitsFault::Memory)),
+        }
+    }
+
+    /// Takes the next piece of the text: how many waits it told, of lines that ended so far. Refused as
+    /// `Waits::feed` is, and if no stream runs.
+    #[tactic(auto, unfolding(crate::specs::Calls::Feeds, crate::specs::Calls::FeedsOn))]
+    pub fn feed(&mut self, piece: &[u8], count: &mut u64) -> u32
+        ensures { Feeds piece.now self.old count.old result count.new self.new }
+    {
+        match feed_phase(&mut self.phase, piece, &mut self.waits) {
+            Ok(()) => {
+                *count = self.waits.len() as u64;
+                accept(&mut self.refused)
+            }
+            Err(why) => refuse(&mut self.refused, why),
+        }
+    }
+
+    /// Ends the text: how many waits were left, and what was read of it. The stream has ended then. Refused
+    /// as `Waits::finish` is, and if no stream runs.
+    #[tactic(auto, unfolding(crate::specs::Calls::Finishes, crate::specs::Calls::FinishesOn))]
+    pub fn finish(&mut self, read: &mut ReadLayout, count: &mut u64) -> u32
+        ensures { Finishes self.old read.old count.old result read.new count.new self.new }
+    {
+        match finish_phase(&mut self.phase, self.alloc, &mut self.waits) {
+            Ok(shown) => {
+                *read = shown;
+                *count = self.waits.len() as u64;
+                accept(&mut self.refused)
+            }
+            Err(why) => refuse(&mut self.refused, why),
+        }
+    }
+
+    /// Asks for the waits of the events that lanes hold: how many they are. The stream goes on as before.
+    /// Refused only for memory.
+    #[tactic(auto, unfolding(crate::specs::Calls::Holds))]
+    pub fn hold(&mut self, lanes: &Lanes, count: &mut u64) -> u32
+        ensures { Holds lanes.now self.old count.old result count.new self.new }
+    {
+        match held_waits(self.alloc, lanes) {
+            Ok(waits) => {
+                *count = waits.len() as u64;
+                self.waits = waits;
+                accept(&mut self.refused)
+            }
+            Err(_) => refuse(&mut self.refused, StreamFault::Text(WaitsFault::Memory)),
+        }
+    }
+
+    /// Writes how sure waits of the text are, by its holes. Refused if the text has not ended.
+    #[tactic(auto, unfolding(crate::specs::Calls::DoubtsWaits))]
+    pub fn doubt(&mut self, waits: &mut [WaitLayout]) -> u32
+        ensures { DoubtsWaits waits.old self.old result waits.new self.new }
+    {
+        match doubt_phase(&self.phase, waits) {
+            Ok(()) => accept(&mut self.refused),
+            Err(why) => refuse(&mut self.refused, why),
+        }
+    }
+
+    /// Ends the stream: all that it keeps is given back.
+    pub fn end(&mut self)
+        ensures { IsIdle self.new }
+    {
+        *self = Stream::new(self.alloc);
+    }
+}

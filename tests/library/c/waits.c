@@ -1,0 +1,424 @@
+/* waits: the text of a recording with each kind of wait, hole and odd line, read by a stream. What is wanted was worked out
+ * by hand. The text is cut into pieces of each size; lines that can't be read are skipped or refused; each code comes but
+ * that of 4,294,967,295 lines; waits and holes are copied into room of each size, with nothing written beside it; each growth
+ * of memory is refused in turn; and two threads read with a desk each. What is wrong is printed, by the line of this file;
+ * last stands how many of the tests hold. */
+#include "heap.h"
+#include "histdesk.h"
+
+#include <inttypes.h>
+#include <pthread.h>
+#include <stdio.h>
+#include <stdlib.h>
+#include <string.h>
+
+#ifdef HEAP_IS_PLAIN /* for valgrind, which has a heap of its own: no growth is refused or counted */
+heap_state heap;
+#endif
+
+#define IDLE "<idle>-0 [00"
+#define SWITCH "sched_switch: prev_comm="
+#define FRONT \
+    "# entries-in-buffer/entries-written: 7/9   #P:2\n" \
+    IDLE "0] 1.000100: sched_waking: comm=w pid=42 prio=120 target_cpu=000\n" \
+    IDLE "0] 1.000150: " SWITCH "s prev_pid=0 prev_prio=120 prev_state=R ==> next_comm=w next_pid=42 next_prio=19\n" \
+    "w-42 [000] 1.000200: sched_wakeup_new: comm=n pid=43 prio=120 target_cpu=000\n" \
+    "w-42 [000] 1.000300: " SWITCH "w prev_pid=42 prev_prio=19 prev_state=R ==> next_comm=n next_pid=43 next_prio=120\n" \
+    "CPU:0 [LOST 5 EVENTS]\n" \
+    "n-43 [000] 1.000400: sched_waking: comm=w pid=42 prio=19 target_cpu=000\n"
+#define BACK \
+    "n-43 [000] 1.000500: " SWITCH "n prev_pid=43 prev_prio=120 prev_state=S ==> next_comm=w next_pid=42 next_prio=19\n" \
+    IDLE "1] 1.000500: sched_waking: comm=x pid=44 prio=5 target_cpu=001\n" \
+    "CPU:1 [LOST EVENTS]\n" \
+    "w-42 [000] 1.000600: sched_waking: comm=y pid=45 prio=1 target_cpu=000\n" \
+    IDLE "1] 1.000700: " SWITCH "s prev_pid=0 prev_prio=120 prev_state=R ==> next_comm=x next_pid=44 next_prio=5\n" \
+    "w-42 [000] 1.000800: " SWITCH "w prev_pid=42 prev_prio=19 prev_state=S ==> next_comm=y next_pid=45 next_prio=1\n" \
+    "z-77 [001] 1.000900: x: y\n" \
+    "CPU:1 [LOST 3 EVENTS]"
+static const char text[] = FRONT "not a line\n" BACK;
+static const char good_text[] = FRONT BACK; /* as a desk loads it */
+
+enum { WAITS = 5, HOLES = 3, BAD_LINE = 8, CPUS = 8192 };
+
+static const histdesk_wait wanted[WAITS] = {
+    {{1000150, 0, 2}, {1000100, 0, 1}, {0, 0, 0}, 42, 19, HISTDESK_WOKEN, 0, 0, 0, {"w", 1}},
+    {{1000300, 0, 4}, {1000200, 0, 3}, {0, 0, 0}, 43, 120, HISTDESK_CREATED, 0, 0, 0, {"n", 1}},
+    {{1000500, 0, 6}, {1000300, 0, 4}, {1000400, 0, 5}, 42, 19, HISTDESK_PREEMPTED, HISTDESK_WOKEN, 0, 0, {"w", 1}},
+    {{1000700, 1, 2}, {1000500, 1, 1}, {0, 0, 0}, 44, 5, HISTDESK_WOKEN, 0, 0, 0, {"x", 1}},
+    {{1000800, 0, 8}, {1000600, 0, 7}, {0, 0, 0}, 45, 1, HISTDESK_WOKEN, 0, 0, 0, {"y", 1}},
+};
+static const uint32_t doubts[WAITS] = {HISTDESK_SURE, HISTDESK_SURE, HISTDESK_SURE, HISTDESK_DOUBTFUL, HISTDESK_LIKELY};
+static const histdesk_hole holes[HOLES] = {
+    {6, 1000300, 1000400, 5, 0, true, true, true},
+    {11, 1000500, 1000700, 0, 1, true, true, false},
+    {16, 1000900, 0, 3, 1, true, false, true},
+};
+static const histdesk_waits_read wanted_read = {
+    .lines = 16, .bad = 1, .bad_line = BAD_LINE, .bad_fault = 1, .missing = 1, .missing_at = {1000900, 1, 3}, .holes = HOLES,
+    .has_written = true, .held = 7, .written = 9, .has_first = true, .first = 1000100, .last = 1000900,
+};
+
+static unsigned tests, good;
+
+static void test(int line, const char *what, bool holds) {
+    tests++;
+    good += holds;
+    if (!holds)
+        printf("  line %d: not so: %s\n", line, what);
+}
+#define HOLDS(what) test(__LINE__, #what, what)
+
+/* What a call without room is given. */
+static histdesk_wait no_wait;
+static histdesk_hole no_hole;
+
+/* ---- A text that is read. */
+
+typedef struct {
+    histdesk_wait waits[WAITS + 1];
+    size_t count;
+    histdesk_waits_read read;
+} answer;
+
+static bool is_same_hole(const histdesk_hole *a, const histdesk_hole *b) {
+    return a->line == b->line && a->after == b->after && a->before == b->before && a->count == b->count &&
+           a->cpu == b->cpu && a->has_after == b->has_after && a->has_before == b->has_before &&
+           a->has_count == b->has_count;
+}
+
+static bool is_same_read(const histdesk_waits_read *a, const histdesk_waits_read *b) {
+    return a->lines == b->lines && a->bad == b->bad && a->bad_line == b->bad_line && a->bad_fault == b->bad_fault &&
+           a->missing == b->missing && memcmp(&a->missing_at, &b->missing_at, sizeof a->missing_at) == 0 &&
+           a->holes == b->holes && a->has_written == b->has_written && a->held == b->held && a->written == b->written &&
+           a->has_first == b->has_first && a->first == b->first && a->last == b->last;
+}
+
+/* Copies the waits that were told, of which there are so many, into an answer. */
+static bool takes(histdesk *desk, uint64_t count, answer *own) {
+    if (count > WAITS - own->count || histdesk_waits_copy(desk, 0, own->waits + own->count, WAITS + 1 - own->count) != count)
+        return false;
+    own->count += count;
+    return true;
+}
+
+/* Reads the text in pieces of this size: the first code that isn't 0, or HISTDESK_CLOSED where a copy is wrong. */
+static uint32_t reads(histdesk *desk, bool skips, size_t cut, answer *own) {
+    uint64_t count;
+    uint32_t code = histdesk_waits_new(desk, skips);
+    own->count = 0;
+    for (size_t at = 0; code == HISTDESK_OK && at < sizeof text - 1; at += cut) {
+        size_t rest = sizeof text - 1 - at;
+        code = histdesk_waits_feed(desk, (const uint8_t *)text + at, rest < cut ? rest : cut, &count);
+        if (code == HISTDESK_OK && !takes(desk, count, own))
+            return HISTDESK_CLOSED;
+    }
+    if (code == HISTDESK_OK)
+        code = histdesk_waits_finish(desk, &own->read, &count);
+    return code == HISTDESK_OK && !takes(desk, count, own) ? HISTDESK_CLOSED : code;
+}
+
+static bool is_wanted(const answer *own) {
+    return own->count == WAITS && memcmp(own->waits, wanted, sizeof wanted) == 0 && is_same_read(&own->read, &wanted_read);
+}
+
+static void each_cut(histdesk *desk) {
+    answer own;
+    size_t wrong = 0;
+    for (size_t cut = 1; cut <= sizeof text; cut++)
+        wrong += reads(desk, true, cut, &own) != HISTDESK_OK || !is_wanted(&own);
+    HOLDS(wrong == 0);
+}
+
+/* ---- How sure waits are. */
+
+static void doubted(histdesk *desk) {
+    answer own;
+    histdesk_wait waits[WAITS];
+    HOLDS(reads(desk, true, 100, &own) == HISTDESK_OK);
+    memcpy(waits, own.waits, sizeof waits);
+    HOLDS(histdesk_waits_doubt(desk, waits, WAITS) == HISTDESK_OK);
+    for (size_t at = 0; at < WAITS; at++) {
+        histdesk_wait want = wanted[at];
+        want.doubt = doubts[at];
+        if (want.cause == HISTDESK_PREEMPTED) /* events were lost since then, and none since it was woken */
+            want.began = want.awoken, want.cause = want.awoken_cause;
+        HOLDS(memcmp(&waits[at], &want, sizeof want) == 0);
+    }
+    waits[0] = wanted[3];
+    waits[0].cause = 4; /* no cause */
+    waits[1] = waits[0];
+    HOLDS(histdesk_waits_doubt(desk, waits, 1) == HISTDESK_OK && memcmp(&waits[0], &waits[1], sizeof waits[0]) == 0);
+    waits[0] = wanted[3];
+    waits[1] = wanted[3];
+    HOLDS(histdesk_waits_doubt(desk, waits, 1) == HISTDESK_OK && waits[0].doubt == HISTDESK_DOUBTFUL && waits[1].doubt == 0);
+    HOLDS(histdesk_waits_doubt(desk, waits, 0) == HISTDESK_OK && waits[1].doubt == 0);
+}
+
+/* ---- Room of each size, on the heap, so that valgrind sees each byte beside it. */
+
+static bool copies(histdesk *desk, size_t from, size_t room, bool is_of_holes) {
+    size_t size = is_of_holes ? sizeof(histdesk_hole) : sizeof(histdesk_wait);
+    size_t there = is_of_holes ? HOLES : WAITS;
+    size_t want = from > there ? 0 : there - from;
+    uint8_t *own = malloc(room * size + 1);
+    bool holds;
+    if (!own)
+        abort();
+    memset(own, 0xa5, room * size + 1);
+    size_t count = is_of_holes ? histdesk_waits_holes(desk, from, (histdesk_hole *)own, room)
+                               : histdesk_waits_copy(desk, from, (histdesk_wait *)own, room);
+    holds = count == (want < room ? want : room);
+    for (size_t at = 0; holds && at < count; at++)
+        holds = is_of_holes ? is_same_hole((histdesk_hole *)own + at, &holes[from + at])
+                            : memcmp(own + at * size, &wanted[from + at], size) == 0;
+    for (size_t at = count * size; holds && at <= room * size; at++)
+        holds = own[at] == 0xa5;
+    free(own);
+    return holds;
+}
+
+/* With all waits told by one feed, but for those of the last microsecond: there are none. */
+static void rooms(histdesk *desk) {
+    uint64_t count = 0;
+    histdesk_waits_read read;
+    size_t wrong = 0;
+    HOLDS(histdesk_waits_new(desk, true) == HISTDESK_OK && histdesk_waits_copy(desk, 0, &no_wait, 1) == 0);
+    HOLDS(histdesk_waits_feed(desk, (const uint8_t *)text, sizeof text - 1, &count) == HISTDESK_OK && count == WAITS);
+    for (size_t from = 0; from <= WAITS + 1; from++)
+        for (size_t room = 0; room <= WAITS + 1; room++)
+            wrong += !copies(desk, from, room, false);
+    HOLDS(histdesk_waits_holes(desk, 0, &no_hole, 1) == 0);
+    HOLDS(histdesk_waits_finish(desk, &read, &count) == HISTDESK_OK && count == 0 && is_same_read(&read, &wanted_read));
+    for (size_t from = 0; from <= HOLES + 1; from++)
+        for (size_t room = 0; room <= HOLES + 1; room++)
+            wrong += !copies(desk, from, room, true);
+    HOLDS(wrong == 0);
+}
+
+static void events(histdesk *desk) {
+    static uint32_t counts[CPUS + 1];
+    bool holds = true;
+    memset(counts, 0xa5, sizeof counts);
+    HOLDS(histdesk_waits_events(desk, 0, counts, CPUS + 1) == CPUS && counts[0] == 8 && counts[1] == 3);
+    for (size_t cpu = 2; cpu < CPUS; cpu++)
+        holds &= counts[cpu] == 0;
+    HOLDS(holds && counts[CPUS] == 0xa5a5a5a5);
+    HOLDS(histdesk_waits_events(desk, 1, counts, 1) == 1 && counts[0] == 3 && counts[1] == 3);
+    HOLDS(histdesk_waits_events(desk, CPUS, counts, 1) == 0 && counts[0] == 3);
+}
+
+/* ---- Codes. */
+
+static bool is_refused(histdesk *desk, uint32_t number, uint64_t line, uint32_t fault) {
+    histdesk_refusal refusal = {.number = HISTDESK_CLOSED, .cpu = 9, .has_place = true, .place = 9};
+    return histdesk_waits_refused(desk, &refusal) == HISTDESK_OK && refusal.number == number && refusal.line == line &&
+           refusal.fault == fault && refusal.filter_fault == 0 && refusal.cpu == 0 && refusal.trigger == 0 &&
+           !refusal.has_place && refusal.place == 0;
+}
+
+/* Whether a stream that was refused answers the same to each call, and writes nothing. */
+static bool stays_refused(histdesk *desk, uint32_t code, uint64_t line, uint32_t fault) {
+    uint64_t count = 77;
+    histdesk_waits_read read = {.lines = 78};
+    histdesk_wait one;
+    bool holds = is_refused(desk, code, line, fault) && histdesk_waits_copy(desk, 0, &one, 1) == 0;
+    holds &= histdesk_waits_feed(desk, (const uint8_t *)text, sizeof text - 1, &count) == code && count == 77;
+    holds &= is_refused(desk, code, line, fault);
+    holds &= histdesk_waits_finish(desk, &read, &count) == code && count == 77 && read.lines == 78;
+    holds &= is_refused(desk, code, line, fault);
+    holds &= histdesk_waits_feed(desk, (const uint8_t *)text, 0, &count) == code && count == 77;
+    return holds && histdesk_waits_holes(desk, 0, &no_hole, 1) == 0;
+}
+
+static void codes(histdesk *desk) {
+    static const char back[] = " a-1 [000] 1.000002: x: y\n# none\n a-1 [001] 1.000001: x: y\n";
+    answer own;
+    histdesk_wait one = wanted[0];
+    uint64_t count = 0;
+    histdesk_waits_free(desk);
+    HOLDS(stays_refused(desk, HISTDESK_OK, 0, 0) == false && stays_refused(desk, HISTDESK_NO_STREAM, 0, 0));
+    HOLDS(histdesk_waits_doubt(desk, &one, 1) == HISTDESK_NO_STREAM && memcmp(&one, &wanted[0], sizeof one) == 0);
+    for (size_t cut = 1; cut <= sizeof text; cut += 50)
+        HOLDS(reads(desk, false, cut, &own) == HISTDESK_BAD_LINE && stays_refused(desk, HISTDESK_BAD_LINE, BAD_LINE, 1));
+    HOLDS(histdesk_waits_new(desk, true) == HISTDESK_OK && is_refused(desk, 0, 0, 0));
+    HOLDS(histdesk_waits_doubt(desk, &one, 1) == HISTDESK_NO_STREAM && is_refused(desk, HISTDESK_NO_STREAM, 0, 0));
+    HOLDS(histdesk_waits_feed(desk, (const uint8_t *)back, sizeof back - 1, &count) == HISTDESK_BACKWARDS);
+    HOLDS(stays_refused(desk, HISTDESK_BACKWARDS, 3, 0));
+    HOLDS(reads(desk, true, 1000, &own) == HISTDESK_OK && is_wanted(&own) && is_refused(desk, 0, 0, 0));
+    HOLDS(histdesk_waits_feed(desk, (const uint8_t *)text, 1, &count) == HISTDESK_NO_STREAM);
+    HOLDS(histdesk_waits_holes(desk, HOLES, &no_hole, 1) == 0 && histdesk_waits_doubt(desk, &one, 1) == HISTDESK_OK);
+    histdesk_waits_free(desk);
+    HOLDS(histdesk_waits_doubt(desk, &one, 1) == HISTDESK_NO_STREAM);
+}
+
+static void closed(void) {
+    histdesk none = {0};
+    uint64_t count = 77;
+    histdesk_waits_read read = {.lines = 78};
+    histdesk_wait one = wanted[0];
+    histdesk_hole hole = holes[0];
+    histdesk_refusal refusal = {.number = 79};
+    HOLDS(histdesk_waits_new(&none, true) == HISTDESK_CLOSED);
+    HOLDS(histdesk_waits_feed(&none, (const uint8_t *)text, 1, &count) == HISTDESK_CLOSED && count == 77);
+    HOLDS(histdesk_waits_finish(&none, &read, &count) == HISTDESK_CLOSED && count == 77 && read.lines == 78);
+    HOLDS(histdesk_waits_copy(&none, 0, &one, 1) == 0 && histdesk_waits_holes(&none, 0, &hole, 1) == 0);
+    HOLDS(histdesk_waits_events(&none, 0, &refusal.cpu, 1) == 0);
+    HOLDS(histdesk_waits_held(&none, &count) == HISTDESK_CLOSED && count == 77);
+    HOLDS(histdesk_waits_doubt(&none, &one, 1) == HISTDESK_CLOSED && memcmp(&one, &wanted[0], sizeof one) == 0);
+    HOLDS(histdesk_waits_refused(&none, &refusal) == HISTDESK_CLOSED && refusal.number == 79);
+    histdesk_waits_free(&none);
+    HOLDS(none.at == NULL);
+}
+
+/* ---- The desk beside its stream. */
+
+static void beside(histdesk *desk) {
+    uint64_t events = 0, count = 0;
+    answer own;
+    histdesk_refusal refusal;
+    HOLDS(histdesk_load(desk, (const uint8_t *)good_text, sizeof good_text - 1, &events) == HISTDESK_OK && events == 11);
+    HOLDS(histdesk_strike(desk, 7, 1) == HISTDESK_NO_LANE);
+    HOLDS(reads(desk, true, 64, &own) == HISTDESK_OK && is_wanted(&own));
+    HOLDS(histdesk_refused(desk, &refusal) == HISTDESK_OK && refusal.number == HISTDESK_NO_LANE && refusal.cpu == 7);
+    histdesk_forget(desk);
+    HOLDS(histdesk_waits_holes(desk, 0, (histdesk_hole[HOLES]){{0}}, HOLES) == HOLES);
+    HOLDS(histdesk_events(desk, &count) == HISTDESK_OK && count == 11);
+}
+
+/* The waits of held events, while a stream is in the middle of its text, and once a switch was struck. */
+static void held(histdesk *desk) {
+    answer own = {.count = 0};
+    uint64_t count = 0;
+    size_t half = sizeof FRONT - 1;
+    HOLDS(histdesk_waits_new(desk, true) == HISTDESK_OK);
+    HOLDS(histdesk_waits_feed(desk, (const uint8_t *)text, half, &count) == HISTDESK_OK && takes(desk, count, &own));
+    HOLDS(histdesk_waits_held(desk, &count) == HISTDESK_OK && count == WAITS);
+    HOLDS(copies(desk, 0, WAITS, false));
+    HOLDS(histdesk_waits_feed(desk, (const uint8_t *)text + half, sizeof text - 1 - half, &count) == HISTDESK_OK);
+    HOLDS(takes(desk, count, &own));
+    HOLDS(histdesk_waits_finish(desk, &own.read, &count) == HISTDESK_OK && takes(desk, count, &own) && is_wanted(&own));
+    HOLDS(histdesk_strike(desk, 0, 2) == HISTDESK_OK);
+    HOLDS(histdesk_waits_held(desk, &count) == HISTDESK_OK && count == WAITS - 1);
+    HOLDS(histdesk_waits_copy(desk, 0, own.waits, 1) == 1 && memcmp(own.waits, &wanted[1], sizeof wanted[1]) == 0);
+    histdesk_waits_free(desk);
+    HOLDS(histdesk_waits_copy(desk, 0, own.waits, 1) == 0);
+}
+
+/* ---- Growths that are refused. */
+
+#ifndef HEAP_IS_PLAIN
+
+static uint64_t refuse_at;
+static bool is_for_good;
+
+static bool refuses(void) {
+    return heap.growths == refuse_at || (is_for_good && heap.growths > refuse_at);
+}
+
+/* Reads once with a growth refused, or it and all after it: memory runs out and stays so, and there is enough again for a
+ * stream that begins anew. */
+static bool survives(histdesk *desk, bool *has_run_out) {
+    answer own;
+    heap.growths = 0;
+    heap.is_counting = true;
+    uint32_t code = reads(desk, true, 100, &own);
+    heap.is_counting = false;
+    *has_run_out = code == HISTDESK_MEMORY;
+    if (code == HISTDESK_OK)
+        return is_wanted(&own);
+    return code == HISTDESK_MEMORY && is_refused(desk, HISTDESK_MEMORY, 0, 0) &&
+           reads(desk, true, 100, &own) == HISTDESK_OK && is_wanted(&own);
+}
+
+static void refused_growths(void) {
+    size_t wrong = 0, ran_out = 0;
+    for (int way = 0; way < 2; way++) {
+        bool has_run_out = true;
+        is_for_good = way == 1;
+        for (refuse_at = 1; has_run_out && refuse_at < 1000; refuse_at++) {
+            histdesk desk = {0};
+            heap.is_counting = true;
+            heap.blocks = 0;
+            heap.refuses = NULL;
+            wrong += histdesk_new(&desk) != HISTDESK_OK;
+            heap.refuses = refuses;
+            wrong += !survives(&desk, &has_run_out);
+            heap.is_counting = true;
+            heap.refuses = NULL;
+            histdesk_waits_free(&desk);
+            histdesk_free(&desk);
+            heap.is_counting = false;
+            ran_out += has_run_out;
+        }
+    }
+    HOLDS(wrong == 0 && ran_out > 10);
+}
+
+/* What is held of the heap is given back. */
+static void freed(void) {
+    histdesk desk = {0};
+    answer own;
+    heap.blocks = 0;
+    heap.refuses = NULL;
+    heap.is_counting = true;
+    bool holds = histdesk_new(&desk) == HISTDESK_OK;
+    int64_t empty = heap.blocks;
+    for (size_t cut = 1; holds && cut < 200; cut += 66) {
+        holds &= reads(&desk, true, cut, &own) == HISTDESK_OK && heap.blocks > empty;
+        histdesk_waits_free(&desk);
+        holds &= heap.blocks == empty && reads(&desk, false, cut, &own) == HISTDESK_BAD_LINE;
+        histdesk_waits_free(&desk);
+        holds &= heap.blocks == empty && reads(&desk, true, cut, &own) == HISTDESK_OK;
+    }
+    histdesk_free(&desk);
+    heap.is_counting = false;
+    HOLDS(holds && heap.blocks == 0);
+}
+
+#endif
+
+/* ---- Two desks in two threads. */
+
+static void *work(void *given) {
+    histdesk desk = {0};
+    answer own;
+    bool holds = histdesk_new(&desk) == HISTDESK_OK;
+    for (size_t cut = 1; cut < 100; cut++)
+        holds &= reads(&desk, true, cut, &own) == HISTDESK_OK && is_wanted(&own);
+    histdesk_free(&desk);
+    *(bool *)given = holds;
+    return NULL;
+}
+
+static void in_threads(void) {
+    pthread_t threads[2];
+    bool holds[2] = {false, false};
+    for (int at = 0; at < 2; at++)
+        if (pthread_create(&threads[at], NULL, work, &holds[at]) != 0)
+            abort();
+    for (int at = 0; at < 2; at++)
+        pthread_join(threads[at], NULL);
+    HOLDS(holds[0] && holds[1]);
+}
+
+int main(void) {
+    histdesk desk = {0};
+    if (histdesk_new(&desk) != HISTDESK_OK)
+        return 1;
+    each_cut(&desk);
+    doubted(&desk);
+    rooms(&desk);
+    events(&desk);
+    codes(&desk);
+    closed();
+    beside(&desk);
+    held(&desk);
+    histdesk_free(&desk);
+#ifndef HEAP_IS_PLAIN
+    refused_growths();
+    freed();
+#endif
+    in_threads();
+    printf("%u of %u tests hold\n", good, tests);
+    return good < tests;
+}
