@@ -8,8 +8,9 @@ import re
 import shlex
 import signal
 import sys
+import time
 import warnings
-from typing import Any, Callable, Iterator, List, NoReturn, Tuple
+from typing import TYPE_CHECKING, Any, Callable, Iterator, List, NoReturn, Tuple
 
 from ._lines import holds_event
 from ._losses import LossWarning, seconds
@@ -17,6 +18,9 @@ from ._recording import Choice, Recording, read
 from ._refused import Refused, refusal_words
 from ._shown import are, counted
 from ._source import content_of, searched
+
+if TYPE_CHECKING:
+    from ._waits import Waits
 
 EVENTS = ("sched_waking", "sched_wakeup", "sched_wakeup_new", "sched_switch", "other")
 STAMP = re.compile(r"([0-9]{1,10})(?:\.([0-9]{1,6}))?")
@@ -33,6 +37,8 @@ PRINTED = {
 FRONT, LINE = re.compile(rb"(?:#[^\n]*\n|\n)*"), re.compile(rb"[^\n]{0,8192}")
 # So many numbers of lines are told.
 SHOWN = 5
+# After so many seconds a tool says how far it is, and so many seconds later again.
+PATIENCE, AGAIN = 2.0, 0.5
 
 
 class Stop(Exception):
@@ -112,6 +118,56 @@ def recording(words: argparse.Namespace, path: str, tool: str, **choice: Any) ->
     for told in remarks(found, Choice(**wanted)):
         print(f"{tool}: {path}: {told}", file=sys.stderr)
     return found
+
+
+def whole_waits(words: argparse.Namespace, path: str, tool: str) -> Waits:
+    """The waits of the whole trace of that path, or of standard input if it is `-`. What is lost or left out is told on
+    standard error; how far the reading is, on a terminal."""
+    from ._waits import waits_of_text
+
+    watch = Watch(path, tool)
+    try:
+        found = waits_of_text(opened(path), words.lenient, watch, path)
+    finally:
+        watch.end()
+    for told in filter(None, [found.warning, bad_lines_of(found)]):
+        print(f"{tool}: {path}: {told}", file=sys.stderr)
+    return found
+
+
+def bad_lines_of(found: Waits) -> str:
+    """How many lines were left out that can't be read; empty if there are none."""
+    if not found.bad_lines:
+        return ""
+    first = "" if found.bad_lines == 1 else "the first is "
+    told = f"{counted(found.bad_lines, 'line')} can't be read and {are(found.bad_lines)} left out"
+    return f"{told}: {first}{found.first_bad_line}"
+
+
+class Watch:
+    """Sees the pieces of a text as they are read: ends the tool if the text is no trace, and says on a terminal how far the
+    reading is once it has taken some time."""
+
+    def __init__(self, path: str, tool: str) -> None:
+        self._path, self._tool = path, tool
+        self._size = os.path.getsize(path) if os.path.isfile(path) else 0
+        self._read, self._since, self._told = 0, time.monotonic(), 0.0
+
+    def __call__(self, piece: Any) -> None:
+        if not self._read:
+            check_kind(piece, self._path)
+        self._read += len(piece)
+        now = time.monotonic()
+        if now - self._since >= PATIENCE and now - self._told >= AGAIN and sys.stderr.isatty():
+            self._told = now
+            # What is packed is longer than its file.
+            share = f" of {self._size / 1e6:.0f}" if self._read <= self._size else ""
+            print(f"\r{self._tool}: {self._read / 1e6:.0f}{share} MB read\x1b[K", end="", file=sys.stderr, flush=True)
+
+    def end(self) -> None:
+        """Takes away what it said."""
+        if self._told:
+            print("\r\x1b[K", end="", file=sys.stderr, flush=True)
 
 
 def opened(path: str) -> Any:

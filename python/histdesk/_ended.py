@@ -12,7 +12,7 @@ from ._layout import needed
 from ._recording import Recording
 from ._scene import RUNNABLE
 from ._values import Totals
-from ._waits import FIELDS, KINDS, About, Held, Waits, chosen, doubts, places_of, triggers_of
+from ._waits import KINDS, About, Held, Waits, begun_by, chosen, doubts, doubts_of, places_of, records_of, triggers_of
 
 
 class Places:
@@ -128,7 +128,7 @@ class Ended:
         totals: Dict[str, Totals] = {kind: saver.totals() for kind, (saver, _) in self._triggers.items()}
         rest = recording.taken.rest if recording.taken else None
         # What else is known of its first waits.
-        self.about = About(recording.path, self.held, recording.losses, rest, totals)
+        self.about = begun_by(About(recording.path, self.held, recording.losses, rest), totals)
         events = desk.events_matching("sched_switch", ALWAYS).array
         state, length = events["prev_state"], events["prev_state_length"]
         could_run = sum((state == text) & (length == size) for text, size in RUNNABLE) & (events.prev_pid != 0)
@@ -216,9 +216,8 @@ class Ended:
 
     def waits(self) -> Waits:
         """The waits that there were at first."""
-        numpy = needed()
-        at = numpy.flatnonzero(self.first.begin >= 0)
-        array = numpy.zeros(len(at), FIELDS).view(numpy.recarray)
-        for field, column in self.columns(self.first, at).items():
-            array[field] = numpy.array(KINDS)[column] if field == "kind" else column
-        return Waits(array, self.names, self.codes[at], self.about)
+        at = needed().flatnonzero(self.first.begin >= 0)
+        columns = {**self.columns(self.first, at), "name": self.codes[at]}
+        del columns["micros"], columns["doubtful"]
+        columns["doubt"] = doubts_of(columns, self.recording.holes)
+        return Waits(records_of(columns), self.names, self.about)

@@ -3,7 +3,7 @@
 from __future__ import annotations
 
 from collections.abc import Sequence
-from typing import Any, Tuple, Union, overload
+from typing import Any, List, Tuple, Union, overload
 
 from . import _layout, _shown
 from ._values import Event
@@ -168,10 +168,16 @@ def texts(array: Any, field: str) -> Any:
 
 def coded(array: Any, field: str) -> Tuple[Any, Any]:
     """The different texts of a name of all events, as an array, and which one each event has. Each is decoded once."""
+    found, codes = coded_names(array, field)
+    return _layout.numpy().array([_layout.text_of(name[:31], name[31]) for name in found], dtype=object), codes
+
+
+def coded_names(array: Any, field: str) -> Tuple[List[bytes], Any]:
+    """The different values of a name of all structs, 31 bytes and the length each, and which one each struct has."""
     numpy = _layout.numpy()
     count, at = len(array), array.dtype.fields[field][1]
     # The 31 bytes and the length after them, as four numbers; names are the same where all four are.
-    structs = numpy.ascontiguousarray(array).view("u1").reshape(count, _layout.EVENT.size)
+    structs = numpy.ascontiguousarray(array).view("u1").reshape(count, array.dtype.itemsize)
     names = numpy.ascontiguousarray(structs[:, at : at + 32])
     numbers = names.view("u8")
     # One number of four, modulo 2^64. Should two names have the same one, all four are compared.
@@ -179,5 +185,4 @@ def coded(array: Any, field: str) -> Tuple[Any, Any]:
     _, first, codes = numpy.unique(mixed, return_index=True, return_inverse=True)
     if not numpy.array_equal(numbers[first][codes], numbers):
         _, first, codes = numpy.unique(numbers, axis=0, return_index=True, return_inverse=True)
-    found = [names[event].tobytes() for event in first]
-    return numpy.array([_layout.text_of(name[:31], name[31]) for name in found], dtype=object), codes.reshape(count)
+    return [names[event].tobytes() for event in first], codes.reshape(count)

@@ -13,6 +13,13 @@ EVENT_NAMES = ("sched_waking", "sched_wakeup", "sched_wakeup_new", "sched_switch
 SWITCH, OTHER, NO_EVENT = 3, 5, 255
 # Codes: accepted, out of memory, and no desk.
 OK, MEMORY, CLOSED = 0, 1, 255
+# Codes of a stream of waits: a stamp before that of the event above, and no stream.
+BACKWARDS, NO_STREAM = 18, 19
+# How many CPUs there can be: so many numbers histdesk_waits_events has.
+CPUS = 8192
+# Causes of a wait, and how sure it is.
+WOKEN, CREATED, PREEMPTED = 1, 2, 3
+SURE, LIKELY, DOUBTFUL = 0, 1, 2
 # Kinds of a key's part.
 PLAIN, LOG2, BUCKET, TEXT = 0, 1, 2, 3
 
@@ -61,6 +68,32 @@ class Refusal(ctypes.Structure):
     ]
 
 
+class Place(ctypes.Structure):
+    """A place in the merged order."""
+
+    _fields_ = [("stamp", ctypes.c_uint64), ("cpu", ctypes.c_uint32), ("line", ctypes.c_uint32)]
+
+
+class WaitsRead(ctypes.Structure):
+    """What was read of a text by a stream of waits; what isn't there is 0."""
+
+    _fields_ = [
+        ("lines", ctypes.c_uint64),
+        ("bad", ctypes.c_uint64),
+        ("bad_line", ctypes.c_uint64),
+        ("missing", ctypes.c_uint64),
+        ("holes", ctypes.c_uint64),
+        ("held", ctypes.c_uint64),
+        ("written", ctypes.c_uint64),
+        ("first", ctypes.c_uint64),
+        ("last", ctypes.c_uint64),
+        ("missing_at", Place),
+        ("bad_fault", ctypes.c_uint32),
+        ("has_first", ctypes.c_bool),
+        ("has_written", ctypes.c_bool),
+    ]
+
+
 # A name is 31 bytes and its length; a key is the number of its parts, and room for three of them: number, bucket, name, kind.
 NAME_CODE = "31sB"
 PART_CODE = "qQ" + NAME_CODE + "Q"
@@ -93,6 +126,18 @@ EVENT_FIELDS = [
     ("name", "=u4"),
     *((name, "=i4") for name in ["common_pid", "pid", "prio", "target_cpu", "prev_pid", "prev_prio"]),
     *(field for name in ["task", "comm", "prev_comm", "prev_state"] for field in [(name, "S31"), (f"{name}_length", "u1")]),
+]
+WAIT_FIELDS = [
+    *((f"{at}_{name}", kind) for at in ["ended", "began", "awoken"] for name, kind in PLACE_FIELDS),
+    *((name, "=i4") for name in ["pid", "prio"]),
+    *((name, "=u4") for name in ["cause", "awoken_cause", "doubt", "zero"]),
+    ("name", "S31"),
+    ("name_length", "u1"),
+]
+HOLE_FIELDS = [
+    *((name, "=u8") for name in ["line", "after", "before", "count"]),
+    ("cpu", "=u4"),
+    *((name, "?") for name in ["has_after", "has_before", "has_count"]),
 ]
 
 
@@ -131,6 +176,18 @@ def latency_type() -> Any:
 def event_type() -> Any:
     """An event, for numpy: the names as 31 bytes with their lengths after them, and the end filled up as in C."""
     return numpy().dtype(EVENT_FIELDS, align=True)
+
+
+@functools.lru_cache(maxsize=None)
+def wait_type() -> Any:
+    """A wait, for numpy: the name as 31 bytes with its length after it."""
+    return numpy().dtype(WAIT_FIELDS)
+
+
+@functools.lru_cache(maxsize=None)
+def hole_type() -> Any:
+    """A hole, for numpy, its end filled up as in C."""
+    return numpy().dtype(HOLE_FIELDS, align=True)
 
 
 @functools.lru_cache(maxsize=None)

@@ -53,6 +53,16 @@ CALLS: Dict[str, Tuple[Any, List[Any]]] = {
     "histdesk_is_deferred": (ctypes.c_bool, []),
     "histdesk_forget": (None, []),
     "histdesk_refused": (Code, [ctypes.POINTER(_layout.Refusal)]),
+    "histdesk_waits_new": (Code, [ctypes.c_bool]),
+    "histdesk_waits_feed": (Code, [ctypes.c_void_p, Size, Count]),
+    "histdesk_waits_finish": (Code, [ctypes.POINTER(_layout.WaitsRead), Count]),
+    "histdesk_waits_copy": (Size, ROOM),
+    "histdesk_waits_holes": (Size, ROOM),
+    "histdesk_waits_events": (Size, ROOM),
+    "histdesk_waits_held": (Code, [Count]),
+    "histdesk_waits_doubt": (Code, [ctypes.c_void_p, Size]),
+    "histdesk_waits_refused": (Code, [ctypes.POINTER(_layout.Refusal)]),
+    "histdesk_waits_free": (None, []),
 }
 # These take a refusal, and no desk.
 REFUSAL_CALLS = ["histdesk_refusal_text", "histdesk_refusal_words"]

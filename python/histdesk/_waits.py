@@ -2,23 +2,24 @@
 
 from __future__ import annotations
 
-import contextlib
 import itertools
 import warnings
 from collections import namedtuple
-from typing import Any, Callable, Collection, Dict, Iterator, List, NamedTuple, Optional, Sequence, Tuple, Union
+from typing import Any, Callable, Collection, Dict, List, NamedTuple, Optional, Sequence, Tuple, Union
 
 from . import _layout, _shown
 from ._counts import Counts, CountsRow, Greatest, Key, summed
 from ._desk import Desk, Trace
-from ._events import coded
 from ._library import library
 from ._losses import Hole, Losses, LossWarning, seconds
 from ._layout import needed
-from ._recording import Recording, read
+from ._recording import Recording, path_of, read
+from ._refused import MOST_SHOWN, Refused
 from ._session import PLACES
+from ._stream import RECORD_FIELDS, Backwards, Streamed, line_at, streamed
+from ._stream import held as held_waits
 from ._trigger import Trigger
-from ._values import Totals
+from ._values import Place, Totals
 
 KINDS = ("woken", "new", "preempted")
 WOKEN, NEW, PREEMPTED = range(3)
@@ -48,6 +49,7 @@ FIELDS = [
     *((f"{end}_{name}", kind) for end in ("begin", "end") for name, kind in _layout.PLACE_FIELDS),
     ("micros", "=i8"),
     ("doubtful", "?"),
+    ("likely", "?"),
 ]
 # The fields of a place that begins or ends a wait.
 PLACE = [name for name, _ in _layout.PLACE_FIELDS]
@@ -84,27 +86,35 @@ class Held(NamedTuple):
 
 class About(NamedTuple):
     """What else is known of some waits: of which file they are, of what they are told, what was lost, where the next part of
-    the recording begins, and of each kind how many events began waits and how many of these found no room."""
+    the recording begins, the kinds of which no event began a wait, how many events that would begin one found no room, how
+    many lines can't be read and the first of these, how many switches are missing though no line reports it, and where the
+    first event stands that shows it."""
 
     path: Optional[str]
     held: Held
     losses: Losses
-    rest: Optional[int]
-    begun: Dict[str, Totals]
+    rest: Optional[int] = None
+    unknown: Tuple[str, ...] = ()
+    dropped: int = 0
+    bad_lines: int = 0
+    first_bad_line: Optional[int] = None
+    missing: int = 0
+    first_missing: Optional[Place] = None
 
 
-def dropped(about: About) -> int:
-    """How many events that would begin a wait found no room."""
-    return sum(totals.dropped for totals in about.begun.values())
+def begun_by(about: About, begun: Dict[str, Totals]) -> About:
+    """The same with what triggers have counted of the events that began waits."""
+    unknown = tuple(kind for kind, totals in begun.items() if not totals.hits)
+    return about._replace(unknown=unknown, dropped=sum(totals.dropped for totals in begun.values()))
 
 
 def remarks_of(about: About) -> List[str]:
     """What else is to be known of waits before the numbers are believed, a line each."""
     told = []
-    if dropped(about):
-        told.append(f"{dropped(about)} waits are missing: of more than {SIZE} tasks, only the first ones are told apart")
-    for kind in (kind for kind in ("woken", "preempted") if about.held.events and not about.begun[kind].hits):
-        told.append(f"there is no {BEGINS[kind][0]} of a task, so nothing is known of {kind} ones")
+    if about.dropped:
+        told.append(f"{about.dropped} waits are missing: of more than {SIZE} tasks, only the first ones are told apart")
+    for kind in (kind for kind in ("woken", "preempted") if about.held.events and kind in about.unknown):
+        told.append(f"no {BEGINS[kind][0]} began a wait, so nothing is known of {kind} ones")
     if about.rest is not None:
         told.append(f"this is a part of the recording; the next one begins at {seconds(about.rest)}")
     return told
@@ -117,7 +127,7 @@ class Waits:
     its `sched_wakeup_new` did, and `preempted` where a `sched_switch` did that took the processor from it while it could run. A
     waking of a task that still ran, or that was preempted and not yet run again, begins none; a wait that hasn't ended is none.
     A wait is *doubtful* where events were lost in its time, on whichever CPU: it may be false, and is counted only where that
-    is asked for.
+    is asked for. It is *likely* true all the same where the CPUs on which it began and ended lost none.
 
     | Form | What it gives |
     |---|---|
@@ -128,16 +138,37 @@ class Waits:
     | `waits.only(kinds=["woken"], cpus=[2])` | those of a kind, or that ended on a CPU; `waits[mask]` those of a numpy mask |
     | `waits.to_pandas()` | a DataFrame of the waits one by one; with a word, of that table |
 
-    The fields of the array are `kind`, `pid`, `prio`, `begin_stamp`, `begin_cpu`, `begin_line`, the same of `end_`, `micros`
-    and `doubtful`. Stamps are in microseconds; a CPU and a line name an event of the whole recording.
+    The fields of the array are `kind`, `pid`, `prio`, `begin_stamp`, `begin_cpu`, `begin_line`, the same of `end_`, `micros`,
+    `doubtful` and `likely`. Stamps are in microseconds; a CPU and a line name an event of the whole recording.
     """
 
-    def __init__(self, array: Any, names: Any, codes: Any, about: About) -> None:
-        """Of an array, the different names of tasks, which of them each wait's has, and what else is known."""
-        self.array = array
+    def __init__(self, records: Any, names: Any, about: About) -> None:
+        """Of an array of what is kept of each (`_stream.RECORD_FIELDS`), the names of tasks by their numbers, and what else is
+        known."""
+        self._records = records
         self._names = names
-        self._codes = codes
         self._about = about
+        self._array: Any = None
+
+    @property
+    def array(self) -> Any:
+        """The waits one by one, as a numpy record array."""
+        if self._array is None:
+            array = needed().zeros(len(self), FIELDS).view(needed().recarray)
+            array.kind = needed().array(KINDS)[self._records["kind"]]
+            for field in array.dtype.names[1:]:
+                array[field] = self._column(field)
+            self._array = array
+        return self._array
+
+    def _column(self, field: str) -> Any:
+        """A field of all waits; `kind` by its number."""
+        records = self._records
+        if field == "micros":
+            return records["end_stamp"] - records["begin_stamp"]
+        if field == "doubtful":
+            return records["doubt"] != _layout.SURE
+        return records["doubt"] == _layout.LIKELY if field == "likely" else records[field]
 
     # ---- what is known
 
@@ -165,36 +196,66 @@ class Waits:
     def dropped(self) -> int:
         """How many events that would begin a wait found no room, since more than 131,072 tasks are there: these waits are
         missing."""
-        return dropped(self._about)
+        return self._about.dropped
+
+    @property
+    def bad_lines(self) -> int:
+        """How many lines were left out since they can't be read."""
+        return self._about.bad_lines
+
+    @property
+    def first_bad_line(self) -> Optional[int]:
+        """The number of the first of these lines, from 1; None if there is none."""
+        return self._about.first_bad_line
+
+    def with_bad_lines(self, count: int, first: Optional[int]) -> Waits:
+        """The same waits of a text of which so many lines were left out, from this one on."""
+        return Waits(self._records, self._names, self._about._replace(bad_lines=count, first_bad_line=first))
+
+    @property
+    def missing(self) -> int:
+        """How many switches are missing in the recording though no line reports it: how many events another task ran than the
+        one that their CPU went to last."""
+        return self._about.missing
+
+    @property
+    def first_missing(self) -> Optional[Place]:
+        """Where the first event stands that shows such a switch; None if there is none."""
+        return self._about.first_missing
 
     @property
     def doubtful(self) -> int:
         """How many of the waits are doubtful."""
-        return int(self.array.doubtful.sum())
+        return int(self._column("doubtful").sum())
+
+    @property
+    def likely(self) -> int:
+        """How many of these are likely true."""
+        return int(self._column("likely").sum())
 
     def remarks(self) -> List[str]:
         """What else is to be known before the numbers are believed, a line each."""
         return remarks_of(self._about)
 
     def __len__(self) -> int:
-        return len(self.array)
+        return len(self._records)
 
     # ---- the waits
 
     @property
     def names(self) -> Any:
         """The name of each wait's task, as a numpy array of texts."""
-        return self._names[self._codes]
+        return self._names[self._records["name"]]
 
     def name(self, at: int) -> str:
         """The name of a wait's task, by the wait's index. Raises `IndexError` where there is none."""
-        return str(self._names[self._codes[at]])
+        return str(self._names[self._records["name"][at]])
 
     def __getitem__(self, chosen: Any) -> Waits:
         """Those that a numpy mask, a list of indices or a slice chooses."""
         if isinstance(chosen, int):
             raise TypeError("a wait alone is waits.array[at]; a mask or a slice chooses some of them")
-        return Waits(self.array[chosen], self._names, self._codes[chosen], self._about)
+        return Waits(self._records[chosen], self._names, self._about)
 
     def only(self, *, kinds: Optional[Collection[str]] = None, cpus: Optional[Collection[int]] = None) -> Waits:
         """Those of these kinds, and of those the ones that ended on these CPUs; None is all. Raises `ValueError` of another
@@ -205,9 +266,9 @@ class Waits:
         numpy = needed()
         mask = numpy.ones(len(self), bool)
         if kinds is not None:
-            mask &= numpy.isin(kind_codes(self.array), [KINDS.index(kind) for kind in kinds])
+            mask &= numpy.isin(self._records["kind"], [KINDS.index(kind) for kind in kinds])
         if cpus is not None:
-            mask &= numpy.isin(self.array.end_cpu, list(cpus))
+            mask &= numpy.isin(self._records["end_cpu"], list(cpus))
         return self[mask]
 
     # ---- counted
@@ -218,20 +279,21 @@ class Waits:
 
         Raises `ValueError` of another word."""
         numpy, (keys, codes) = needed(), self._keys(by)
-        taken = numpy.ones(len(self), bool) if doubtful else ~self.array.doubtful
-        key, micros = codes[taken], self.array.micros[taken]
+        may_be_false = self._column("doubtful")
+        taken = numpy.ones(len(self), bool) if doubtful else ~may_be_false
+        key, micros = codes[taken], self._column("micros")[taken]
         columns = summed(key, micros, numpy.ones(len(key), "int64"))
-        doubts = numpy.bincount(codes[self.array.doubtful], minlength=len(keys))
+        doubts = numpy.bincount(codes[may_be_false], minlength=len(keys))
         fields = ("pid" if by == "task" else by, "kind")[by == "kind" :]
         return Counts(fields, keys, columns, self._greatest(codes, taken, len(keys)), doubts)
 
     def _keys(self, by: str) -> Tuple[List[Key], Any]:
         """The different keys in order, and the number of each wait's."""
-        numpy, kinds = needed(), kind_codes(self.array)
+        numpy, kinds = needed(), self._records["kind"]
         if by == "name":
-            numbers, values = self._codes, self._names
+            numbers, values = self._records["name"].astype("int64"), self._names
         elif by in BY and by != "kind":
-            values, numbers = numpy.unique(self.array[{"task": "pid", "cpu": "end_cpu"}.get(by, by)], return_inverse=True)
+            values, numbers = numpy.unique(self._records[{"task": "pid", "cpu": "end_cpu"}.get(by, by)], return_inverse=True)
         elif by == "kind":
             numbers, values = numpy.zeros(len(self), "int64"), None
         else:
@@ -249,19 +311,19 @@ class Waits:
         """The greatest wait of each key among those that are taken; of equal ones, the first that ended."""
         numpy = needed()
         chosen = numpy.flatnonzero(taken)
-        order = chosen[numpy.lexsort((-self.array.micros[chosen], codes[chosen]))]
+        order = chosen[numpy.lexsort((-self._column("micros")[chosen], codes[chosen]))]
         keys, first = numpy.unique(codes[order], return_index=True)
         waits = order[first]
         found: List[Optional[Greatest]] = [None] * count
-        columns = [self.array[field][waits].tolist() for field in ("micros", *ENDED)]
-        rows = zip(*columns, self.names_of(waits), itertools.repeat(""), self.array.pid[waits].tolist())
+        columns = [self._column(field)[waits].tolist() for field in ("micros", *ENDED)]
+        rows = zip(*columns, self.names_of(waits), itertools.repeat(""), self._records["pid"][waits].tolist())
         for key, row in zip(keys.tolist(), rows):
             found[key] = Greatest(*row)
         return found
 
     def names_of(self, waits: Any) -> List[str]:
         """The names of the tasks of some waits, by an array of indices."""
-        names: List[str] = self._names[self._codes[waits]].tolist()
+        names: List[str] = self._names[self._records["name"][waits]].tolist()
         return names
 
     def table(self, by: str = "task", doubtful: bool = False) -> List[Any]:
@@ -278,7 +340,7 @@ class Waits:
 
     def _last_names(self) -> Dict[int, str]:
         """The last name of each task."""
-        pids, last = needed().unique(self.array.pid[::-1], return_index=True)
+        pids, last = needed().unique(self._records["pid"][::-1], return_index=True)
         return dict(zip(pids.tolist(), self.names_of(len(self) - 1 - last)))
 
     def _row(self, by: str, row: CountsRow, names: Dict[int, str]) -> Any:
@@ -309,8 +371,8 @@ class Waits:
     def lines(self, doubtful: bool = False) -> List[str]:
         """What they are of, and how many they are of each kind, in lines of text; doubtful ones counted where that is asked
         for."""
-        counted = self.array if doubtful else self.array[~self.array.doubtful]
-        counts = needed().bincount(kind_codes(counted), minlength=len(KINDS)).tolist()
+        counted = self._records["kind"] if doubtful else self._records["kind"][~self._column("doubtful")]
+        counts = needed().bincount(counted, minlength=len(KINDS)).tolist()
         told = f"{_shown.counted(len(counted), 'wait')}: " + ", ".join(f"{count} {kind}" for count, kind in zip(counts, KINDS))
         told += "; times in microseconds"
         lines = [_shown.shown(f"{self.path}: {of(self.held)}" if self.path else of(self.held)), told]
@@ -318,8 +380,17 @@ class Waits:
             they, their = ("it", "its") if self.doubtful == 1 else ("they", "their")
             how = f"counted, though {they}" if doubtful else f"left out: {they}"
             told = f"{_shown.counted(self.doubtful, 'doubtful wait')} {_shown.are(self.doubtful)} {how}"
-            lines.append(f"{told} may be false, since events were lost in {their} time")
+            lines.append(f"{told} may be false, since events were lost in {their} time{self._likely_told()}")
         return [*lines, *self.remarks()]
+
+    def _likely_told(self) -> str:
+        """How many doubtful waits are likely true; empty if none is."""
+        if not self.likely:
+            return ""
+        if self.doubtful == 1:
+            return "; it is likely true, since the CPUs on which it began and ended lost none"
+        told = f"{self.likely} of them {_shown.are(self.likely)} likely true"
+        return f"; {told}, since the CPUs on which they began and ended lost none"
 
     def _told(self) -> Tuple[List[str], List[_shown.Table], List[str]]:
         """What is shown: lines, the table, and what was lost."""
@@ -339,11 +410,6 @@ class Stamp(int):
 
     def __str__(self) -> str:
         return seconds(self)
-
-
-def kind_codes(array: Any) -> Any:
-    """The numbers of the kinds of some waits."""
-    return (array.kind == KINDS[NEW]) * NEW + (array.kind == KINDS[PREEMPTED]) * PREEMPTED
 
 
 def of(held: Held) -> str:
@@ -385,16 +451,18 @@ def shown_row(row: Any, after: Sequence[str], is_doubtful: bool) -> List[Any]:
 # ---- how they are found
 
 
-def waits(trace: Union[Trace, Recording, Desk]) -> Waits:
-    """The waits of a recording: of a trace (what `Desk.load` takes), of what `read` has read, or of what a desk holds.
+def waits(trace: Union[Trace, Recording, Desk], *, lenient: bool = False) -> Waits:
+    """The waits of a recording: of a trace (a path, its bytes, or an open file, packed by gzip or not), of what `read` has
+    read, or of what a desk holds.
 
-    Of a trace with more events than a desk holds, those that no wait needs are left out, and if that doesn't suffice, the first
-    stretch that fits is taken, which `remarks` of the answer says. A desk of yours is asked by triggers that are attached to it
-    and taken away again; it is left as it was, except that their ids aren't given again. Events that you have struck are gone,
-    so a wait that they began or ended is another one or none.
+    A trace may be of any length: it is read in pieces, and only its waits are kept, 48 bytes of each. With `lenient`, lines
+    that can't be read are left out. Of a trace whose events aren't in the order of time, a desk holds the events: no more than
+    it has room for, which `remarks` of the answer says. A desk of yours is left as it was; events that you have struck are
+    gone, so a wait that they began or ended is another one or none.
 
-    Where events were lost, it warns with `LossWarning`. Raises what `read` and `Desk.load` raise, `ValueError` of a recording
-    that holds some CPUs alone, since tasks are woken from any, and `ImportError` where there is no numpy.
+    If events were lost, it warns with `LossWarning`. Raises `Refused` for a line that can't be read, `OSError` for a file that
+    can't be, `ValueError` of a recording that holds only some CPUs, since tasks are woken from any, and `ImportError` if there
+    is no numpy.
 
     >>> found = waits(b'''
     ... a-1 [0] 1.000100: sched_waking: comm=w pid=42 prio=120 target_cpu=000
@@ -412,46 +480,124 @@ def waits(trace: Union[Trace, Recording, Desk]) -> Waits:
     needed()
     if isinstance(trace, Desk):
         return waits_of(trace, None)
+    if isinstance(trace, Recording) and not is_whole(trace):
+        return waits_of_part(trace)
+    found = waits_of_text(trace, lenient)
+    if found.warning and not isinstance(trace, Recording):
+        warnings.warn(found.warning, LossWarning, stacklevel=2)
+    return found
+
+
+def waits_of_text(
+    trace: Union[Trace, Recording],
+    lenient: bool = False,
+    watch: Optional[Callable[[Any], None]] = None,
+    path: Optional[str] = None,
+) -> Waits:
+    """The waits of a whole text, which is called by that path, or by its own; `watch` is called with each piece of it before
+    it is read."""
+    content = trace.text if isinstance(trace, Recording) else trace
+    path = path_of(trace) if path is None else path
+    try:
+        return streamed_of(path, streamed(content, lenient, watch))
+    except Backwards as error:
+        return waits_in_any_order(trace, lenient, error)
+    except Refused as error:
+        error.path = path
+        if error.line and hasattr(error, "add_note") and not hasattr(content, "read"):
+            error.add_note(_shown.shown(_layout.decoded(line_at(content, error.line)[:MOST_SHOWN])))
+        raise
+
+
+def streamed_of(path: Optional[str], found: Streamed) -> Waits:
+    """The waits of a whole text, as a stream has told them; the path of its file, if it has one."""
+    read, unknown = found.read, unknown_kinds(found.records)
+    held = Held(sum(read.events.values()), read.first, read.last, tuple(sorted(read.events)))
+    about = About(path, held, read.losses, None, unknown, 0, *read[-4:])
+    return Waits(found.records, found.names, about)
+
+
+def unknown_kinds(records: Any) -> Tuple[str, ...]:
+    """The kinds of which no event began a wait; of preempted tasks only if there are no waits at all, since they may have had
+    none."""
+    kinds = needed().bincount(records["kind"], minlength=len(KINDS)).tolist()
+    return tuple(kind for kind, count in zip(KINDS, kinds) if not count and not (kind == "preempted" and len(records)))
+
+
+def is_whole(recording: Recording) -> bool:
+    """Whether nothing of a recording was left out."""
+    return recording.choice.is_all() and recording.taken is None and not recording.bad_lines
+
+
+def waits_in_any_order(trace: Any, lenient: bool, error: Backwards) -> Waits:
+    """The waits of a text that isn't in the order of time, of which a desk holds the events. Raises `ValueError` if it can't be
+    read again."""
+    if not isinstance(trace, Recording) and hasattr(trace, "read"):
+        told = f"line {error}: its stamp is before that of the event above it; such a trace must be a file"
+        raise ValueError(told) from None
     with warnings.catch_warnings():
         warnings.simplefilter("ignore", LossWarning)
-        recording = read(trace, spare=SPARE)
+        recording = read(trace, spare=SPARE, lenient=lenient)
+    found = waits_of_part(recording)
+    bad = recording.bad_lines
+    return found.with_bad_lines(len(bad), bad[0] if bad else None)
+
+
+def waits_of_part(recording: Recording) -> Waits:
+    """The waits of what was read of a trace, of which a desk holds the events."""
     if recording.choice.cpus is not None:
         raise ValueError("waits need the events of all CPUs, since tasks are woken from any; waits(..).only(cpus=[..]) chooses")
-    if recording.warning and not isinstance(trace, Recording):
-        warnings.warn(recording.warning, LossWarning, stacklevel=2)
     with recording.desk() as desk:
         return waits_of(desk, recording)
 
 
 def waits_of(desk: Desk, recording: Optional[Recording]) -> Waits:
-    """The waits that a desk holds. Where it was made for a recording, lines are those of the whole recording, and the triggers
-    stay on the desk, since taking them away takes longer than attaching them."""
-    numpy, begun = needed(), {}
-    for kind in KINDS:
-        with borrowed(desk) if recording is None else contextlib.nullcontext(desk.attach) as attach:
-            begun[kind] = begins(desk, kind, attach)
-    ends = desk.events_matching("sched_switch", ENDS).array
-    losses = Losses(desk.holes) if recording is None else recording.losses
-    index = Index(ends)
-    kinds, places = chosen({kind: index.begins(latencies) for kind, (latencies, _) in begun.items()}, ends, losses.holes)
-    is_wait = places.stamp >= 0
-    ends, kinds, places = ends[is_wait], kinds[is_wait], places[is_wait]
-    array = numpy.zeros(len(ends), FIELDS).view(numpy.recarray)
-    array.kind, array.pid, array.prio = numpy.array(KINDS)[kinds], ends.pid, ends.prio
-    for end, found in (("begin", places), ("end", ends)):
-        array[f"{end}_stamp"], array[f"{end}_cpu"] = found.stamp, found.cpu
-        array[f"{end}_line"] = found.line if recording is None else recording.lines(found.cpu, found.line)
-    array.micros = ends.stamp - places.stamp
-    array.doubtful = doubts(places.stamp, ends.stamp, losses.holes)
-    totals = {kind: counted for kind, (_, counted) in begun.items()}
-    return Waits(array, *coded(ends, "comm"), about(desk, recording, losses, totals))
+    """The waits of the events that a desk holds. If it was made for a recording, lines are those of the whole recording."""
+    kept = held_waits(desk._session)
+    records, losses = kept.records(), Losses(desk.holes) if recording is None else recording.losses
+    for at, waits in kept.besides:
+        take_surer(records, at, waits, losses.holes)
+    if recording is not None:
+        for end in ("begin", "end"):
+            records[f"{end}_line"] = recording.lines(records[f"{end}_cpu"], records[f"{end}_line"])
+    records["doubt"] = doubts_of(records, losses.holes)
+    about = about_held(desk, recording, losses)._replace(unknown=unknown_kinds(records))
+    return Waits(records, kept.names(), about)
 
 
-def about(desk: Desk, recording: Optional[Recording], losses: Losses, begun: Dict[str, Totals]) -> About:
+def take_surer(records: Any, at: Any, waits: Any, holes: Collection[Hole]) -> None:
+    """Of preempted tasks that were woken or created besides, counts from that if events were lost before, and none since."""
+    ends = records["end_stamp"][at]
+    surer = doubts(records["begin_stamp"][at], ends, holes) & ~doubts(waits["awoken_stamp"], ends, holes)
+    records["kind"][at[surer]] = waits["awoken_cause"][surer] - 1
+    for name, _ in _layout.PLACE_FIELDS:
+        records[f"begin_{name}"][at[surer]] = waits[f"awoken_{name}"][surer]
+
+
+def records_of(columns: Dict[str, Any]) -> Any:
+    """What is kept of waits, of its columns."""
+    records = needed().zeros(len(columns["kind"]), RECORD_FIELDS)
+    for field, column in columns.items():
+        records[field] = column
+    return records
+
+
+def doubts_of(columns: Dict[str, Any], holes: Collection[Hole]) -> Any:
+    """How sure waits are: whether events were lost in their time, and on the CPUs on which they began and ended."""
+    numpy = needed()
+    begins, ends = columns["begin_stamp"], columns["end_stamp"]
+    found = numpy.where(doubts(begins, ends, holes), _layout.LIKELY, _layout.SURE)
+    for cpu in sorted({hole.cpu for hole in holes}):
+        there = (columns["begin_cpu"] == cpu) | (columns["end_cpu"] == cpu)
+        found[there & doubts(begins, ends, [hole for hole in holes if hole.cpu == cpu])] = _layout.DOUBTFUL
+    return found
+
+
+def about_held(desk: Desk, recording: Optional[Recording], losses: Losses) -> About:
     """What else is known of the waits that a desk holds."""
     if recording is None:
-        return About(None, held_by(desk), losses, None, begun)
-    return About(recording.path, held_by(desk), losses, recording.taken.rest if recording.taken else None, begun)
+        return About(None, held_by(desk), losses)
+    return About(recording.path, held_by(desk), losses, recording.taken.rest if recording.taken else None)
 
 
 def held_by(desk: Desk) -> Held:
@@ -467,18 +613,6 @@ def places_of(desk: Desk, cpu: int) -> Any:
     return desk._session.records(library.histdesk_places_copy, PLACES, library.histdesk_lane, cpu, 1)
 
 
-def begins(desk: Desk, kind: str, attach: Callable[[str, str], Trigger]) -> Tuple[Any, Totals]:
-    """The latencies from what begins waits of a kind to the switches that end them, by triggers that `attach` attaches; and
-    what the saver of their stamps has counted."""
-    saver, reader = triggers_of(desk, kind, attach)
-    latencies = reader.latencies()
-    if kind == "preempted":
-        begun = desk.matching("sched_switch", f"prev_pid != 0 && ({RUNNABLE})")
-        saved = numbered(latencies.saved_cpu, latencies.saved_line)
-        latencies = latencies[needed().isin(saved, numbered(begun.cpu, begun.line))]
-    return latencies, saver.totals()
-
-
 def triggers_of(desk: Desk, kind: str, attach: Callable[[str, str], Trigger]) -> Tuple[Trigger, Trigger]:
     """The triggers that measure waits of a kind, as `attach` attaches them: one that saves the stamps of what may begin some,
     and one that reads them at the switches."""
@@ -492,48 +626,6 @@ def free_name(desk: Desk) -> str:
     """A name for a variable that no trigger of the desk has."""
     texts = " ".join(trigger.canonical for trigger in desk.triggers())
     return next(name for name in (f"begin{number}" for number in itertools.count()) if name not in texts)
-
-
-@contextlib.contextmanager
-def borrowed(desk: Desk) -> Iterator[Any]:
-    """What attaches triggers to a desk that are taken away again at the end, however it comes."""
-    kept = {trigger.id for trigger in desk.triggers()}
-    known: List[Trigger] = []
-
-    def attached(event: str, text: str) -> Trigger:
-        known.append(desk.attach(event, text))
-        return known[-1]
-
-    try:
-        yield attached
-    finally:
-        # An interrupt may come before `known` has the last one.
-        with contextlib.suppress(MemoryError):
-            known = [trigger for trigger in desk.triggers() if trigger.id not in kept]
-        for trigger in reversed(known):
-            trigger.remove()
-
-
-class Index:
-    """Switches that run a task, by where they stand."""
-
-    def __init__(self, ends: Any) -> None:
-        self._numbers = numbered(ends.cpu, ends.line)
-        self._order = self._numbers.argsort()
-
-    def begins(self, latencies: Any) -> Any:
-        """For each switch the place at which a wait begins, of the latencies of a kind; its stamp is -1 where none does."""
-        numpy = needed()
-        places = numpy.zeros(len(self._numbers), _layout.place_type()).view(numpy.recarray)
-        places.stamp = -1
-        # A switch from a task to itself begins none.
-        is_one = (latencies.saved_cpu != latencies.read_cpu) | (latencies.saved_line != latencies.read_line)
-        latencies = latencies[is_one]
-        read = numbered(latencies.read_cpu, latencies.read_line)
-        at = self._order[self._numbers.searchsorted(read, sorter=self._order)]
-        for field in PLACE:
-            places[field][at] = latencies[f"saved_{field}"]
-        return places
 
 
 def numbered(cpus: Any, lines: Any) -> Any:

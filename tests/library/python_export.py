@@ -342,13 +342,15 @@ class Waits(Tool):
                 [wait.name, wait.kind, wait.pid, wait.prio, *wait.begin, *wait.end, wait.micros, wait.doubtful]
                 for wait in known.waits
             ]
-            self.assertEqual([[*row.values()] for row in found], expected, name)
+            self.assertEqual([[*row.values()][:-1] for row in found], expected, name)
+            # A wait that is sure is not likely besides.
+            self.assertEqual([row for row in found if row["likely"] and not row["doubtful"]], [], name)
 
     def test_columns(self):
         places = ",".join(f"{end}_{name}" for end in ("begin", "end") for name in ("stamp", "cpu", "line"))
         self.assertEqual(
             self.written(SMALL, "waits").decode(),
-            f"task,kind,pid,prio,{places},micros,doubtful\nw,woken,42,98,1000100,0,1,1000150,1,2,50,false\n",
+            f"task,kind,pid,prio,{places},micros,doubtful,likely\nw,woken,42,98,1000100,0,1,1000150,1,2,50,false,false\n",
         )
 
     def test_cpu(self):

@@ -421,6 +421,7 @@ class Header(unittest.TestCase):
         "totals": _layout.Totals,
         "report": _layout.Report,
         "refusal": _layout.Refusal,
+        "waits_read": _layout.WaitsRead,
         "place": _layout.PLACE,
         "row": _layout.ROW,
         "latency": _layout.LATENCY,
@@ -463,6 +464,16 @@ class Header(unittest.TestCase):
         self.assertEqual(_layout.event_type().itemsize, _layout.EVENT.size)
         self.assertEqual(_layout.latency_type().itemsize, _layout.LATENCY.size)
         self.assertEqual(_layout.place_type().itemsize, _layout.PLACE.size)
+
+    @with_numpy
+    def test_waits_in_numpy(self):
+        """A place in a wait begins with its stamp."""
+        sizes = dict(re.findall(r"sizeof\(histdesk_(\w+)\) == ([0-9]+)", self.text))
+        for name, kind in [("wait", _layout.wait_type()), ("hole", _layout.hole_type())]:
+            self.assertEqual(kind.itemsize, int(sizes[name]), name)
+            for field, offset in re.findall(rf"AT_\(histdesk_{name}, (\w+), ([0-9]+)\)", self.text):
+                told = kind.fields.get(field) or kind.fields[f"{field}_stamp"]
+                self.assertEqual(told[1], int(offset), (name, field))
 
 
 class Places(unittest.TestCase):

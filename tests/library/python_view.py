@@ -266,7 +266,7 @@ class Shown(unittest.TestCase):
         text = text_of([waking(0, 5, 7)])
         self.assertEqual(
             view_of(text).about()["recordings"][0]["remarks"],
-            ["there is no sched_switch of a task, so nothing is known of preempted ones"],
+            ["no sched_switch began a wait, so nothing is known of preempted ones"],
         )
         side = _view.Side(recording_of(text, until=7), ["a line"])
         self.assertEqual(side.about()["remarks"][0], "a line")

@@ -8,6 +8,7 @@ the text by itself (plain_waits.py). The last line says how many of the tests ho
 
 import csv
 import doctest
+import gzip
 import io
 import json
 import os
@@ -32,7 +33,7 @@ sys.path[:0] = [PYTHON, os.path.join(HERE, "..", "model")]
 import histdesk
 import plain_waits
 import recordings
-from histdesk import Counts, LossWarning, Refused, _part, _recording, _waits
+from histdesk import Counts, LossWarning, Refused, _part, _recording, _stream, _waits
 from python_answers import with_numpy, with_pandas, without_numpy
 from python_runner import main
 from recordings import Known, Place, Wait, switch, text_of, waking
@@ -178,22 +179,135 @@ class Parts(unittest.TestCase):
 
     def test_more_than_a_desk_holds(self):
         known = recordings.kinds()
-        with mock.patch.object(_part, "LIMIT", 25), mock.patch.object(_recording, "LIMIT", 25):
+        with mock.patch.object(_part, "LIMIT", 20), mock.patch.object(_recording, "LIMIT", 20):
             found = waits_of(known.text)
+        # A trace is read as a whole, however many events it has.
+        self.assertEqual((found.held.events, told(found)), (26, list(known.waits)))
+        with mock.patch.object(_part, "LIMIT", 25), mock.patch.object(_recording, "LIMIT", 25):
+            found = waits_of(histdesk.read(known.text, spare=_waits.SPARE))
         # The one sched_wakeup is left out, and its line is still counted.
         self.assertEqual((found.held.events, found.remarks(), told(found)), (25, [], list(known.waits)))
         with mock.patch.object(_part, "LIMIT", 20), mock.patch.object(_recording, "LIMIT", 20):
-            found = waits_of(known.text)
+            found = waits_of(histdesk.read(known.text, spare=_waits.SPARE))
         self.assertEqual((found.held.events, told(found)), (20, list(known.waits[:7])))
         self.assertEqual(found.remarks(), ["this is a part of the recording; the next one begins at 1.000600"])
 
     def test_no_wakings(self):
         lines = [line for line in recordings.kinds().text.decode().split("\n") if "sched_waking" not in line]
         found = waits_of("\n".join(lines).encode())
-        self.assertEqual(found.remarks(), ["there is no sched_waking of a task, so nothing is known of woken ones"])
+        self.assertEqual(found.remarks(), ["no sched_waking began a wait, so nothing is known of woken ones"])
         self.assertEqual({wait.kind for wait in told(found)}, {"new", "preempted"})
         found = waits_of(text_of([waking(0, 5, 7)]))
-        self.assertEqual(found.remarks(), ["there is no sched_switch of a task, so nothing is known of preempted ones"])
+        self.assertEqual(
+            found.remarks(),
+            [
+                "no sched_waking began a wait, so nothing is known of woken ones",
+                "no sched_switch began a wait, so nothing is known of preempted ones",
+            ],
+        )
+
+
+def in_time(text):
+    """A text with its lines in the order of their stamps; those without one stay before the line that they stood before."""
+    runs, front = [], []
+    for line in text.split(b"\n")[:-1]:
+        front.append(line)
+        stamp = re.search(rb" ([0-9]+)\.([0-9]{6}): ", line)
+        if stamp:
+            runs.append((int(stamp[1] + stamp[2]), front))
+            front = []
+    return b"".join(line + b"\n" for _, run in sorted(runs, key=lambda run: run[0]) for line in run)
+
+
+class Dripping(io.BytesIO):
+    """A file that gives a few bytes at a time, and can't be read again."""
+
+    def read(self, size=-1):
+        return super().read(min(size, 37))
+
+
+@with_numpy
+class Streams(unittest.TestCase):
+    """Traces in the order of time, which are read in pieces."""
+
+    def test_pieces(self):
+        for seed in range(12):
+            text = in_time(noise(seed))
+            for piece in (1 << 22, 4096, 100, 31):
+                with mock.patch.object(_stream, "PIECE", piece), mock.patch.object(_stream, "CHUNK", 16):
+                    self.assertEqual(told(waits_of(text)), plain_waits.waits_of(text), (seed, piece))
+
+    def test_sources(self):
+        known = recordings.simulated(3, holes=2)
+        packed = gzip.compress(known.text[:5000]) + gzip.compress(known.text[5000:]) + bytes(7)
+        with tempfile.TemporaryDirectory() as folder:
+            for name, content in (("plain", known.text), ("packed.gz", packed)):
+                path = os.path.join(folder, name)
+                with open(path, "wb") as file:
+                    file.write(content)
+                found = waits_of(path)
+                self.assertEqual((told(found), found.path), (told(waits_of(known.text)), path))
+        text = known.text.decode("utf-8", "surrogateescape")
+        for source in (bytearray(known.text), memoryview(packed), Dripping(known.text), Dripping(packed), io.StringIO(text)):
+            self.assertEqual(told(waits_of(source)), told(waits_of(known.text)))
+        for torn in (packed[:-12], packed[:40], packed + b"x"):
+            with self.assertRaises(gzip.BadGzipFile):
+                waits_of(torn)
+        with self.assertRaises(TypeError):
+            histdesk.waits(7)
+
+    def test_order(self):
+        """A text that isn't in the order of time is read too, if it can be read again."""
+        text = noise(5)
+        self.assertNotEqual(text, in_time(text))
+        self.assertEqual(told(waits_of(text)), plain_waits.waits_of(text))
+        with self.assertRaisesRegex(ValueError, "^line [0-9]+: its stamp is before that of the event above it"):
+            waits_of(Dripping(text))
+
+    def test_bad_lines(self):
+        known = recordings.kinds()
+        lines = known.text.split(b"\n")
+        text = b"\n".join([*lines[:20], b"no line", b"nor this", *lines[20:]])
+        with self.assertRaises(Refused) as refused:
+            waits_of(text)
+        self.assertEqual((refused.exception.line, refused.exception.number), (21, 3))
+        found = histdesk.waits(text, lenient=True)
+        self.assertEqual((told(found), found.bad_lines, found.first_bad_line), (list(known.waits), 2, 21))
+
+    def test_losses(self):
+        for known in (recordings.hole_at_start(), recordings.lost_in_middle(), recordings.simulated(7, holes=3)):
+            found = waits_of(known.text)
+            self.assertEqual(gaps(found), sorted(known.gaps, key=str))
+            self.assertEqual(found.warning, histdesk.read(known.text).warning)
+
+    def test_missing(self):
+        lines = [switch(0, 5, "<idle>-0", "a-7", state="R"), waking(0, 6, 9), switch(0, 9, "b-8", "<idle>-0")]
+        found = waits_of(text_of(lines))
+        # The waker of `waking` and b run though CPU 0 went to a.
+        self.assertEqual((found.missing, found.first_missing), (2, Place(6, 0, 2)))
+
+    def test_grades(self):
+        """CPU 3 lost events while a task waited that was woken on CPU 0 and ran on CPU 1."""
+        found = waits_of(recordings.lost_in_middle().text)
+        grades = {(wait.end_cpu, bool(wait.doubtful), bool(wait.likely)) for wait in found.array}
+        self.assertEqual(grades, {(3, False, False), (3, True, False), (1, True, True)})
+        self.assertEqual((found.doubtful, found.likely), (2, 1))
+
+    def test_a_desk_after_edits(self):
+        chance = random.Random(8)
+        with histdesk.Desk() as desk:
+            desk.load(b"\n".join(line for line in noise(8).split(b"\n") if not line.startswith(b"CPU:")))
+            lines = {cpu: list(range(1, count + 1)) for cpu, count in desk.cpus().items()}
+            for _ in range(60):
+                cpu = chance.randrange(3)
+                desk.strike(cpu, lines[cpu].pop(chance.randrange(len(lines[cpu]))))
+                edit = desk.insert(switch(cpu, 1000 + chance.randrange(200), "p-1", f"q-{chance.randrange(6)}", state="R"))
+                lines[cpu].append(edit.line)
+            text = b"".join(desk.list(cpu).encode("utf-8", "surrogateescape") for cpu in sorted(desk.cpus()))
+            waits = [wait._replace(begin=wait.begin[:2], end=wait.end[:2]) for wait in plain_waits.waits_of(text)]
+            found = [wait._replace(begin=wait.begin[:2], end=wait.end[:2], doubtful=False) for wait in told(waits_of(desk))]
+            self.assertEqual(found, waits)
+            self.assertEqual(desk.triggers(), [])
 
 
 @with_numpy
@@ -390,59 +504,25 @@ class OnADesk(unittest.TestCase):
             desk.load(known.text)
         self.assertEqual(told(histdesk.waits(desk)), list(known.waits))
 
-    def test_no_room(self):
-        while len(self.desk.triggers()) < 63:
+    def test_beside_many_triggers(self):
+        """No trigger is attached for the question, so there may be as many as a desk takes."""
+        while len(self.desk.triggers()) < 64:
             self.desk.attach("sched_waking", "hist:keys=pid")
         self.triggers = self.state()
-        with self.assertRaises(Refused) as refused:
-            histdesk.waits(self.desk)
-        self.assertEqual(refused.exception.number, 15)
+        self.assertEqual(told(histdesk.waits(self.desk)), list(recordings.kinds().waits))
         self.unchanged()
 
-    def test_interrupted(self):
-        """Whichever call is the one in which it is interrupted."""
-        attach, calls = histdesk.Desk.attach, 0
-
-        def interrupted(desk, event, text):
-            nonlocal left
-            trigger = attach(desk, event, text)
-            left -= 1
-            if left < 0:
-                raise KeyboardInterrupt
-            return trigger
-
-        for calls in range(6):
-            left = calls
-            with mock.patch.object(histdesk.Desk, "attach", interrupted), self.assertRaises(KeyboardInterrupt):
-                histdesk.waits(self.desk)
-            self.unchanged()
-        self.assertEqual(calls, 5)
-
     def test_out_of_memory(self):
-        ask, left = histdesk.Desk.triggers, 0
-
-        def wanting(desk):
-            nonlocal left
-            left -= 1
-            if left < 0:
-                raise MemoryError
-            return ask(desk)
-
-        for count in (0, 1, 2, 3):
-            left = count
-            with mock.patch.object(histdesk.Trigger, "latencies", side_effect=MemoryError), self.assertRaises(MemoryError):
-                with mock.patch.object(histdesk.Desk, "triggers", wanting):
-                    histdesk.waits(self.desk)
-            self.unchanged()
+        with mock.patch.object(_stream.library, "histdesk_waits_held", return_value=1), self.assertRaises(MemoryError):
+            histdesk.waits(self.desk)
+        self.unchanged()
 
     def test_more_tasks_than_a_table_holds(self):
         count = _waits.SIZE + 3
         lines = [waking(0, at, at + 1) for at in range(count)]
         lines += [switch(0, count + pid, "a-0", f"w-{pid}") for pid in (1, count)]
         found = waits_of(text_of(lines))
-        self.assertEqual(([wait.pid for wait in told(found)], found.dropped), ([1], 3))
-        self.assertIn("3 waits are missing", found.remarks()[0])
-        self.assertIn("3 waits are missing", repr(found))
+        self.assertEqual(([wait.pid for wait in told(found)], found.dropped, found.remarks()), ([1, 131075], 0, []))
 
 
 @with_numpy
@@ -450,10 +530,10 @@ class Shown(unittest.TestCase):
     def test_one_is_told(self):
         found = waits_of(recordings.hole_at_start().text)
         one = found[found.array.doubtful][:1]
-        told = "left out: it", "counted, though it"
-        for is_counted, how in enumerate(told):
+        for is_counted, how in enumerate(("left out: it", "counted, though it")):
             lines = one.lines(doubtful=bool(is_counted))
-            self.assertEqual(lines[2], f"1 doubtful wait is {how} may be false, since events were lost in its time")
+            told = f"1 doubtful wait is {how} may be false, since events were lost in its time"
+            self.assertEqual(lines[2], f"{told}; it is likely true, since the CPUs on which it began and ended lost none")
         self.assertTrue(lines[1].startswith("1 wait: "))
 
     def test_text(self):
