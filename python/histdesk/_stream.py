@@ -13,7 +13,7 @@ from . import _layout
 from ._events import coded_names
 from ._layout import needed
 from ._library import library
-from ._losses import Hole, Losses
+from ._losses import HEADER, HEADER_ROOM, Hole, Losses, firsts
 from ._refused import exception_of
 from ._session import Session
 from ._source import PACKED, bytes_of, is_buffer
@@ -57,11 +57,15 @@ class Read(NamedTuple):
 
 
 class Streamed(NamedTuple):
-    """The waits of a text, an array of what is kept of each; the names of tasks, by their numbers; and what was read."""
+    """The waits of a text, an array of what is kept of each; the names of tasks, by their numbers; what was read; of preempted
+    tasks that were woken or created besides, which waits these are, and where and how that was; and the holes of CPUs that
+    begin late, by the stamps of their first events, where only the header says that events were overwritten."""
 
     records: Any
     names: Any
     read: Read
+    besides: List[Tuple[Any, Any]]
+    late: Tuple[Hole, ...]
 
 
 def streamed(trace: Any, lenient: bool = False, watch: Optional[Callable[[Any], None]] = None) -> Streamed:
@@ -70,12 +74,47 @@ def streamed(trace: Any, lenient: bool = False, watch: Optional[Callable[[Any], 
 
     With `lenient`, lines that can't be read are counted and skipped. Raises `Refused` for the first one otherwise, `Backwards`
     if the text isn't in the order of time, `OSError` if it can't be read, and `MemoryError`."""
+    firsts = Firsts()
     with contextlib.closing(Stream(lenient)) as stream:
         for piece in pieces_of(trace):
             if watch:
                 watch(piece)
+            firsts.watch(piece)
             stream.feed(piece)
-        return stream.finish()
+        found = stream.finish()
+    # A line says so of each CPU whose buffer begins, if any does.
+    is_told = any(hole.after is None for hole in found.read.losses.holes)
+    return found if is_told else found._replace(late=firsts.late())
+
+
+class Firsts:
+    """The first stamp of each CPU of a text whose header says that events were overwritten."""
+
+    def __init__(self) -> None:
+        self._is_wanted: Optional[bool] = None
+        self._found: Dict[int, int] = {}
+        self._tail = b""
+
+    def watch(self, piece: Any) -> None:
+        """Sees the next piece of the text."""
+        if self._is_wanted is None:
+            header = HEADER.search(bytes(piece[:HEADER_ROOM]))
+            self._is_wanted = header is not None and int(header[1]) < int(header[2])
+        if self._is_wanted:
+            content = self._tail + bytes(piece)
+            end = content.rfind(b"\n") + 1
+            self._tail = content[end:]
+            self._add(content[:end])
+
+    def late(self) -> Tuple[Hole, ...]:
+        """The holes of CPUs that begin after the first event of all."""
+        self._add(self._tail)
+        begun = min(self._found.values(), default=0)
+        return tuple(Hole(cpu, None, stamp) for cpu, stamp in sorted(self._found.items()) if stamp > begun)
+
+    def _add(self, content: bytes) -> None:
+        for cpu, stamp in firsts(content).items():
+            self._found.setdefault(cpu, stamp)
 
 
 def line_at(trace: Any, number: int) -> bytes:
@@ -123,7 +162,7 @@ class Stream:
         found = self._copied(library.histdesk_waits_holes, _layout.hole_type(), read.holes)
         if read.holes:
             self._judge()
-        return Streamed(self._kept.records(), self._kept.names(), self._read(read, found))
+        return Streamed(self._kept.records(), self._kept.names(), self._read(read, found), self._kept.besides, ())
 
     def _call(self, call: Any, *arguments: Any) -> None:
         """Makes a call, and raises what it is refused with."""

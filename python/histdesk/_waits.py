@@ -513,7 +513,11 @@ def streamed_of(path: Optional[str], found: Streamed) -> Waits:
     """The waits of a whole text, as a stream has told them; the path of its file, if it has one."""
     read, unknown = found.read, unknown_kinds(found.records)
     held = Held(sum(read.events.values()), read.first, read.last, tuple(sorted(read.events)))
-    about = About(path, held, read.losses, None, unknown, 0, *read[-4:])
+    losses = read.losses
+    if found.late:
+        losses = losses._replace(holes=(*found.late, *losses.holes))
+        judge(found.records, found.besides, losses.holes)
+    about = About(path, held, losses, None, unknown, 0, *read[-4:])
     return Waits(found.records, found.names, about)
 
 
@@ -555,14 +559,19 @@ def waits_of(desk: Desk, recording: Optional[Recording]) -> Waits:
     """The waits of the events that a desk holds. If it was made for a recording, lines are those of the whole recording."""
     kept = held_waits(desk._session)
     records, losses = kept.records(), Losses(desk.holes) if recording is None else recording.losses
-    for at, waits in kept.besides:
-        take_surer(records, at, waits, losses.holes)
+    judge(records, kept.besides, losses.holes)
     if recording is not None:
         for end in ("begin", "end"):
             records[f"{end}_line"] = recording.lines(records[f"{end}_cpu"], records[f"{end}_line"])
-    records["doubt"] = doubts_of(records, losses.holes)
     about = about_held(desk, recording, losses)._replace(unknown=unknown_kinds(records))
     return Waits(records, kept.names(), about)
+
+
+def judge(records: Any, besides: Collection[Tuple[Any, Any]], holes: Collection[Hole]) -> None:
+    """Finds out how sure waits are by some holes, and with what they began."""
+    for at, waits in besides:
+        take_surer(records, at, waits, holes)
+    records["doubt"] = doubts_of(records, holes)
 
 
 def take_surer(records: Any, at: Any, waits: Any, holes: Collection[Hole]) -> None:

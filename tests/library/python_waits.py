@@ -280,6 +280,16 @@ class Streams(unittest.TestCase):
             self.assertEqual(gaps(found), sorted(known.gaps, key=str))
             self.assertEqual(found.warning, histdesk.read(known.text).warning)
 
+    def test_overwritten(self):
+        """Only the header says that events were overwritten: CPU 1 begins late, so a wait of before may be false."""
+        lines = [waking(0, 5, 7), waking(0, 6, 8), waking(1, 20, 9), switch(0, 30, "x-1", "a-7"), switch(0, 40, "a-7", "c-9")]
+        text = text_of(lines, in_buffer=5, lost=4)
+        for piece in (1 << 22, 64):
+            with mock.patch.object(_stream, "PIECE", piece):
+                found = waits_of(text)
+            self.assertEqual(found.holes, histdesk.read(text).holes)
+            self.assertEqual([(wait.pid, wait.doubtful) for wait in told(found)], [(7, True), (9, False)])
+
     def test_missing(self):
         lines = [switch(0, 5, "<idle>-0", "a-7", state="R"), waking(0, 6, 9), switch(0, 9, "b-8", "<idle>-0")]
         found = waits_of(text_of(lines))
