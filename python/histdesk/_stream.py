@@ -13,7 +13,7 @@ from . import _layout
 from ._events import coded_names
 from ._layout import needed
 from ._library import library
-from ._losses import HEADER, HEADER_ROOM, Hole, Losses, firsts
+from ._losses import HEADER, HEADER_ROOM, STARTED, Hole, Losses, counted, firsts
 from ._refused import exception_of
 from ._session import Session
 from ._source import PACKED, bytes_of, is_buffer
@@ -81,19 +81,17 @@ def streamed(trace: Any, lenient: bool = False, watch: Optional[Callable[[Any], 
                 watch(piece)
             firsts.watch(piece)
             stream.feed(piece)
-        found = stream.finish()
-    # A line says so of each CPU whose buffer begins, if any does.
-    is_told = any(hole.after is None for hole in found.read.losses.holes)
-    return found if is_told else found._replace(late=firsts.late())
+        return stream.finish()._replace(late=firsts.late())
 
 
 class Firsts:
-    """The first stamp of each CPU of a text whose header says that events were overwritten."""
+    """The first stamp of each CPU of a text whose header says that events were overwritten, unless a line says of which CPUs
+    the buffers begin."""
 
     def __init__(self) -> None:
         self._is_wanted: Optional[bool] = None
         self._found: Dict[int, int] = {}
-        self._tail = b""
+        self._tail = self._end = b""
 
     def watch(self, piece: Any) -> None:
         """Sees the next piece of the text."""
@@ -102,15 +100,20 @@ class Firsts:
             self._is_wanted = header is not None and int(header[1]) < int(header[2])
         if self._is_wanted:
             content = self._tail + bytes(piece)
+            if STARTED.search(content):
+                self._is_wanted, self._found, self._tail = False, {}, b""
+                return
             end = content.rfind(b"\n") + 1
             self._tail = content[end:]
+            self._end = (self._end + bytes(piece))[-HEADER_ROOM:]
             self._add(content[:end])
 
     def late(self) -> Tuple[Hole, ...]:
         """The holes of CPUs that begin after the first event of all."""
         self._add(self._tail)
         begun = min(self._found.values(), default=0)
-        return tuple(Hole(cpu, None, stamp) for cpu, stamp in sorted(self._found.items()) if stamp > begun)
+        holes = [Hole(cpu, None, stamp) for cpu, stamp in sorted(self._found.items()) if stamp > begun]
+        return tuple(counted(self._end, holes))
 
     def _add(self, content: bytes) -> None:
         for cpu, stamp in firsts(content).items():

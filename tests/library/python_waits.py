@@ -289,6 +289,9 @@ class Streams(unittest.TestCase):
                 found = waits_of(text)
             self.assertEqual(found.holes, histdesk.read(text).holes)
             self.assertEqual([(wait.pid, wait.doubtful) for wait in told(found)], [(7, True), (9, False)])
+        for count in (0, 4):
+            told_of = text + b"# CPU 1: %d events overwritten\n" % count
+            self.assertEqual(waits_of(told_of).holes, histdesk.read(told_of).holes)
 
     def test_missing(self):
         lines = [switch(0, 5, "<idle>-0", "a-7", state="R"), waking(0, 6, 9), switch(0, 9, "b-8", "<idle>-0")]
