@@ -59,7 +59,7 @@ class Read(NamedTuple):
 class Streamed(NamedTuple):
     """The waits of a text, an array of what is kept of each; the names of tasks, by their numbers; what was read; of preempted
     tasks that were woken or created besides, which waits these are, and where and how that was; and the holes of CPUs that
-    begin late, by the stamps of their first events, where only the header says that events were overwritten."""
+    begin late, by the stamps of their first events, if only the header says that events were overwritten."""
 
     records: Any
     names: Any

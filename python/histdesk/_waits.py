@@ -127,7 +127,7 @@ class Waits:
     its `sched_wakeup_new` did, and `preempted` where a `sched_switch` did that took the processor from it while it could run. A
     waking of a task that still ran, or that was preempted and not yet run again, begins none; a wait that hasn't ended is none.
     A wait is *doubtful* where events were lost in its time, on whichever CPU: it may be false, and is counted only where that
-    is asked for. It is *likely* true all the same where the CPUs on which it began and ended lost none.
+    is asked for. It is *likely* true all the same if the CPUs on which it began and ended lost none.
 
     | Form | What it gives |
     |---|---|

@@ -3,6 +3,7 @@
  * after the end; handles without a desk; each refusal and its words. What is wrong is printed, by the line of this file;
  * last stands how many of the tests hold. */
 #include "histdesk.h"
+#include "holds.h"
 
 #include <inttypes.h>
 #include <stdio.h>
@@ -12,15 +13,6 @@
 #define NO_EVENT "that line holds no event, or none is there"
 
 static histdesk *desk;
-static unsigned tests, good;
-
-static void test(int line, const char *what, bool holds) {
-    tests++;
-    good += holds;
-    if (!holds)
-        printf("  line %d: not so: %s\n", line, what);
-}
-#define HOLDS(what) test(__LINE__, #what, what)
 
 static void *exact(const void *bytes, size_t size) {
     void *own = malloc(size); /* also of no bytes */

@@ -4,6 +4,7 @@
  * line of this file; last stands how many of the tests hold. */
 #include "heap.h"
 #include "histdesk.h"
+#include "holds.h"
 
 #include <inttypes.h>
 #include <stdio.h>
@@ -14,16 +15,6 @@
 enum { FEW = 256, MANY = 2048, MOST_LEFT = 64 };
 
 static histdesk desk;
-static unsigned tests, good;
-
-static void test(int line, const char *what, bool holds) {
-    tests++;
-    good += holds;
-    if (!holds)
-        printf("  line %d: not so: %s\n", line, what);
-}
-#define HOLDS(what) test(__LINE__, #what, what)
-
 /* ---- Two lines of each task, which is numbered from 1: it is woken and gets the processor. */
 
 static int write_waking(char *to, size_t room, uint32_t task) {

@@ -5,6 +5,7 @@
  * last stands how many of the tests hold. */
 #include "heap.h"
 #include "histdesk.h"
+#include "holds.h"
 
 #include <inttypes.h>
 #include <pthread.h>
@@ -57,16 +58,6 @@ static const histdesk_waits_read wanted_read = {
     .lines = 16, .bad = 1, .bad_line = BAD_LINE, .bad_fault = 1, .missing = 1, .missing_at = {1000900, 1, 3}, .holes = HOLES,
     .has_written = true, .held = 7, .written = 9, .has_first = true, .first = 1000100, .last = 1000900,
 };
-
-static unsigned tests, good;
-
-static void test(int line, const char *what, bool holds) {
-    tests++;
-    good += holds;
-    if (!holds)
-        printf("  line %d: not so: %s\n", line, what);
-}
-#define HOLDS(what) test(__LINE__, #what, what)
 
 /* What a call without room is given. */
 static histdesk_wait no_wait;

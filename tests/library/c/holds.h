@@ -1,0 +1,13 @@
+/* holds: counts what a program tests, and prints what does not hold by the line of its file. */
+#include <stdbool.h>
+#include <stdio.h>
+
+static unsigned tests, good;
+
+static void test(int line, const char *what, bool holds) {
+    tests++;
+    good += holds;
+    if (!holds)
+        printf("  line %d: not so: %s\n", line, what);
+}
+#define HOLDS(what) test(__LINE__, #what, what)
