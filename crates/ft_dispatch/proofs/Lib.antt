@@ -3,3 +3,5 @@ mod Behind
 mod Steps
 mod Joins
 mod Written
+mod Firsts
+mod Placed

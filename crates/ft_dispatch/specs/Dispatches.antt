@@ -2,7 +2,7 @@
 use Rattle.std.specs.Prelude.{ℤ, pos, Bool, false, List, [], ◌∷◌, ◌++◌, Option, Some, None, if◌then◌else◌}
 use Rattle.std.specs.Ordering.{int_eq}
 use Rattle.ft_fields.specs.declared.pos.Pos.{Pos}
-use Rattle.ft_dispatch.specs.Acts.{Act, Waking, Creation, Switch, Handover}
+use Rattle.ft_dispatch.specs.Acts.{Act, Waking, Creation, Switch, Handover, can_run}
 use Rattle.ft_dispatch.specs.declared.dispatch.Left.{Left}
 use Rattle.ft_dispatch.specs.declared.dispatch.Since.{Since}
 use Rattle.ft_dispatch.specs.declared.dispatch.Dispatch.{Dispatch}
@@ -35,7 +35,7 @@ runs pid (Switch turn) = int_eq turn.next_pid pid
 abbrev pub leaves_runnable : Act → Bool
 leaves_runnable (Waking woken) = false
 leaves_runnable (Creation created) = false
-leaves_runnable (Switch turn) = turn.prev_runnable
+leaves_runnable (Switch turn) = can_run turn.prev_state
 
 -- the last act that passes a test, of those since the task last ran
 unfoldable pub last_since_run : (Act → Bool) → ℤ → List (Pos × Act) → Option (Pos × Act)

@@ -1,15 +1,35 @@
 -- Acts that were read apart from the acts before them: what is known, and the dispatches, behind those. Acts and dispatches stand newest first, if nothing else is said.
-use Rattle.std.specs.Prelude.{ℤ, Bool, List, [], ◌∷◌, ◌++◌, reverse, if◌then◌else◌}
+use Rattle.std.specs.Prelude.{◌≡◌, ℕ, ℤ, ◌+◌, min, Bool, List, [], ◌∷◌, ◌++◌, reverse, slice_index, map as list_map, option_map, if◌then◌else◌}
 use Rattle.std.specs.List.{list_any}
 use Rattle.std.specs.Option.{option_or}
 use Rattle.std.specs.Ordering.{int_eq}
 use Rattle.ft_fields.specs.declared.pos.Pos.{Pos}
 use Rattle.ft_dispatch.specs.Acts.{Act}
-use Rattle.ft_dispatch.specs.Dispatches.{runs}
+use Rattle.ft_dispatch.specs.Dispatches.{runs, runnable_since}
 use Rattle.ft_dispatch.specs.Telling.{unknown, Tells}
 use Rattle.ft_dispatch.specs.declared.dispatch.Dispatch.{Dispatch}
+use Rattle.ft_dispatch.specs.declared.dispatch.Left.{Left}
 use Rattle.ft_dispatch.specs.declared.dispatch.Since.{Since}
 use Rattle.ft_dispatch.specs.declared.tasks.Tasks.{Tasks}
+
+-- ---- places
+
+-- a place of a part whose lines were counted from the part's own start, behind so many events of each CPU; a line is at most the largest number
+abbrev pub place_behind : List ℕ → Pos → Pos
+place_behind counts place = record { stamp = place.stamp; cpu = place.cpu; line = min (place.line + slice_index counts place.cpu) 4294967295 }
+
+-- an act, where a task was left, since when it was runnable, and a dispatch, each at its places behind
+abbrev pub act_behind : (Pos → Pos) → Pos × Act → Pos × Act
+act_behind move entry = (move entry.0, entry.1)
+
+abbrev pub left_behind : (Pos → Pos) → Left → Left
+left_behind move left = record { place = move left.place; runnable = left.runnable }
+
+abbrev pub since_behind : (Pos → Pos) → Since → Since
+since_behind move since = record { woken = option_map move since.woken; created = option_map move since.created; left = option_map (left_behind move) since.left }
+
+abbrev pub dispatch_behind : (Pos → Pos) → Dispatch → Dispatch
+dispatch_behind move one = record { pid = one.pid; prio = one.prio; name = one.name; place = move one.place; since = since_behind move one.since }
 
 -- ---- what is known
 
@@ -52,12 +72,30 @@ all_completed known (one ∷ earlier) = completed known earlier one ∷ all_comp
 abbrev pub joined : (ℤ → Since) → List Dispatch → List Dispatch
 joined known told = reverse (all_completed known (reverse told))
 
+-- the dispatches of a part whose places lie behind, by the acts before the part
+abbrev pub joined_behind : (Pos → Pos) → List (Pos × Act) → List Dispatch → List Dispatch
+joined_behind move before told = joined (λ pid. runnable_since pid before) (list_map (dispatch_behind move) told)
+
+-- the first dispatch of each task
+unfoldable pub first_ones : List Dispatch → List Dispatch
+first_ones [] = []
+first_ones (one ∷ earlier) = if has_one one.pid earlier then first_ones earlier else one ∷ first_ones earlier
+
+-- the same, the oldest first
+abbrev pub firsts : List Dispatch → List Dispatch
+firsts told = reverse (first_ones (reverse told))
+
+-- dispatches are of the same tasks as others
+abbrev pub AreOfTasks : List Dispatch → List Dispatch → Type 0
+AreOfTasks told ones = (pid : ℤ) → has_one pid ones ≡ has_one pid told
+
 -- what is left of what was known of a task, behind dispatches, the oldest first: nothing, if it ran
 abbrev pub left_over : (ℤ → Since) → List Dispatch → ℤ → Since
 left_over known told pid = if has_one pid (reverse told) then unknown else known pid
 
 -- ---- tasks
 
--- whatever acts a map of tasks tells, and whatever acts a part tells that was read apart: the new map and dispatches tell the part's acts behind the acts before
-abbrev pub Joins : Tasks → Tasks → List Dispatch → Tasks → List Dispatch → Type 0
-Joins old part apart new behind = (before acts : List (Pos × Act)) (told : List Dispatch) → Tells old before told → Tells part acts apart → Tells new (acts ++ before) (told ++ behind)
+-- whatever acts a map of tasks tells, and whatever acts a part tells that was read apart: the new map tells the part's acts behind the acts before; of the part's dispatches those that are given, one of each task at least, are completed as among all of them
+abbrev pub Joins : (Pos → Pos) → Tasks → Tasks → List Dispatch → Tasks → List Dispatch → Type 0
+Joins move old part ones new behind = (before acts : List (Pos × Act)) (told apart : List Dispatch) → Tells old before told → Tells part acts apart → AreOfTasks apart ones
+    → Tells new (list_map (act_behind move) acts ++ before) (told ++ joined_behind move before apart) × (behind ≡ joined_behind move before ones)

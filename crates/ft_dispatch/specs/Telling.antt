@@ -29,7 +29,7 @@ known tasks pid = unwrap_or (lookup (λ task. is_eq (int_cmp pid task.pid)) task
 
 -- what a switch says
 abbrev pub handover_of : PlacedAct → Handover
-handover_of act = record { prev_pid = act.prev_pid; prev_runnable = act.prev_runnable; next_pid = act.pid; next_prio = act.prio; next_comm = act.name }
+handover_of act = record { prev_pid = act.prev_pid; prev_state = act.prev_state; next_pid = act.pid; next_prio = act.prio; next_comm = act.name }
 
 -- what an act says, by its kind
 abbrev pub act_from : Kind → PlacedAct → Act

@@ -2,7 +2,7 @@
 
 ghost use Rattle.std.specs.Prelude.{◌≡◌, ◌||◌, option_map};
 ghost use Rattle.ft_fields.specs.Borrowed.{owned_body, turned, name_bytes};
-ghost use Rattle.ft_dispatch.specs.Acts.{act_of, handover, is_runnable};
+ghost use Rattle.ft_dispatch.specs.Acts.{act_of, can_run, handover, is_asleep, is_blocked, is_runnable, state_of};
 ghost use Rattle.ft_dispatch.specs.Acts.Act.{Switch, Waking, Creation};
 ghost use Rattle.ft_dispatch.specs.Telling.{entry_of};
 
@@ -19,6 +19,19 @@ pub enum Kind {
     Switch,
 }
 
+/// How a task is when a switch leaves it, by the state that the switch shows.
+#[derive(Clone, Copy, Debug, PartialEq, Eq)]
+pub enum PrevState {
+    /// It can still run: `R` or `R+`.
+    Runnable,
+    /// It sleeps: the state begins with `S` or `I`.
+    Asleep,
+    /// It is blocked: the state begins with `D`.
+    Blocked,
+    /// Any other state, as that of a task that stopped or ended.
+    Other,
+}
+
 /// What an event says of who runs, at its place.
 #[derive(Clone, Copy)]
 pub struct PlacedAct {
@@ -30,8 +43,8 @@ pub struct PlacedAct {
     pub pid: i32,
     /// Of a switch: the task that it takes the CPU from.
     pub prev_pid: i32,
-    /// Of a switch: whether that task can still run.
-    pub prev_runnable: bool,
+    /// Of a switch: how that task is then.
+    pub prev_state: PrevState,
     /// Of a switch: the priority with which the task runs.
     pub prio: i32,
     /// Of a switch: the name with which it runs.
@@ -47,6 +60,52 @@ fn is_runnable(state: &NameRef<'_>) -> bool
     bytes == b"R".as_slice() || bytes == b"R+".as_slice()
 }
 
+/// Whether a task sleeps that a switch leaves in this state.
+#[inline(always)]
+fn is_asleep(state: &NameRef<'_>) -> bool
+    ensures { result ≡ is_asleep (name_bytes state.now) }
+{
+    let bytes = state.bytes();
+    bytes.starts_with(b"S") || bytes.starts_with(b"I")
+}
+
+/// Whether a task is blocked that a switch leaves in this state.
+#[inline(always)]
+fn is_blocked(state: &NameRef<'_>) -> bool
+    ensures { result ≡ is_blocked (name_bytes state.now) }
+{
+    state.bytes().starts_with(b"D")
+}
+
+impl PrevState {
+    /// How a task is that a switch leaves in this state.
+    #[inline(always)]
+    fn of(state: &NameRef<'_>) -> PrevState
+        ensures { result ≡ state_of (name_bytes state.now) }
+    {
+        if is_runnable(state) {
+            PrevState::Runnable
+        } else if is_asleep(state) {
+            PrevState::Asleep
+        } else if is_blocked(state) {
+            PrevState::Blocked
+        } else {
+            PrevState::Other
+        }
+    }
+
+    /// Whether the task can still run.
+    #[inline(always)]
+    pub fn can_run(self) -> bool
+        ensures { result ≡ can_run self }
+    {
+        match self {
+            PrevState::Runnable => true,
+            PrevState::Asleep | PrevState::Blocked | PrevState::Other => false,
+        }
+    }
+}
+
 impl PlacedAct {
     /// A waking or a creation of a task.
     #[inline(always)]
@@ -60,7 +119,7 @@ impl PlacedAct {
             kind,
             pid,
             prev_pid: 0,
-            prev_runnable: false,
+            prev_state: PrevState::Other,
             prio: 0,
             name: Comm::filled(b""),
         }
@@ -76,7 +135,7 @@ impl PlacedAct {
             kind: Kind::Switch,
             pid: turn.next_pid,
             prev_pid: turn.prev_pid,
-            prev_runnable: is_runnable(&turn.prev_state),
+            prev_state: PrevState::of(&turn.prev_state),
             prio: turn.next_prio,
             name: Comm::filled(turn.next_comm.bytes()),
         }

@@ -1,10 +1,12 @@
-//! A law of joining: a function that does nothing, whose clauses are proved.
+//! Laws of joining: functions that do nothing, whose clauses are proved.
 
-ghost use Rattle.std.specs.Prelude.{◌≡◌, ℤ, List, ◌++◌};
+ghost use Rattle.std.specs.Prelude.{◌≡◌, ℤ, true, false, List, [], ◌∷◌, ◌++◌};
 ghost use Rattle.ft_fields.specs.declared.pos.Pos.{Pos};
 ghost use Rattle.ft_dispatch.specs.Acts.{Act};
 ghost use Rattle.ft_dispatch.specs.Dispatches.{runnable_since, dispatches};
-ghost use Rattle.ft_dispatch.specs.Joining.{ran, known_behind, joined};
+ghost use Rattle.ft_dispatch.specs.Joining.{ran, known_behind, has_one, completed_by, joined, firsts, AreOfTasks};
+ghost use Rattle.ft_dispatch.specs.declared.dispatch.Dispatch.{Dispatch};
+ghost use Rattle.ft_dispatch.specs.declared.dispatch.Since.{Since};
 
 /// A law: what acts say of a task is what the last part of them says, put over what those before say if
 /// the part didn't run the task; and their dispatches are those of the acts before, and of the part, if
@@ -14,4 +16,15 @@ pub fn parts_join()
         ≡ known_behind (ran pid part) (runnable_since pid part) (runnable_since pid before) }
     ensures dispatches { (part before : List (Pos × Act)) → dispatches (part ++ before)
         ≡ dispatches before ++ joined (λ pid. runnable_since pid before) (dispatches part) }
+{}
+
+/// A law: what a caller has to keep of a part's dispatches that are joined later. A dispatch that isn't the
+/// first one of its task stays as it is; and the first ones may be joined without the others.
+pub fn first_ones_join()
+    ensures stays { (known : ℤ → Since) (told : List Dispatch) (one : Dispatch) → has_one one.pid told ≡ true
+        → joined known (told ++ one ∷ []) ≡ joined known told ++ one ∷ [] }
+    ensures completed { (known : ℤ → Since) (told : List Dispatch) (one : Dispatch) → has_one one.pid told ≡ false
+        → joined known (told ++ one ∷ []) ≡ joined known told ++ completed_by (known one.pid) one ∷ [] }
+    ensures firsts { (known : ℤ → Since) (told : List Dispatch) → joined known (firsts told) ≡ firsts (joined known told) }
+    ensures tasks { (told : List Dispatch) → AreOfTasks told (firsts told) }
 {}

@@ -15,23 +15,25 @@
 //! Parts may be read apart, from `Tasks::new` on, and joined in order:
 //!
 //! ```ignore
-//! tasks.join(part, &mut dispatches_of_part)?;
+//! tasks.join(part, &events_by_cpu, &mut dispatches_of_part)?;
 //! ```
 //!
 //! # Contracts
 //!
 //! - `PlacedAct::of`: what an event says of who runs, if it says anything; exact, `act_of`
 //!   (`specs/Acts.antt`).
+//! - `PrevState::can_run`: whether a task that a switch leaves so can still run; exact.
 //! - `Tasks::new`, `take_all`: after acts that came in any number of calls, the dispatches that were added
 //!   are those of all these acts, the oldest first: `dispatches` (`specs/Dispatches.antt`). A dispatch has
 //!   where its task was last woken, created and left, each since it last ran.
 //!   Fails only for memory. Lets through: running out of memory at any time; which dispatches are added
 //!   before that.
 //! - `Tasks::join`: a part that was read apart, from `Tasks::new` on, gives, joined to what is known after
-//!   the acts before it, what its acts give behind those: `Joins` (`specs/Joining.antt`). Linear in the
+//!   the acts before it, what its acts give behind those: `Joins` (`specs/Joining.antt`). Of its dispatches
+//!   the first one of each task is enough: the others only get their places behind. Linear in the
 //!   dispatches and tasks of the part, times a look-up. Fails only for memory. Lets through: running out of
 //!   memory at any time; what is known, and which dispatches are completed, then.
-//! - `parts_join`: the law behind it, on the definitions.
+//! - `parts_join`, `first_ones_join`: the laws behind it, on the definitions.
 //! - `Since::waiting`: which of the three places a wait counts from, and why; exact, `waiting_since`
 //!   (`specs/Began.antt`).
 //! - `Since::awoken`: the same of only its waking and its creation; exact, `awoken`
@@ -48,8 +50,8 @@ mod tasks;
 #[cfg(test)]
 mod tests;
 
-pub use act::{Kind, PlacedAct};
+pub use act::{Kind, PlacedAct, PrevState};
 pub use began::{Began, Cause};
 pub use dispatch::{Dispatch, Left, Since};
-pub use laws::parts_join;
+pub use laws::{first_ones_join, parts_join};
 pub use tasks::Tasks;

@@ -18,7 +18,7 @@ fn leaving(turn: &PlacedAct) -> Left
 {
     Left {
         place: turn.place,
-        runnable: turn.prev_runnable,
+        runnable: turn.prev_state.can_run(),
     }
 }
 

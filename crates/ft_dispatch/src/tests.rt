@@ -1,6 +1,6 @@
 //! Acts by hand: whatever part of them is read apart and joined, the dispatches are those of the whole.
 
-use crate::{Cause, Dispatch, Kind, PlacedAct, Tasks};
+use crate::{Cause, Dispatch, Kind, PlacedAct, PrevState, Tasks};
 use ft_fields::{Comm, Pos};
 use std::alloc::{AllocError, Global};
 use std::test::*;
@@ -16,17 +16,17 @@ fn act(stamp: u64, kind: Kind, pid: i32) -> PlacedAct {
         kind,
         pid,
         prev_pid: 0,
-        prev_runnable: false,
+        prev_state: PrevState::Other,
         prio: 120,
         name: Comm::filled(b"w"),
     }
 }
 
-/// A switch from a task, that can still run or can't, to another.
-fn switch(stamp: u64, prev_pid: i32, prev_runnable: bool, pid: i32) -> PlacedAct {
+/// A switch from a task, that is so then, to another.
+fn switch(stamp: u64, prev_pid: i32, prev_state: PrevState, pid: i32) -> PlacedAct {
     PlacedAct {
         prev_pid,
-        prev_runnable,
+        prev_state,
         ..act(stamp, Kind::Switch, pid)
     }
 }
@@ -35,19 +35,19 @@ fn switch(stamp: u64, prev_pid: i32, prev_runnable: bool, pid: i32) -> PlacedAct
 fn acts() -> [PlacedAct; 14] {
     [
         act(10, Kind::Waking, 7),
-        switch(20, 0, true, 7),
+        switch(20, 0, PrevState::Runnable, 7),
         act(25, Kind::Waking, 8),
-        switch(30, 7, true, 8),
-        switch(35, 8, true, 8),
+        switch(30, 7, PrevState::Runnable, 8),
+        switch(35, 8, PrevState::Runnable, 8),
         act(40, Kind::Creation, 9),
-        switch(45, 8, false, 7),
+        switch(45, 8, PrevState::Asleep, 7),
         act(50, Kind::Waking, 8),
-        switch(55, 7, true, 9),
-        switch(60, 9, true, 8),
-        switch(65, 8, false, 7),
-        switch(70, 7, false, 0),
-        switch(75, 0, true, 9),
-        switch(80, 9, true, 8),
+        switch(55, 7, PrevState::Runnable, 9),
+        switch(60, 9, PrevState::Runnable, 8),
+        switch(65, 8, PrevState::Asleep, 7),
+        switch(70, 7, PrevState::Asleep, 0),
+        switch(75, 0, PrevState::Runnable, 9),
+        switch(80, 9, PrevState::Runnable, 8),
     ]
 }
 
@@ -67,7 +67,7 @@ fn told(
     let mut part = Tasks::new(alloc);
     let mut late = Vec::new(alloc);
     part.take_all(apart, &mut late)?;
-    tasks.join(part, &mut late)?;
+    tasks.join(part, &[], &mut late)?;
     told.extend_from_slice(&late)?;
     tasks.take_all(behind, &mut told)?;
     Ok(told)

@@ -1,6 +1,5 @@
 -- What is kept of each CPU after one note more.
-use Rattle.std.specs.Prelude.{◌≡◌, ◌≤◌, ◌==◌, ℕ, Bool, true, false, List, Option, Some, None, if◌then◌else◌}
-use Rattle.std.specs.Option.{option_or}
+use Rattle.std.specs.Prelude.{◌≡◌, ◌≤◌, ◌==◌, ℕ, Bool, true, false, List, if◌then◌else◌}
 use Rattle.std.proofs.Common.{refl, ap, ◌∙◌, cond}
 use Rattle.std.proofs.lemmas.Bool.{eqb-true}
 use Rattle.ft_fields.specs.Traced.{last_cpu}
@@ -35,8 +34,3 @@ pub kept-part : {T : Type 0} (f : Lane → T) (old new : List Lane) (c : ℕ) (c
     → ((l : Lane) → f (change l) ≡ f l) → ((other : ℕ) → other ≤ last_cpu → f (lane_in old other) ≡ is other)
     → (other : ℕ) → other ≤ last_cpu → f (lane_in new other) ≡ is other
 kept-part f old new c change is at law known other fits = changed-part f old new c change (λ x. x) is at law known other fits ∙ either (c == other) (is other)
-
--- nothing else is there
-pub or-none : {T : Type 0} (o : Option T) → option_or o None ≡ o
-or-none None = refl
-or-none (Some x) = refl

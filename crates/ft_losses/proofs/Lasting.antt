@@ -1,4 +1,4 @@
--- The holes at the end.
+-- The holes of CPUs below a number.
 use Rattle.std.specs.Prelude.{◌≡◌, ◌≤◌, ◌<◌, ◌+◌, ℕ, zero, suc, List, [], ◌∷◌, ◌++◌, Option, None}
 use Rattle.std.specs.List.{AllByRecursion, flat_map}
 use Rattle.std.proofs.Common.{refl, sym, ap, subst, ◌∙◌, append_assoc, arith, add-one}
@@ -6,15 +6,11 @@ use Rattle.std.proofs.lemmas.List.{append-nil}
 use Rattle.std.proofs.lemmas.Grind.{flat_map-append}
 use Rattle.std.proofs.lemmas.List.Concat.{flat_map-cons}
 use Rattle.ft_fields.specs.Traced.{last_cpu}
-use Rattle.ft_losses.specs.Holes.{cpus_below, hole_of, last_stamp, open_hole, counted_by, overwritten, ended_holes, open_holes, holes}
-use Rattle.ft_losses.specs.Notes.{Note}
-use Rattle.ft_losses.specs.Telling.{IsKept}
-use Rattle.ft_losses.specs.declared.hole.Buffers.{Buffers}
+use Rattle.ft_losses.specs.Holes.{cpus_below, hole_of, counted_by}
 use Rattle.ft_losses.specs.declared.hole.Hole.{Hole}
-use Rattle.ft_losses.specs.declared.hole.Loss.{Loss}
 use Rattle.ft_losses.specs.declared.lanes.Lane.{Lane}
 use Rattle.ft_losses.specs.inner.Lanes.{lane_in}
-use Rattle.ft_losses.proofs.Noting.{all-more, hole-within}
+use Rattle.ft_losses.proofs.Noting.{all-more}
 
 -- the hole of a CPU that lasts to the end, by what is kept
 abbrev pub kept_hole : List Lane → ℕ → List Hole
@@ -29,7 +25,7 @@ one-more f old found cpu is =
     ∙ ap (λ (n : ℕ). old ++ flat_map f (cpus_below n)) (sym (add-one cpu))
 
 -- the same holes, if they are the same of each CPU below a number
-same-below : (f g : ℕ → List Hole) (n : ℕ) → ((cpu : ℕ) → cpu < n → f cpu ≡ g cpu) → flat_map f (cpus_below n) ≡ flat_map g (cpus_below n)
+pub same-below : (f g : ℕ → List Hole) (n : ℕ) → ((cpu : ℕ) → cpu < n → f cpu ≡ g cpu) → flat_map f (cpus_below n) ≡ flat_map g (cpus_below n)
 unfolding cpus_below
 same-below f g zero same = refl
 same-below f g (suc n) same =
@@ -38,14 +34,14 @@ same-below f g (suc n) same =
     ∙ sym (flat_map-append g (cpus_below n) (n ∷ []))
 
 -- each of these holes is on a CPU that there can be
-open-within : (lanes : List Lane) (n : ℕ) → n ≤ suc last_cpu → AllByRecursion (λ (hole : Hole). hole.cpu ≤ last_cpu) (flat_map (kept_hole lanes) (cpus_below n))
+pub below-within : (f : ℕ → List Hole) → ((cpu : ℕ) → cpu ≤ last_cpu → AllByRecursion (λ (hole : Hole). hole.cpu ≤ last_cpu) (f cpu)) → (n : ℕ) → n ≤ suc last_cpu → AllByRecursion (λ (hole : Hole). hole.cpu ≤ last_cpu) (flat_map f (cpus_below n))
 unfolding cpus_below
-open-within lanes zero fits = tt
-open-within lanes (suc n) fits = subst (AllByRecursion (λ (hole : Hole). hole.cpu ≤ last_cpu)) (sym (flat_map-append (kept_hole lanes) (cpus_below n) (n ∷ []) ∙ ap (λ (hs : List Hole). flat_map (kept_hole lanes) (cpus_below n) ++ hs) (flat_map-cons (kept_hole lanes) n [] ∙ append-nil (kept_hole lanes n))))
-    (all-more (flat_map (kept_hole lanes) (cpus_below n)) (kept_hole lanes n) (open-within lanes n (omega (arith, fits))) (hole-within n (lane_in lanes n).last None (lane_in lanes n).lost (omega (arith, fits))))
+below-within f each zero fits = tt
+below-within f each (suc n) fits = subst (AllByRecursion (λ (hole : Hole). hole.cpu ≤ last_cpu)) (sym (flat_map-append f (cpus_below n) (n ∷ []) ∙ ap (λ (hs : List Hole). flat_map f (cpus_below n) ++ hs) (flat_map-cons f n [] ∙ append-nil (f n))))
+    (all-more (flat_map f (cpus_below n)) (f n) (below-within f each n (omega (arith, fits))) (each n (omega (arith, fits))))
 
 -- holes are counted alike, if the counts are the same of their CPUs
-same-counts : (f g : ℕ → Option ℕ) (hs : List Hole) → ((cpu : ℕ) → cpu ≤ last_cpu → f cpu ≡ g cpu) → AllByRecursion (λ (hole : Hole). hole.cpu ≤ last_cpu) hs
+pub same-counts : (f g : ℕ → Option ℕ) (hs : List Hole) → ((cpu : ℕ) → cpu ≤ last_cpu → f cpu ≡ g cpu) → AllByRecursion (λ (hole : Hole). hole.cpu ≤ last_cpu) hs
     → flat_map (λ (hole : Hole). counted_by (f hole.cpu) hole) hs ≡ flat_map (λ (hole : Hole). counted_by (g hole.cpu) hole) hs
 same-counts f g [] same within = refl
 same-counts f g (h ∷ hs) same within =
@@ -53,13 +49,3 @@ same-counts f g (h ∷ hs) same within =
     ∙ ap (λ (c : Option ℕ). counted_by c h ++ flat_map (λ (hole : Hole). counted_by (f hole.cpu) hole) hs) (same h.cpu within.0)
     ∙ ap (λ (rest : List Hole). counted_by (g h.cpu) h ++ rest) (same-counts f g hs same within.1)
     ∙ sym (flat_map-cons (λ (hole : Hole). counted_by (g hole.cpu) hole) h hs)
-
--- all holes
-pub all-holes : (lanes : List Lane) (ended all : List Hole) (header : Option Buffers) (notes : List Note) (found : List Hole) → IsKept lanes ended header notes
-    → all ≡ ended ++ flat_map (kept_hole lanes) (cpus_below 8192) → found ≡ flat_map (λ (hole : Hole). counted_by (lane_in lanes hole.cpu).overwritten hole) all → found ≡ holes notes
-all-holes lanes ended all header notes found keeps is counted =
-    let lasting : flat_map (kept_hole lanes) (cpus_below 8192) ≡ open_holes notes = same-below (kept_hole lanes) (open_hole notes) 8192 (λ cpu low.
-    ap (λ (last : Option ℕ). hole_of cpu last None (lane_in lanes cpu).lost) (keeps.last cpu (omega (arith, low))) ∙ ap (λ (lost : Option Loss). hole_of cpu (last_stamp cpu notes) None lost) (keeps.lost cpu (omega (arith, low)))) in
-    let whole : all ≡ ended_holes notes ++ open_holes notes = is ∙ ap (λ (hs : List Hole). hs ++ flat_map (kept_hole lanes) (cpus_below 8192)) keeps.ended ∙ ap (λ (hs : List Hole). ended_holes notes ++ hs) lasting in
-    let within : AllByRecursion (λ (hole : Hole). hole.cpu ≤ last_cpu) all = subst (AllByRecursion (λ (hole : Hole). hole.cpu ≤ last_cpu)) (sym is) (all-more ended (flat_map (kept_hole lanes) (cpus_below 8192)) keeps.within (open-within lanes 8192 (omega arith))) in
-    counted ∙ same-counts (λ cpu. (lane_in lanes cpu).overwritten) (λ cpu. overwritten cpu notes) all keeps.overwritten within ∙ ap (flat_map (λ (hole : Hole). counted_by (overwritten hole.cpu notes) hole)) whole

@@ -1,12 +1,14 @@
--- Where a CPU's events were lost: between two of its events, if a line between them reports it. Notes stand newest first.
-use Rattle.std.specs.Prelude.{ℕ, zero, suc, ◌+◌, ◌==◌, ◌&&◌, min, List, [], ◌∷◌, ◌++◌, length, Option, Some, None, if◌then◌else◌}
+-- Where a CPU's events were lost: between two of its events, if a line between them reports it; or before its first event, if only the header says that events were overwritten and another CPU begins earlier. Notes stand newest first.
+use Rattle.std.specs.Prelude.{ℕ, zero, suc, ◌+◌, ◌==◌, ◌&&◌, Bool, true, false, not, min, nat_lt, List, [], ◌∷◌, ◌++◌, length, Option, Some, None, option_map, if◌then◌else◌}
 use Rattle.std.specs.Option.{option_or, is_none}
-use Rattle.std.specs.List.{flat_map}
+use Rattle.std.specs.List.{flat_map, list_any}
 use Rattle.ft_event.specs.Marks.{last_count}
 use Rattle.ft_event.specs.declared.mark.Mark.{Mark}
 use Rattle.ft_event.specs.declared.mark.Mark.TheVariants as marks
 use Rattle.ft_losses.specs.Notes.{Note, Passed, Marked, Silent}
+use Rattle.ft_losses.specs.declared.hole.Beginning.{Beginning}
 use Rattle.ft_losses.specs.declared.hole.Buffers.{Buffers}
+use Rattle.ft_losses.specs.declared.hole.Header.{Header}
 use Rattle.ft_losses.specs.declared.hole.Hole.{Hole}
 use Rattle.ft_losses.specs.declared.hole.Loss.{Loss}
 
@@ -22,6 +24,41 @@ stamp_after cpu Silent last = last
 unfoldable pub last_stamp : ℕ → List Note → Option ℕ
 last_stamp cpu [] = None
 last_stamp cpu (note ∷ before) = stamp_after cpu note (last_stamp cpu before)
+
+-- the stamp of a CPU's first event, after one note more
+abbrev pub first_after : ℕ → Note → Option ℕ → Option ℕ
+first_after cpu (Passed event) first = if event.cpu == cpu then option_or first (Some event.stamp) else first
+first_after cpu (Marked mark) first = first
+first_after cpu Silent first = first
+
+-- the stamp of a CPU's first event
+unfoldable pub first_stamp : ℕ → List Note → Option ℕ
+first_stamp cpu [] = None
+first_stamp cpu (note ∷ before) = first_after cpu note (first_stamp cpu before)
+
+-- ---- how the buffers begin
+
+-- what lines report of it, after a mark on a line
+abbrev pub beginning_after_mark : ℕ → Mark → Beginning → Beginning
+beginning_after_mark line (marks.Lost of count) known = known
+beginning_after_mark line (marks.Started of) known = record { header = known.header; is_marked = true }
+beginning_after_mark line (marks.Overwritten of count) known = known
+beginning_after_mark line (marks.Written held written) known = record { header = option_or known.header (Some (record { line = line; buffers = record { held = held; written = written } })); is_marked = known.is_marked }
+
+-- the same after one note more
+abbrev pub beginning_after : ℕ → Note → Beginning → Beginning
+beginning_after line (Passed event) known = known
+beginning_after line (Marked mark) known = beginning_after_mark line mark known
+beginning_after line Silent known = known
+
+-- what the first line of a header counts, and whether a line says of any CPU that its buffer begins
+unfoldable pub beginning : List Note → Beginning
+beginning [] = record { header = None; is_marked = false }
+beginning (note ∷ before) = beginning_after (suc (length before)) note (beginning before)
+
+-- how many events the buffers held of those that were written, by the header
+abbrev pub buffers : List Note → Option Buffers
+buffers notes = option_map (λ header. header.buffers) (beginning notes).header
 
 -- ---- losses
 
@@ -112,22 +149,33 @@ counted_as hole (Some count) = if count == 0 then [] else (record hole { count =
 abbrev pub counted_by : Option ℕ → Hole → List Hole
 counted_by count hole = if is_none hole.after && is_none hole.count then counted_as hole count else (hole ∷ [])
 
--- the holes: those that events ended, the first one first, and those that last to the end, by CPU
+-- whether a first event, if there is one, is before a stamp
+abbrev pub is_earlier : Option ℕ → ℕ → Bool
+is_earlier None stamp = false
+is_earlier (Some first) stamp = nat_lt first stamp
+
+-- whether the first event of any CPU is
+abbrev pub any_earlier : (ℕ → Option ℕ) → ℕ → Bool
+any_earlier firsts stamp = list_any (λ cpu. is_earlier (firsts cpu) stamp) (cpus_below 8192)
+
+-- the hole before a CPU's first event, by whether another CPU's first event is before a stamp
+abbrev pub late_hole : (ℕ → Bool) → ℕ → ℕ → Option ℕ → List Hole
+late_hole earlier line cpu None = []
+late_hole earlier line cpu (Some first) = if earlier first then (record { cpu = cpu; line = line; after = None; before = Some first; count = None } ∷ []) else []
+
+-- the holes of all CPUs that begin late, by CPU, with the line that reports them
+abbrev pub all_late : (ℕ → Option ℕ) → ℕ → List Hole
+all_late firsts line = flat_map (λ cpu. late_hole (any_earlier firsts) line cpu (firsts cpu)) (cpus_below 8192)
+
+-- these, if the header counts fewer events than were written, and no line says of any CPU that its buffer begins
+abbrev pub late_by : (ℕ → Option ℕ) → Bool → Option Header → List Hole
+late_by firsts marked None = []
+late_by firsts marked (Some header) = if nat_lt header.buffers.held header.buffers.written && not marked then all_late firsts header.line else []
+
+-- the holes of CPUs that begin late
+abbrev pub late_holes : List Note → List Hole
+late_holes notes = late_by (λ cpu. first_stamp cpu notes) (beginning notes).is_marked (beginning notes).header
+
+-- the holes: those of CPUs that begin late, by CPU; those that events ended, the first one first; and those that last to the end, by CPU
 abbrev pub holes : List Note → List Hole
-holes notes = flat_map (λ hole. counted_by (overwritten hole.cpu notes) hole) (ended_holes notes ++ open_holes notes)
-
--- ---- the kernel's header
-
--- how many events the buffers held of those that were written, as a note reports it
-abbrev pub buffers_in : Note → Option Buffers
-buffers_in (Passed event) = None
-buffers_in (Marked (marks.Lost of count)) = None
-buffers_in (Marked (marks.Started of)) = None
-buffers_in (Marked (marks.Overwritten of count)) = None
-buffers_in (Marked (marks.Written held written)) = Some (record { held = held; written = written })
-buffers_in Silent = None
-
--- the same of the first line that reports it
-unfoldable pub buffers : List Note → Option Buffers
-buffers [] = None
-buffers (note ∷ before) = option_or (buffers before) (buffers_in note)
+holes notes = flat_map (λ hole. counted_by (overwritten hole.cpu notes) hole) (late_holes notes ++ ended_holes notes ++ open_holes notes)

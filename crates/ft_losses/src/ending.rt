@@ -1,14 +1,15 @@
 //! The end of a text.
 
-ghost use Rattle.std.specs.Prelude.{◌≡◌, ◌++◌, List, OnOk, IfOk};
+ghost use Rattle.std.specs.Prelude.{◌≡◌, ◌++◌, List, OnOk, IfOk, option_map};
 ghost use Rattle.std.specs.List.{flat_map};
 ghost use Rattle.ft_losses.specs.Holes.{cpus_below, hole_of, counted_as, counted_by};
 ghost use Rattle.ft_losses.specs.Notes.{Note};
 ghost use Rattle.ft_losses.specs.Telling.{Keeps, AreLosses};
 ghost use Rattle.ft_losses.specs.inner.Lanes.{lane_in};
 
-use crate::hole::Hole;
+use crate::hole::{Buffers, Header, Hole};
 use crate::lanes::{CPUS, Lane, lane_of};
+use crate::late::add_late;
 use crate::losses::{Losses, LossesRead};
 use crate::reading::add_hole;
 use std::alloc::{AllocError, Global};
@@ -50,16 +51,29 @@ fn add_counted(holes: &mut Vec<Hole>, hole: &Hole, count: Option<u64>) -> Result
     Ok(())
 }
 
-/// The holes, each by how many events of its CPU were overwritten before the first one.
-fn counted(alloc: Global, lanes: &[Lane], holes: &[Hole]) -> Result<Vec<Hole>, AllocError>
-    ensures { IfOk result (λ counted. counted.items
-        ≡ flat_map (λ hole. counted_by (lane_in lanes.now hole.cpu).overwritten hole) holes.now) }
+/// Adds holes, each by how many events of its CPU were overwritten before the first one.
+fn add_all_counted(
+    counted: &mut Vec<Hole>,
+    lanes: &[Lane],
+    holes: &[Hole],
+) -> Result<(), AllocError>
+    ensures { OnOk result (counted.new.items ≡ counted.old.items
+        ++ flat_map (λ hole. counted_by (lane_in lanes.now hole.cpu).overwritten hole) holes.now) }
 {
-    let mut counted = Vec::new(alloc);
     for hole in holes {
-        add_counted(&mut counted, hole, lane_of(lanes, hole.cpu).overwritten)?;
+        add_counted(counted, hole, lane_of(lanes, hole.cpu).overwritten)?;
     }
-    Ok(counted)
+    Ok(())
+}
+
+/// What the kernel's header counts, if there is one.
+fn buffers_of(header: Option<Header>) -> Option<Buffers>
+    ensures { result ≡ option_map (λ header. header.buffers) header }
+{
+    match header {
+        Some(header) => Some(header.buffers),
+        None => None,
+    }
 }
 
 impl Losses {
@@ -70,12 +84,17 @@ impl Losses {
         let Losses {
             lanes,
             mut ended,
-            buffers,
+            begins,
         } = self;
+        let mut late = Vec::new(alloc);
+        add_late(&lanes, begins, &mut late)?;
         add_open(&lanes, &mut ended)?;
+        let mut holes = Vec::new(alloc);
+        add_all_counted(&mut holes, &lanes, &late)?;
+        add_all_counted(&mut holes, &lanes, &ended)?;
         Ok(LossesRead {
-            holes: counted(alloc, &lanes, &ended)?,
-            buffers,
+            holes,
+            buffers: buffers_of(begins.header),
         })
     }
 }

@@ -24,6 +24,24 @@ pub struct Buffers {
     pub written: u64,
 }
 
+/// What the line of the kernel's header counts.
+#[derive(Clone, Copy, Debug, PartialEq, Eq)]
+pub(crate) struct Header {
+    /// The line's number.
+    pub(crate) line: u64,
+    /// The counts.
+    pub(crate) buffers: Buffers,
+}
+
+/// What lines report of how the buffers begin.
+#[derive(Clone, Copy, Debug, PartialEq, Eq)]
+pub(crate) struct Beginning {
+    /// The first line that counts what the buffers held.
+    pub(crate) header: Option<Header>,
+    /// Whether a line says of any CPU that its buffer begins.
+    pub(crate) is_marked: bool,
+}
+
 /// What a CPU lost since its last event.
 #[derive(Clone, Copy, Debug, PartialEq, Eq)]
 pub(crate) struct Loss {

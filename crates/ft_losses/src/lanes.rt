@@ -13,6 +13,8 @@ pub(crate) const CPUS: u16 = 8192;
 /// What is kept of a CPU.
 #[derive(Clone, Copy)]
 pub(crate) struct Lane {
+    /// The stamp of its first event.
+    pub(crate) first: Option<u64>,
     /// The stamp of its last event.
     pub(crate) last: Option<u64>,
     /// What it lost since then.
@@ -27,6 +29,7 @@ impl Lane {
         ensures { result ≡ no_lane }
     {
         Lane {
+            first: None,
             last: None,
             lost: None,
             overwritten: None,

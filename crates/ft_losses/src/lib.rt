@@ -19,8 +19,14 @@
 //!
 //! - `Losses::new`, `pass`, `skip`, `finish`: after one call for each line, the holes are those that the lines report:
 //!   `holes` (`specs/Holes.antt`) of what each line reports (`specs/Notes.antt`). A hole stands between two events of a
-//!   CPU, if a line between them reports a loss: several lines there are one hole. `finish` has the counts of
-//!   the kernel's header too. Fails only for memory. Lets through: running out of memory at any time.
+//!   CPU, if a line between them reports a loss: several lines there are one hole. If only the header says that
+//!   events were overwritten, and no line says of which CPUs, each CPU that begins after another one has a hole before its
+//!   first event. `finish` has the counts of the kernel's header too. Fails only for memory. Lets through:
+//!   running out of memory at any time.
+//! - `Losses::is_open`, `join`: a part that was read apart, from `Losses::new` on, keeps, joined to what the lines before
+//!   it report, what its lines report behind those, if no hole has begun before it that has not ended: `Joins`
+//!   (`specs/Joining.antt`). `join` fails only for memory. Lets through: running out of memory at any time; what is
+//!   kept then.
 //! - `Doubts::of`, `holes`: an index of holes is seen as the list of these holes, in their order. Fails
 //!   only for memory. Lets through: running out of memory at any time.
 //! - `Doubts::doubt`: how sure a wait from a place to another is; exact, `doubt` (`specs/Doubt.antt`). Any
@@ -35,7 +41,9 @@ mod doubt;
 mod ending;
 mod hole;
 mod index;
+mod joining;
 mod lanes;
+mod late;
 mod losses;
 mod reading;
 mod stretches;

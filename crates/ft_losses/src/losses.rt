@@ -2,7 +2,7 @@
 
 ghost use Rattle.std.specs.Prelude.{◌≡◌, vec_len};
 
-use crate::hole::{Buffers, Hole, Loss};
+use crate::hole::{Beginning, Buffers, Hole, Loss};
 use crate::lanes::Lane;
 
 /// Where events were lost, by the lines so far.
@@ -12,15 +12,16 @@ pub struct Losses {
     pub(crate) lanes: Vec<Lane>,
     /// The holes that an event ended.
     pub(crate) ended: Vec<Hole>,
-    /// What the kernel's header counts.
-    pub(crate) buffers: Option<Buffers>,
+    /// What lines report of how the buffers begin.
+    pub(crate) begins: Beginning,
     ghost all_cpus: { vec_len lanes ≡ 8192 },
 }
 
 /// Where events were lost in a text.
 #[derive(Drop)]
 pub struct LossesRead {
-    /// The holes: those that an event ended, the first one first, and those that last to the end, by CPU.
+    /// The holes: those of CPUs that begin late, by CPU, if only the header says that events were overwritten; those that
+    /// an event ended, the first one first; and those that last to the end, by CPU.
     pub holes: Vec<Hole>,
     /// How many events the kernel's buffers held of those that were written, if the text has its header.
     pub buffers: Option<Buffers>,

@@ -8,7 +8,7 @@ ghost use Rattle.ft_losses.specs.Notes.{Note, Passed, Marked, quiet_note};
 ghost use Rattle.ft_losses.specs.Telling.{Keeps};
 ghost use Rattle.ft_losses.specs.inner.Lanes.{lane_in, with_loss, with_overwritten};
 
-use crate::hole::{Buffers, Hole, Loss};
+use crate::hole::{Beginning, Buffers, Header, Hole, Loss};
 use crate::lanes::{Lane, lane_of, no_lanes, put_lane};
 use crate::losses::Losses;
 use ft_event::Mark;
@@ -95,7 +95,10 @@ impl Losses {
         Ok(Losses {
             lanes: no_lanes(alloc)?,
             ended: Vec::new(alloc),
-            buffers: None,
+            begins: Beginning {
+                header: None,
+                is_marked: false,
+            },
         })
     }
 
@@ -108,6 +111,7 @@ impl Losses {
         let lane = lane_of(&self.lanes, event.cpu);
         add_hole(&mut self.ended, event.cpu, lane, Some(event.stamp))?;
         let passed = Lane {
+            first: Some(lane.first.unwrap_or(event.stamp)),
             last: Some(event.stamp),
             lost: None,
             overwritten: lane.overwritten,
@@ -123,11 +127,15 @@ impl Losses {
     {
         match mark {
             Mark::Lost { cpu, count } => report(&mut self.lanes, cpu, line, count),
-            Mark::Started { cpu } => report(&mut self.lanes, cpu, line, None),
+            Mark::Started { cpu } => {
+                self.begins.is_marked = true;
+                report(&mut self.lanes, cpu, line, None);
+            }
             Mark::Overwritten { cpu, count } => overwrite(&mut self.lanes, cpu, count),
             Mark::Written { held, written } => {
                 let buffers = Buffers { held, written };
-                self.buffers = Some(self.buffers.unwrap_or(buffers));
+                let header = Header { line, buffers };
+                self.begins.header = Some(self.begins.header.unwrap_or(header));
             }
         }
     }

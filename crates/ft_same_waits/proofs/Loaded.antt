@@ -55,7 +55,7 @@ placed_events : List Traced → List (Pos × Traced)
 placed_events [] = []
 placed_events (e ∷ before) = (place_after before e, e) ∷ placed_events before
 
-acts-placed : (events : List Traced) → acts_of events ≡ filter_map placed_act (placed_events events)
+acts-placed : (events : List Traced) → acts_of [] events ≡ filter_map placed_act (placed_events events)
 unfolding acts_of placed_events
 acts-placed [] = refl
 acts-placed (e ∷ before) = ap (λ (acts : List (Pos × Act)). act_at (place_after before e) (act_of e.body) ++ acts) (acts-placed before)
@@ -229,7 +229,7 @@ merged-is : (events : List Traced) → merged (lanes_after events) ≡ map.from_
 merged-is events = same_map pos_cmp_total pos_same _ _ (λ pos. merged_at pos (lanes_after events) ∙ held-is events pos ∙ sym (get-from_entries pos_cmp_total (placed_events events) pos))
 
 -- the dispatches of events that are loaded are those that they tell in order
-pub same_told : (events : List Traced) → dispatches_held (loaded events) ≡ dispatches (reverse (in_order (acts_of events)))
+pub same_told : (events : List Traced) → dispatches_held (loaded events) ≡ dispatches (reverse (in_order (acts_of [] events)))
 same_told events =
     ap (λ (m : Events). dispatches (reverse (filter_map placed_act (map.entries m)))) (ap merged (loaded-is events) ∙ merged-is events)
     ∙ ap (λ (acts : List (Pos × Act)). dispatches (reverse acts))

@@ -87,7 +87,7 @@ then-lanes base new (Ok events) count told so is = load-lanes base new events co
 then-lanes base new (Err refused) count told so is = cc
 
 -- the dispatches of a text that a desk has loaded
-pub same_loaded : (base new : Base) (text : List ℕ) (count : ℕ) → base.lanes ≡ map.empty → after_load_text base text ≡ Ok (new, count) → dispatches_held new.lanes ≡ dispatches_in text
+pub same_loaded : (base new : Base) (text : List ℕ) (count : ℕ) → base.lanes ≡ map.empty → after_load_text base text ≡ Ok (new, count) → dispatches_held new.lanes ≡ dispatches_in [] text
 unfolding after_load_text
 same_loaded base new text count none is =
     let told = reverse (events_of (history text)) in

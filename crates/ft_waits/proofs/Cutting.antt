@@ -36,7 +36,7 @@ unless true x y h = absurd (cc)
 unless false x y h = refl
 
 -- a line without a byte 10, in front of one
-lines_of-line : (line rest : List ℕ) → list_any (λ b. b == 10) line ≡ false → lines_of (line ++ 10 ∷ rest) ≡ line ∷ lines_of rest
+pub lines_of-line : (line rest : List ℕ) → list_any (λ b. b == 10) line ≡ false → lines_of (line ++ 10 ∷ rest) ≡ line ∷ lines_of rest
 lines_of-line [] rest plain = refl
 lines_of-line (b ∷ line) rest plain =
     unless (b == 10) ([] ∷ lines_of (line ++ 10 ∷ rest)) (onto_first b (lines_of (line ++ 10 ∷ rest))) (or-left (b == 10) (list_any (λ b. b == 10) line) plain)

@@ -5,9 +5,11 @@ use Rattle.std.proofs.lemmas.List.{map-append}
 use Rattle.std.proofs.lemmas.List.Sums.{sum_by-append}
 use Rattle.ft_fields.specs.Traced.{Traced, last_cpu}
 use Rattle.ft_fields.specs.declared.pos.Pos.{Pos}
-use Rattle.ft_dispatch.specs.Acts.{Act, act_of}
+use Rattle.ft_dispatch.specs.Acts.{Act}
+use Rattle.ft_waits.specs.LeftOut.{act_without}
 use Rattle.ft_waits.specs.Moving.{count_of, moved, act_moved}
 use Rattle.ft_waits.specs.Reading.{place_after, act_at, acts_of, CountsEvents}
+use Rattle.ft_waits.specs.declared.left_out.Without.{Without}
 
 -- the place of an event of a part
 pub place-moved : (part before : List Traced) (event : Traced) → place_after (part ++ before) event ≡ moved (count_of before) (place_after part event)
@@ -22,17 +24,18 @@ said-moved counts place None = refl
 said-moved counts place (Some act) = refl
 
 -- what a part and the events before it say
-pub acts-moved : (part before : List Traced) → acts_of (part ++ before) ≡ list_map (act_moved (count_of before)) (acts_of part) ++ acts_of before
+pub acts-moved : (without : List Without) (part before : List Traced) → acts_of without (part ++ before) ≡ list_map (act_moved (count_of before)) (acts_of without part) ++ acts_of without before
 unfolding acts_of
-acts-moved [] before = refl
-acts-moved (event ∷ part) before =
+acts-moved without [] before = refl
+acts-moved without (event ∷ part) before =
     let move = act_moved (count_of before) in
-    let own = act_at (place_after part event) (act_of event.body) in
-    ap (λ (place : Pos). act_at place (act_of event.body) ++ acts_of (part ++ before)) (place-moved part before event)
-    ∙ ap (λ (es : List (Pos × Act)). es ++ acts_of (part ++ before)) (said-moved (count_of before) (place_after part event) (act_of event.body))
-    ∙ ap (λ (es : List (Pos × Act)). list_map move own ++ es) (acts-moved part before)
-    ∙ sym (append_assoc (list_map move own) (list_map move (acts_of part)) (acts_of before))
-    ∙ ap (λ (es : List (Pos × Act)). es ++ acts_of before) (sym (map-append move own (acts_of part)))
+    let act = act_without without event in
+    let own = act_at (place_after part event) act in
+    ap (λ (place : Pos). act_at place act ++ acts_of without (part ++ before)) (place-moved part before event)
+    ∙ ap (λ (es : List (Pos × Act)). es ++ acts_of without (part ++ before)) (said-moved (count_of before) (place_after part event) act)
+    ∙ ap (λ (es : List (Pos × Act)). list_map move own ++ es) (acts-moved without part before)
+    ∙ sym (append_assoc (list_map move own) (list_map move (acts_of without part)) (acts_of without before))
+    ∙ ap (λ (es : List (Pos × Act)). es ++ acts_of without before) (sym (map-append move own (acts_of without part)))
 
 -- the same by counts that are kept
 pub place-by-counts : (counts : List ℕ) (before part : List Traced) (event : Traced) → CountsEvents counts before → event.cpu ≤ last_cpu → moved (slice_index counts) (place_after part event) ≡ place_after (part ++ before) event

@@ -32,7 +32,7 @@ one-more : (b : Bool) (place : Pos) (missing : Missing) (n : ℕ) → missing.sw
 one-more false place missing n most = omega (arith, most)
 one-more true place missing n most = omega (arith, most)
 
-at-most : (events : List Traced) → (missing_in events).switches ≤ length events
+pub at-most : (events : List Traced) → (missing_in events).switches ≤ length events
 unfolding missing_in
 at-most [] = omega arith
 at-most (e ∷ before) = one-more (is_other (running e.cpu before) e.pid) (place_after before e) (missing_in before) (length before) (at-most before)

@@ -23,10 +23,11 @@ use Rattle.ft_dispatch.specs.Acts.{Act}
 use Rattle.ft_waits.specs.Reading.{act_at, in_order}
 use Rattle.ft_dispatch.specs.Dispatches.{dispatches}
 use Rattle.ft_dispatch.specs.Telling.{entry_of, entries_of, Tells}
-use Rattle.ft_waits.specs.inner.Known.{Settles, Orders}
+use Rattle.ft_waits.specs.inner.Known.{Settles, Orders, SumsTell}
 use Rattle.ft_dispatch.specs.declared.dispatch.Dispatch.{Dispatch}
 use Rattle.ft_dispatch.specs.declared.act.PlacedAct.{PlacedAct}
 use Rattle.ft_dispatch.specs.declared.tasks.Tasks.{Tasks}
+use Rattle.ft_summary.specs.declared.summary.Summary.{Summary}
 
 -- ---- lists
 
@@ -34,11 +35,11 @@ pub all-append : {X : Type 0} (Q : X → Type 0) (xs ys : List X) → AllByRecur
 all-append Q [] ys p q = q
 all-append Q (x ∷ xs) ys p q = (p.0, all-append Q xs ys p.1 q)
 
-all-map : {X : Type 0} (P Q : X → Type 0) → ((x : X) → P x → Q x) → (xs : List X) → AllByRecursion P xs → AllByRecursion Q xs
+pub all-map : {X : Type 0} (P Q : X → Type 0) → ((x : X) → P x → Q x) → (xs : List X) → AllByRecursion P xs → AllByRecursion Q xs
 all-map P Q f [] h = tt
 all-map P Q f (x ∷ xs) h = (f x h.0, all-map P Q f xs h.1)
 
-at-keys : (P : Pos → Type 0) (es : List (Pos × Act)) → AllByRecursion (λ e. P e.0) es → AllByRecursion P (keys_of es)
+pub at-keys : (P : Pos → Type 0) (es : List (Pos × Act)) → AllByRecursion (λ e. P e.0) es → AllByRecursion P (keys_of es)
 at-keys P [] h = tt
 at-keys P (e ∷ es) h = (h.0, at-keys P es h.1)
 
@@ -47,17 +48,17 @@ unfolding IsDistinct
 distinct-end [] ys h = h
 distinct-end (x ∷ xs) ys h = distinct-end xs ys h.1
 
-strict-append : (xs ys : List Pos) → IsStrictlySortedBy pos_cmp xs → IsStrictlySortedBy pos_cmp ys → AllByRecursion (λ x. AllByRecursion (λ y. pos_cmp x y ≡ Less) ys) xs → IsStrictlySortedBy pos_cmp (xs ++ ys)
+pub strict-append : (xs ys : List Pos) → IsStrictlySortedBy pos_cmp xs → IsStrictlySortedBy pos_cmp ys → AllByRecursion (λ x. AllByRecursion (λ y. pos_cmp x y ≡ Less) ys) xs → IsStrictlySortedBy pos_cmp (xs ++ ys)
 unfolding IsStrictlySortedBy
 strict-append [] ys one other below = other
 strict-append (x ∷ xs) ys one other below = (all-append (λ y. pos_cmp x y ≡ Less) xs ys one.0 below.0, strict-append xs ys one.1 other below.1)
 
-keys-append : (xs ys : List (Pos × Act)) → keys_of (xs ++ ys) ≡ keys_of xs ++ keys_of ys
+pub keys-append : (xs ys : List (Pos × Act)) → keys_of (xs ++ ys) ≡ keys_of xs ++ keys_of ys
 keys-append [] ys = refl
 keys-append (x ∷ xs) ys = ap (λ ks. x.0 ∷ ks) (keys-append xs ys)
 
 -- a place of an earlier stamp comes first
-earlier-first : (p q : Pos) → p.stamp < q.stamp → pos_cmp p q ≡ Less
+pub earlier-first : (p q : Pos) → p.stamp < q.stamp → pos_cmp p q ≡ Less
 earlier-first p q low = ap (λ (o : Ordering). ordering_then o (ordering_then (nat_cmp p.cpu q.cpu) (nat_cmp p.line q.line))) (sym (nat_cmp_is p.stamp q.stamp Less low))
 
 -- those of earlier stamps come before those of a later one
@@ -83,7 +84,7 @@ keys-sorted (x ∷ held) up = λ k d low inside.
     (λ i. is_lt (pos_cmp (next i) (at i))) ∙ up k x low within
 
 -- acts at different places have one order, whichever they came in
-entries-moved : (xs ys : List (Pos × Act)) → IsPermutation xs ys → IsDistinct (eq_by_cmp pos_cmp) (keys_of xs) → IsStrictlySortedBy pos_cmp (keys_of ys) → ys ≡ in_order xs
+pub entries-moved : (xs ys : List (Pos × Act)) → IsPermutation xs ys → IsDistinct (eq_by_cmp pos_cmp) (keys_of xs) → IsStrictlySortedBy pos_cmp (keys_of ys) → ys ≡ in_order xs
 entries-moved xs ys moved distinct sorted =
     sym (entries-from_entries pos_cmp_total ys sorted)
     ∙ ap map.entries (same_map pos_cmp_total pos_same (map.from_entries ys) (map.from_entries xs) (λ q.
@@ -92,9 +93,9 @@ entries-moved xs ys moved distinct sorted =
     ∙ sym (get-from_entries pos_cmp_total xs q)))
 
 -- the acts of a microsecond are taken where a later one begins
-pub settled : (old new : Tasks) (held : List PlacedAct) (latest stamp : ℕ) (acts : List (Pos × Act)) (told out out_now : List Dispatch)
-    → latest < stamp → Settles held old out new out_now → Orders old held latest acts (told ++ out) → Orders new [] stamp acts (told ++ out_now)
-settled old new held latest stamp acts told out out_now later settles orders =
+pub settled : (old new : Tasks) (sums sums_now : Option Summary) (held : List PlacedAct) (latest stamp : ℕ) (acts : List (Pos × Act)) (told out out_now : List Dispatch)
+    → latest < stamp → Settles held old sums out new sums_now out_now → Orders old sums held latest acts (told ++ out) → Orders new sums_now [] stamp acts (told ++ out_now)
+settled old new sums sums_now held latest stamp acts told out out_now later settles orders =
     let now : List (Pos × Act) = entries_of settles.ordered in
     let done : List (Pos × Act) = orders.done ++ now in
     let moved : IsPermutation (entries_of held) now = IsPermutation-map entry_of held settles.ordered settles.moved in
@@ -114,13 +115,14 @@ settled old new held latest stamp acts told out out_now later settles orders =
       all = subst (IsPermutation acts) (sym (append-nil done)) all;
       distinct = orders.distinct;
       tells = subst (λ (before : List (Pos × Act)). Tells new before (told ++ out_now)) (sym (reverse-append orders.done now)) (settles.takes (reverse orders.done) told orders.tells);
+      sums = subst (λ (before : List (Pos × Act)). SumsTell sums_now before) (sym (reverse-append orders.done now)) (settles.sums.takes (reverse orders.done) orders.sums);
     }
 
 -- one act more is held, if there is one
-pub held-more : (tasks : Tasks) (old new : List PlacedAct) (stamp : ℕ) (place : Pos) (act : Option Act) (acts : List (Pos × Act)) (told : List Dispatch)
+pub held-more : (tasks : Tasks) (sums : Option Summary) (old new : List PlacedAct) (stamp : ℕ) (place : Pos) (act : Option Act) (acts : List (Pos × Act)) (told : List Dispatch)
     → entries_of new ≡ entries_of old ++ act_at place act → place.stamp ≡ stamp → IsDistinct (eq_by_cmp pos_cmp) (keys_of (act_at place act ++ acts))
-    → Orders tasks old stamp acts told → Orders tasks new stamp (act_at place act ++ acts) told
-held-more tasks old new stamp place act acts told is at distinct orders =
+    → Orders tasks sums old stamp acts told → Orders tasks sums new stamp (act_at place act ++ acts) told
+held-more tasks sums old new stamp place act acts told is at distinct orders =
     let more : List (Pos × Act) = act_at place act in
     let one : (act : Option Act) → AllByRecursion (λ (e : Pos × Act). e.0.stamp ≡ stamp) (act_at place act) = one_at stamp place at in
     record {
@@ -132,6 +134,7 @@ held-more tasks old new stamp place act acts told is at distinct orders =
           (IsPermutation-trans _ _ _ (IsPermutation-append_comm more acts) (IsPermutation-append_left more acts (orders.done ++ entries_of old) orders.all));
       distinct = distinct;
       tells = orders.tells;
+      sums = orders.sums;
     }
   where
     one_at : (stamp : ℕ) (place : Pos) → place.stamp ≡ stamp → (act : Option Act) → AllByRecursion (λ (e : Pos × Act). e.0.stamp ≡ stamp) (act_at place act)
@@ -139,15 +142,16 @@ held-more tasks old new stamp place act acts told is at distinct orders =
     one_at stamp place at (Some act) = (at, tt)
 
 -- at the end all acts are taken in order
-pub all-settled : (old new : Tasks) (held : List PlacedAct) (latest : ℕ) (acts : List (Pos × Act)) (told out out_now : List Dispatch)
-    → Settles held old out new out_now → Orders old held latest acts (told ++ out) → told ++ out_now ≡ dispatches (reverse (in_order acts))
-all-settled old new held latest acts told out out_now settles orders =
-    let last = settled old new held latest (suc latest) acts told out out_now (omega arith) settles orders in
+pub all-settled : (old new : Tasks) (sums sums_now : Option Summary) (held : List PlacedAct) (latest : ℕ) (acts : List (Pos × Act)) (told out out_now : List Dispatch)
+    → Settles held old sums out new sums_now out_now → Orders old sums held latest acts (told ++ out) → (told ++ out_now ≡ dispatches (reverse (in_order acts))) × SumsTell sums_now (reverse (in_order acts))
+all-settled old new sums sums_now held latest acts told out out_now settles orders =
+    let last = settled old new sums sums_now held latest (suc latest) acts told out out_now (omega arith) settles orders in
     let all : IsPermutation acts last.done = subst (IsPermutation acts) (append-nil last.done) last.all in
-    last.tells.tells ∙ ap (λ (es : List (Pos × Act)). dispatches (reverse es)) (entries-moved acts last.done all orders.distinct last.sorted)
+    let same = entries-moved acts last.done all orders.distinct last.sorted in
+    (last.tells.tells ∙ ap (λ (es : List (Pos × Act)). dispatches (reverse es)) same, subst (λ (es : List (Pos × Act)). SumsTell sums_now (reverse es)) same last.sums)
 
 -- no acts
-pub orders-nothing : (tasks : Tasks) (held : List PlacedAct) → held ≡ [] → Tells tasks [] [] → Orders tasks held 0 [] []
+pub orders-nothing : (tasks : Tasks) (held : List PlacedAct) → held ≡ [] → Tells tasks [] [] → Orders tasks None held 0 [] []
 unfolding IsDistinct IsStrictlySortedBy
 orders-nothing tasks held none tells = record {
   done = [];
@@ -157,4 +161,5 @@ orders-nothing tasks held none tells = record {
   all = subst (λ (h : List PlacedAct). IsPermutation [] (entries_of h)) (sym none) (IsPermutation-refl []);
   distinct = tt;
   tells = tells;
+  sums = tt;
 }

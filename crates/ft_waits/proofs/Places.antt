@@ -9,8 +9,10 @@ use Rattle.ft_maps.specs.Entries.{same_from_tie}
 use Rattle.ft_fields.specs.Traced.{Traced}
 use Rattle.ft_fields.specs.Places.{pos_cmp, pos_same}
 use Rattle.ft_fields.specs.declared.pos.Pos.{Pos}
-use Rattle.ft_dispatch.specs.Acts.{Act, act_of}
+use Rattle.ft_dispatch.specs.Acts.{Act}
+use Rattle.ft_waits.specs.LeftOut.{act_without}
 use Rattle.ft_waits.specs.Reading.{place_after, act_at, acts_of}
+use Rattle.ft_waits.specs.declared.left_out.Without.{Without}
 use Rattle.ft_waits.proofs.Counting.{of_cpu, of_own, of_more}
 
 -- an act's line is at most the number of its CPU's events
@@ -30,10 +32,10 @@ with-act e before (Some act) acts h =
     let own = of_own e e.cpu before refl in
     (omega (arith, own), h)
 
-all-within : (events : List Traced) → AllByRecursion (IsWithin events) (acts_of events)
+all-within : (without : List Without) (events : List Traced) → AllByRecursion (IsWithin events) (acts_of without events)
 unfolding acts_of
-all-within [] = tt
-all-within (e ∷ before) = with-act e before (act_of e.body) (acts_of before) (later e before (acts_of before) (all-within before))
+all-within without [] = tt
+all-within without (e ∷ before) = with-act e before (act_without without e) (acts_of without before) (later e before (acts_of without before) (all-within without before))
 
 -- a place past all of its CPU's is another one
 apart : (place : Pos) (x : Pos) (n : ℕ) → place.line ≡ suc n → (place ≡ x → x.line ≤ n) → eq_by_cmp pos_cmp place x ≡ false
@@ -54,7 +56,8 @@ with-distinct place None acts h distinct = distinct
 with-distinct place (Some act) acts h distinct = (h, distinct)
 
 -- the places of acts differ
-pub acts-distinct : (events : List Traced) → IsDistinct (eq_by_cmp pos_cmp) (keys_of (acts_of events))
+pub acts-distinct : (without : List Without) (events : List Traced) → IsDistinct (eq_by_cmp pos_cmp) (keys_of (acts_of without events))
 unfolding acts_of IsDistinct
-acts-distinct [] = tt
-acts-distinct (e ∷ before) = with-distinct (place_after before e) (act_of e.body) (acts_of before) (past e before (acts_of before) (all-within before)) (acts-distinct before)
+acts-distinct without [] = tt
+acts-distinct without (e ∷ before) =
+    with-distinct (place_after before e) (act_without without e) (acts_of without before) (past e before (acts_of without before) (all-within without before)) (acts-distinct without before)

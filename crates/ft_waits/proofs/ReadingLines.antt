@@ -80,7 +80,7 @@ all-fit (line ∷ before) = events-fit (line_of line) (events_of before) (length
 -- ---- a line is read
 
 -- each line reports one thing
-as-many : (lines : List (List ℕ)) (notes : List Note) → AreNotes lines notes → length notes ≡ length lines
+pub as-many : (lines : List (List ℕ)) (notes : List Note) → AreNotes lines notes → length notes ≡ length lines
 as-many [] notes none = ap length none
 as-many (line ∷ before) [] wrong = absurd wrong
 as-many (line ∷ before) (note ∷ notes) are = ap suc (as-many before notes are.1)

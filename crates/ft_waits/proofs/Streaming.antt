@@ -1,5 +1,5 @@
 -- One piece more is read.
-use Rattle.std.specs.Prelude.{◌≡◌, ◌==◌, ◌<◌, ◌-◌, ◌+◌, ℕ, false, List, [], ◌∷◌, ◌++◌, length, take, Option, Some, None}
+use Rattle.std.specs.Prelude.{◌≡◌, ◌==◌, ◌<◌, ◌-◌, ◌+◌, ℕ, false, List, [], ◌∷◌, ◌++◌, length, take, Option, Some, None, Result, Ok, Err, OnOk}
 use Rattle.std.specs.List.{list_any}
 use Rattle.std.proofs.Common.{refl, sym, ap, subst, ◌∙◌, append_assoc, arith, inl, inr, drop}
 use Rattle.std.proofs.lemmas.Bool.{cases_lt}
@@ -7,6 +7,7 @@ use Rattle.std.proofs.lemmas.List.{append-nil, take_all, length-take, take-appen
 use Rattle.std.proofs.lemmas.List.Folds.{list_any-append}
 use Rattle.std.proofs.Math.Seq.{take-append-add}
 use Rattle.ft_event.specs.Line.{line_of}
+use Rattle.ft_waits.specs.Choice.{Choice}
 use Rattle.ft_waits.specs.Reading.{history, FailsAt, Fails}
 use Rattle.ft_waits.specs.Streams.{HasRead, HasReadBy}
 use Rattle.ft_dispatch.specs.declared.dispatch.Dispatch.{Dispatch}
@@ -62,10 +63,10 @@ pub still-plain : (rest piece : List ℕ) → list_any (λ b. b == 10) rest ≡ 
 still-plain rest piece one other = list_any-append (λ b. b == 10) rest piece ∙ or-both (list_any (λ b. b == 10) rest) (list_any (λ b. b == 10) piece) one other
 
 -- a piece in which no line ends
-pub reads-piece : (policy : BadLines) (reading : Reading) (old new text piece : List ℕ) (told : List Dispatch)
-    → list_any (λ b. b == 10) piece ≡ false → new ≡ old ++ take (room - length old) piece → Reads policy reading old text told → Reads policy reading new (text ++ piece) told
-reads-piece policy reading old new text piece told plain is reads = record {
-  by_policy = reads.by_policy;
+pub reads-piece : (choice : Choice) (reading : Reading) (old new text piece : List ℕ) (told : List Dispatch)
+    → list_any (λ b. b == 10) piece ≡ false → new ≡ old ++ take (room - length old) piece → Reads choice reading old text told → Reads choice reading new (text ++ piece) told
+reads-piece choice reading old new text piece told plain is reads = record {
+  by_choice = reads.by_choice;
   lines = reads.lines;
   rest = reads.rest ++ piece;
   cuts = cuts-piece text reads.lines reads.rest piece reads.cuts;
@@ -75,25 +76,30 @@ reads-piece policy reading old new text piece told plain is reads = record {
 }
 
 -- a piece in which one ends: the line, and how the text is cut behind it
-pub ends-here : (policy : BadLines) (reading : Reading) (old text piece front behind : List ℕ) (told : List Dispatch) (reads : Reads policy reading old text told)
+pub ends-here : (choice : Choice) (reading : Reading) (old text piece front behind : List ℕ) (told : List Dispatch) (reads : Reads choice reading old text told)
     → piece ≡ front ++ 10 ∷ behind → list_any (λ b. b == 10) front ≡ false → Cuts (text ++ piece) ((reads.rest ++ front) ∷ reads.lines) behind
-ends-here policy reading old text piece front behind told reads cut plain =
+ends-here choice reading old text piece front behind told reads cut plain =
     cuts-line (text ++ piece) reads.lines (reads.rest ++ front) behind (still-plain reads.rest front reads.unbroken plain)
     (subst (λ (r : List ℕ). Cuts (text ++ piece) reads.lines r) (ap (λ (p : List ℕ). reads.rest ++ p) cut ∙ sym (append_assoc reads.rest front (10 ∷ behind))) (cuts-piece text reads.lines reads.rest piece reads.cuts))
 
 -- what is kept of the line reads as the line
-pub reads-alike : (policy : BadLines) (reading : Reading) (old new text front : List ℕ) (told : List Dispatch) (reads : Reads policy reading old text told)
+pub reads-alike : (choice : Choice) (reading : Reading) (old new text front : List ℕ) (told : List Dispatch) (reads : Reads choice reading old text told)
     → new ≡ old ++ take (room - length old) front → IsLike new (reads.rest ++ front)
-reads-alike policy reading old new text front told reads is =
+reads-alike choice reading old new text front told reads is =
     subst (λ (kept : List ℕ). IsLike kept (reads.rest ++ front)) (sym (is ∙ ap (λ (r : List ℕ). r ++ take (room - length r) front) reads.kept ∙ kept-more reads.rest front)) (like-kept (reads.rest ++ front))
 
 -- ---- the whole stream
 
-pub read-failed : (policy : BadLines) (waits : Waits) (text : List ℕ) (told : List Dispatch) (fault : WaitsFault) → waits.failed ≡ Some fault → HasRead policy waits text told → Fails policy text fault
-read-failed policy waits text told fault is read = subst (λ (o : Option WaitsFault). HasReadBy o policy waits text told) is read
+-- two facts of a success
+pub on_ok_both : {T E P Q S : Type 0} (r : Result T E) → (P → Q → S) → OnOk r P → OnOk r Q → OnOk r S
+on_ok_both (Ok x) f p q = f p q
+on_ok_both (Err e) f p q = tt
 
-pub read-well : (policy : BadLines) (waits : Waits) (text : List ℕ) (told : List Dispatch) → waits.failed ≡ None → HasRead policy waits text told → Reads policy waits.reading waits.unended.items text told
-read-well policy waits text told is read = subst (λ (o : Option WaitsFault). HasReadBy o policy waits text told) is read
+pub read-failed : (choice : Choice) (waits : Waits) (text : List ℕ) (told : List Dispatch) (fault : WaitsFault) → waits.failed ≡ Some fault → HasRead choice waits text told → Fails choice.bad_lines text fault
+read-failed choice waits text told fault is read = subst (λ (o : Option WaitsFault). HasReadBy o choice waits text told) is read
+
+pub read-well : (choice : Choice) (waits : Waits) (text : List ℕ) (told : List Dispatch) → waits.failed ≡ None → HasRead choice waits text told → Reads choice waits.reading waits.unended.items text told
+read-well choice waits text told is read = subst (λ (o : Option WaitsFault). HasReadBy o choice waits text told) is read
 
 -- a text that is refused stays so
 pub fails-on : (policy : BadLines) (text piece : List ℕ) (fault : WaitsFault) → Fails policy text fault → Fails policy (text ++ piece) fault

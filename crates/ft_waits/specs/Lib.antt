@@ -1,5 +1,9 @@
+pub mod Choice
+pub mod LeftOut
 pub mod Reading
 pub mod Missing
 pub mod Moving
 pub mod Streams
+pub mod Joining
+pub mod Summing
 pub mod inner

@@ -10,8 +10,8 @@ use Rattle.ft_event.specs.declared.fault.Line.{Line}
 use Rattle.ft_event.specs.declared.fault.Line.TheVariants as lines
 use Rattle.ft_event.specs.declared.fault.LineFault.{LineFault}
 use Rattle.ft_event.specs.Line.{line_of}
-use Rattle.ft_script.specs.Lines.{lines_of}
-use Rattle.ft_dispatch.specs.Acts.{Act, act_of}
+use Rattle.ft_script.specs.Lines.{lines_of, ended_lines}
+use Rattle.ft_dispatch.specs.Acts.{Act}
 use Rattle.ft_dispatch.specs.Dispatches.{dispatches}
 use Rattle.ft_dispatch.specs.declared.dispatch.Dispatch.{Dispatch}
 use Rattle.ft_waits.specs.declared.fault.BadLine.{BadLine}
@@ -20,6 +20,8 @@ use Rattle.ft_waits.specs.declared.fault.BadLines.TheVariants as policies
 use Rattle.ft_waits.specs.declared.fault.LinesRead.{LinesRead}
 use Rattle.ft_waits.specs.declared.fault.WaitsFault.{WaitsFault}
 use Rattle.ft_waits.specs.declared.fault.WaitsFault.TheVariants as faults
+use Rattle.ft_waits.specs.declared.left_out.Without.{Without}
+use Rattle.ft_waits.specs.LeftOut.{act_without}
 
 -- ---- the events of lines
 
@@ -43,10 +45,10 @@ abbrev pub act_at : Pos → Option Act → List (Pos × Act)
 act_at place None = []
 act_at place (Some act) = (place, act) ∷ []
 
--- what events say of who runs, each act at its event's place
-unfoldable pub acts_of : List Traced → List (Pos × Act)
-acts_of [] = []
-acts_of (event ∷ before) = act_at (place_after before event) (act_of event.body) ++ acts_of before
+-- what events say of who runs, each act at its event's place; those that are left out say nothing, and have their places
+unfoldable pub acts_of : List Without → List Traced → List (Pos × Act)
+acts_of without [] = []
+acts_of without (event ∷ before) = act_at (place_after before event) (act_without without event) ++ acts_of without before
 
 -- the acts in the order of their places: by stamp, CPU and line
 abbrev pub in_order : List (Pos × Act) → List (Pos × Act)
@@ -58,13 +60,17 @@ in_order acts = map.entries (map.from_entries {R = pos_cmp} acts)
 abbrev pub history : List ℕ → List (List ℕ)
 history text = reverse (lines_of text)
 
--- the dispatches of lines
-abbrev pub dispatches_of_lines : List (List ℕ) → List Dispatch
-dispatches_of_lines lines = dispatches (reverse (in_order (acts_of (events_of lines))))
+-- its lines that have ended, newest first
+abbrev pub history_so_far : List ℕ → List (List ℕ)
+history_so_far text = reverse (ended_lines text)
 
--- the dispatches of a trace text
-abbrev pub dispatches_in : List ℕ → List Dispatch
-dispatches_in text = dispatches_of_lines (history text)
+-- the dispatches of lines, without some of their events
+abbrev pub dispatches_of_lines : List Without → List (List ℕ) → List Dispatch
+dispatches_of_lines without lines = dispatches (reverse (in_order (acts_of without (events_of lines))))
+
+-- the dispatches of a trace text, without some of its events
+abbrev pub dispatches_in : List Without → List ℕ → List Dispatch
+dispatches_in without text = dispatches_of_lines without (history text)
 
 -- ---- what was read
 

@@ -1,3 +1,6 @@
 pub mod Known
 pub mod Running
 pub mod Streams
+pub mod Starts
+pub mod Seams
+pub mod Lines

@@ -1,20 +1,24 @@
 //! One event after the other.
 
-ghost use Rattle.std.specs.Prelude.{◌≡◌, ◌≤◌, ◌++◌, ◌∷◌, [], List, reverse, OnOk, IfOk, IfErr, vec_len, ◌⊎◌};
+ghost use Rattle.std.specs.Prelude.{◌≡◌, ◌≤◌, ◌++◌, ◌∷◌, [], ℕ, List, None, reverse, nat_lt, is_some, OnOk, IfOk, IfErr, vec_len, ◌⊎◌};
 ghost use Rattle.ft_fields.specs.Borrowed.{event_told, owned_body};
 ghost use Rattle.ft_fields.specs.Traced.{Traced};
 ghost use Rattle.ft_dispatch.specs.Acts.{Act, act_of};
+ghost use Rattle.ft_waits.specs.LeftOut.{act_unless};
 ghost use Rattle.ft_waits.specs.Reading.{place_after, act_at, in_order, acts_of, CountsEvents};
 ghost use Rattle.ft_dispatch.specs.Dispatches.{dispatches};
-ghost use Rattle.ft_waits.specs.inner.Known.{Follows, IsNumbered, Orders};
+ghost use Rattle.ft_waits.specs.inner.Known.{Follows, IsNumbered, Orders, SumsTell, left_out_by};
 ghost use Rattle.ft_dispatch.specs.Telling.{entries_of};
 
 use crate::fault::WaitsFault;
+use crate::left_out::count_left_out;
 use crate::missing::{Missing, none_running, notice};
+use crate::starts::note_start;
 use crate::state::{CPUS, State};
 use crate::steps::settle;
 use ft_dispatch::{Dispatch, PlacedAct, Tasks};
 use ft_fields::{BodyRef, EventRef, Pos};
+use ft_summary::Summary;
 use std::alloc::{AllocError, Global};
 
 /// No events of any CPU.
@@ -51,31 +55,42 @@ fn count(lines: &mut Vec<u32>, event: &EventRef<'_>) -> Result<Pos, WaitsFault>
     })
 }
 
-/// Goes on to a stamp: the acts of an earlier one are taken in their order, and their dispatches added.
+/// Goes on to a stamp: if it is a later one, the acts of the one before are taken in their order, and
+/// their dispatches added.
 #[inline(always)]
 fn advance(
+    is_later: bool,
     tasks: &mut Tasks,
+    sums: &mut Option<Summary>,
     held: &mut Vec<PlacedAct>,
-    latest: u64,
-    stamp: u64,
     out: &mut Vec<Dispatch>,
 ) -> Result<(), AllocError>
-    requires { latest ≤ stamp }
-    ensures { OnOk result ((acts : List (Pos × Act)) (told : List Dispatch)
-        → Orders tasks.old held.old.items latest acts (told ++ out.old.items)
-        → Orders tasks.new held.new.items stamp acts (told ++ out.new.items)) }
+    ensures orders { OnOk result ((latest stamp : ℕ) → latest ≤ stamp → is_later ≡ nat_lt latest stamp
+        → (acts : List (Pos × Act)) (told : List Dispatch)
+        → Orders tasks.old sums.old held.old.items latest acts (told ++ out.old.items)
+        → Orders tasks.new sums.new held.new.items stamp acts (told ++ out.new.items)) }
+    ensures sums { OnOk result (is_some sums.new ≡ is_some sums.old) }
 {
-    if latest < stamp {
-        settle(tasks, held, out)?;
+    if is_later {
+        settle(tasks, sums, held, out)?;
     }
     Ok(())
 }
 
-/// Holds what an event says of who runs, if it says anything.
+/// Holds what an event says of who runs, if it says anything and is not left out.
 #[inline(always)]
-fn hold(held: &mut Vec<PlacedAct>, body: &BodyRef<'_>, place: Pos) -> Result<(), AllocError>
-    ensures { OnOk result (entries_of held.new.items ≡ entries_of held.old.items ++ act_at place (act_of (owned_body body.now))) }
+fn hold(
+    held: &mut Vec<PlacedAct>,
+    is_left_out: bool,
+    body: &BodyRef<'_>,
+    place: Pos,
+) -> Result<(), AllocError>
+    ensures { OnOk result (entries_of held.new.items
+        ≡ entries_of held.old.items ++ act_at place (act_unless is_left_out (act_of (owned_body body.now)))) }
 {
+    if is_left_out {
+        return Ok(());
+    }
     match PlacedAct::of(body, place) {
         Some(one) => held.push(one)?,
         None => {}
@@ -86,7 +101,9 @@ fn hold(held: &mut Vec<PlacedAct>, body: &BodyRef<'_>, place: Pos) -> Result<(),
 impl State {
     /// No events.
     pub(crate) fn new(alloc: Global) -> Result<State, AllocError>
-        ensures { IfOk result (λ state. Follows state [] []) }
+        ensures follows { IfOk result (λ state. Follows state [] []) }
+        ensures left_out { IfOk result (λ state. state.left_out.items ≡ []) }
+        ensures sums { IfOk result (λ state. state.sums ≡ None) }
     {
         Ok(State {
             lines: no_lines(alloc)?,
@@ -94,8 +111,11 @@ impl State {
             latest: 0,
             held: Vec::new(alloc),
             tasks: Tasks::new(alloc),
+            sums: None,
             running: none_running(alloc)?,
+            starts: Vec::new(alloc),
             missing: Missing::none(),
+            left_out: Vec::new(alloc),
         })
     }
 
@@ -113,14 +133,24 @@ impl State {
             → Follows self.new (event_told event.now ∷ events) (told ++ out.new.items)) }
         ensures fails { IfErr result (λ fault. (fault ≡ WaitsFault.Memory) ⊎ ((fault ≡ WaitsFault.TooLong)
             × ((events : List Traced) (told : List Dispatch) → Follows self.old events told → IsNumbered events))) }
+        ensures left_out { OnOk result (left_out_by self.new.left_out.items ≡ left_out_by self.old.left_out.items) }
+        ensures sums { OnOk result (is_some self.new.sums ≡ is_some self.old.sums) }
     {
         let place = count(&mut self.lines, event)?;
+        note_start(&mut self.starts, &self.running, &self.missing, event, place)?;
         notice(&mut self.running, &mut self.missing, event, place)?;
-        let latest = self.latest;
-        advance(&mut self.tasks, &mut self.held, latest, event.stamp, out)?;
+        let is_later = self.latest < event.stamp;
+        advance(
+            is_later,
+            &mut self.tasks,
+            &mut self.sums,
+            &mut self.held,
+            out,
+        )?;
         self.first = Some(self.first.unwrap_or(event.stamp));
         self.latest = event.stamp;
-        hold(&mut self.held, &event.body, place)?;
+        let is_left_out = count_left_out(&mut self.left_out, event)?;
+        hold(&mut self.held, is_left_out, &event.body, place)?;
         Ok(())
     }
 
@@ -128,12 +158,17 @@ impl State {
     pub(crate) fn finish(&mut self, out: &mut Vec<Dispatch>) -> Result<(), AllocError>
         ensures told { OnOk result ((events : List Traced) (told : List Dispatch)
             → Follows self.old events (told ++ out.old.items)
-            → told ++ out.new.items ≡ dispatches (reverse (in_order (acts_of events)))) }
+            → told ++ out.new.items ≡ dispatches (reverse (in_order (acts_of (left_out_by self.old.left_out.items) events)))) }
+        ensures sums { OnOk result ((events : List Traced) (told : List Dispatch)
+            → Follows self.old events (told ++ out.old.items)
+            → SumsTell self.new.sums (reverse (in_order (acts_of (left_out_by self.old.left_out.items) events)))) }
+        ensures wanted { OnOk result (is_some self.new.sums ≡ is_some self.old.sums) }
         ensures missing { self.new.missing ≡ self.old.missing }
         ensures first { self.new.first ≡ self.old.first }
         ensures latest { self.new.latest ≡ self.old.latest }
         ensures lines { self.new.lines ≡ self.old.lines }
+        ensures left_out { self.new.left_out ≡ self.old.left_out }
     {
-        settle(&mut self.tasks, &mut self.held, out)
+        settle(&mut self.tasks, &mut self.sums, &mut self.held, out)
     }
 }

@@ -1,8 +1,10 @@
 //! What was read of a text, and why it is refused.
 
+use crate::left_out::LeftOut;
 use crate::missing::Missing;
 use ft_event::LineFault;
 use ft_losses::LossesRead;
+use ft_summary::Sums;
 use std::alloc::AllocError;
 use thiserror::Error;
 
@@ -48,6 +50,10 @@ pub struct TextRead {
     pub events: Vec<u32>,
     /// The switches that are missing in it.
     pub missing: Missing,
+    /// How many events were left out.
+    pub left_out: Vec<LeftOut>,
+    /// What the acts of its events sum up to, if that was wanted.
+    pub sums: Option<Sums>,
     /// Where events were lost.
     pub losses: LossesRead,
 }
@@ -67,6 +73,17 @@ pub enum WaitsFault {
     /// The text has more than 4,294,967,295 lines.
     #[error("more than 4294967295 lines")]
     TooLong,
+}
+
+/// Why events are not left out of a stream.
+#[derive(Clone, Copy, Debug, PartialEq, Eq, Error)]
+pub enum WithoutFault {
+    /// Out of memory.
+    #[error("out of memory")]
+    Memory,
+    /// Bytes of the text were read, or the stream failed.
+    #[error("the text has begun")]
+    Late,
 }
 
 impl From<AllocError> for WaitsFault {

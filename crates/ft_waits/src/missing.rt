@@ -44,7 +44,7 @@ fn runs_after(event: &EventRef<'_>) -> i32
 
 /// Whether another task runs than the one that ran last.
 #[inline(always)]
-fn is_other(ran: Option<i32>, pid: i32) -> bool
+pub(crate) fn is_other(ran: Option<i32>, pid: i32) -> bool
     ensures { result ≡ is_other ran pid }
 {
     match ran {

@@ -3,6 +3,7 @@
 ghost use Rattle.std.specs.Prelude.{◌≡◌, ◌≤◌, ℕ, List, ◌++◌, slice_index, map as list_map};
 ghost use Rattle.ft_fields.specs.Traced.{Traced, last_cpu};
 ghost use Rattle.ft_waits.specs.Moving.{count_of, moved, moved_within, act_moved};
+ghost use Rattle.ft_waits.specs.declared.left_out.Without.{Without};
 ghost use Rattle.ft_waits.specs.Reading.{place_after, acts_of, CountsEvents};
 
 use ft_fields::Pos;
@@ -31,8 +32,9 @@ pub fn moved_place(place: Pos, counts: &[u32]) -> Option<Pos>
 pub fn places_move()
     ensures places { (part before : List Traced) (event : Traced)
         → place_after (part ++ before) event ≡ moved (count_of before) (place_after part event) }
-    ensures acts { (part before : List Traced)
-        → acts_of (part ++ before) ≡ list_map (act_moved (count_of before)) (acts_of part) ++ acts_of before }
+    ensures acts { (without : List Without) (part before : List Traced)
+        → acts_of without (part ++ before)
+        ≡ list_map (act_moved (count_of before)) (acts_of without part) ++ acts_of without before }
     ensures counts { (counts : List ℕ) (before : List Traced) (part : List Traced) (event : Traced)
         → CountsEvents counts before → event.cpu ≤ last_cpu
         → moved (slice_index counts) (place_after part event) ≡ place_after (part ++ before) event }

@@ -1,16 +1,21 @@
 //! A text that comes in pieces, and the dispatches in it.
 
-ghost use Rattle.std.specs.Prelude.{◌≡◌, ◌==◌, ◌<◌, ◌-◌, ◌++◌, ◌∷◌, [], List, ℕ, false, length, take, OnOk, OnErr, IfOk, IfErr, IfSome, IfNone, Some, option_map};
+ghost use Rattle.std.specs.Prelude.{◌≡◌, ◌==◌, ◌<◌, ◌-◌, ◌++◌, ◌∷◌, [], List, ℕ, false, length, take, OnOk, OnErr, IfOk, IfErr, IfSome, IfNone, Some, None, ◌≢◌};
 ghost use Rattle.std.specs.List.{list_any};
 ghost use Rattle.ft_event.specs.Line.{line_of};
+ghost use Rattle.ft_waits.specs.Choice.{Choice, all_events, and_sums, and_without};
 ghost use Rattle.ft_waits.specs.Reading.{history, FailsAt, Fails};
 ghost use Rattle.ft_waits.specs.Streams.{HasRead, AreDispatches};
-ghost use Rattle.ft_waits.specs.inner.Streams.{Reads, EndsLines, ReadsLines, ReadsOn, TakesLine, FailsLine, FailsIn, Cuts, room};
+ghost use Rattle.ft_waits.specs.inner.Streams.{choice_of, Reads, EndsLines, ReadsLines, ReadsOn, TakesLine, FailsLine, FailsIn, Cuts, room};
 
-use crate::fault::{BadLines, TextRead, WaitsFault};
+use crate::fault::{BadLines, TextRead, WaitsFault, WithoutFault};
+use crate::left_out::{Without, add};
 use crate::reading::Reading;
+use crate::so_far::last_stamp;
 use crate::stream::Waits;
+use crate::summing::sums_of;
 use ft_dispatch::Dispatch;
+use ft_summary::Summary;
 use memchr::memchr;
 use std::alloc::{AllocError, Global};
 
@@ -49,7 +54,7 @@ fn take_lines<'t>(
     ensures reads { IfOk result (λ rest. ReadsOn reading.old out.old.items text.now reading.new out.new.items rest.now) }
     ensures unbroken { IfOk result (λ rest. list_any (λ b. b == 10) rest.now ≡ false) }
     ensures fails { IfErr result (λ fault. FailsIn reading.old out.old.items text.now fault) }
-    ensures policy { reading.new.bad_lines ≡ reading.old.bad_lines }
+    ensures choice { OnOk result (choice_of reading.new ≡ choice_of reading.old) }
 {
     let mut rest = text;
     while let Some((line, behind)) = ended_line(rest) {
@@ -70,7 +75,7 @@ fn go_on(
     ensures unbroken { list_any (λ b. b == 10) unended.new.items ≡ false }
     ensures reads { OnOk result ((text : List ℕ) (before : List (List ℕ)) (told : List Dispatch)
         → Cuts text before part.now → ReadsLines reading.old before (told ++ out.old.items)
-        → Reads reading.old.bad_lines reading.new unended.new.items text (told ++ out.new.items)) }
+        → Reads (choice_of reading.old) reading.new unended.new.items text (told ++ out.new.items)) }
     ensures fails { IfErr result (λ fault. FailsIn reading.old out.old.items part.now fault) }
 {
     let rest = take_lines(reading, part, out)?;
@@ -87,7 +92,7 @@ fn take_unended(
     requires { list_any (λ b. b == 10) unended.old.items ≡ false }
     ensures ok { OnOk result (TakesLine unended.old.items reading.old out.old.items reading.new out.new.items) }
     ensures err { IfErr result (λ fault. FailsLine (line_of unended.old.items) reading.old fault) }
-    ensures policy { reading.new.bad_lines ≡ reading.old.bad_lines }
+    ensures choice { OnOk result (choice_of reading.new ≡ choice_of reading.old) }
     ensures none { OnOk result (unended.new.items ≡ []) }
     ensures unbroken { list_any (λ b. b == 10) unended.new.items ≡ false }
 {
@@ -105,12 +110,12 @@ fn take_piece(
 ) -> Result<(), WaitsFault>
     requires { list_any (λ b. b == 10) unended.old.items ≡ false }
     ensures unbroken { list_any (λ b. b == 10) unended.new.items ≡ false }
-    ensures reads { OnOk result ((policy : BadLines) (text : List ℕ) (told : List Dispatch)
-        → Reads policy reading.old unended.old.items text (told ++ out.old.items)
-        → Reads policy reading.new unended.new.items (text ++ piece.now) (told ++ out.new.items)) }
-    ensures fails { IfErr result (λ fault. (policy : BadLines) (text : List ℕ) (told : List Dispatch)
-        → Reads policy reading.old unended.old.items text (told ++ out.old.items)
-        → Fails policy (text ++ piece.now) fault) }
+    ensures reads { OnOk result ((choice : Choice) (text : List ℕ) (told : List Dispatch)
+        → Reads choice reading.old unended.old.items text (told ++ out.old.items)
+        → Reads choice reading.new unended.new.items (text ++ piece.now) (told ++ out.new.items)) }
+    ensures fails { IfErr result (λ fault. (choice : Choice) (text : List ℕ) (told : List Dispatch)
+        → Reads choice reading.old unended.old.items text (told ++ out.old.items)
+        → Fails choice.bad_lines (text ++ piece.now) fault) }
 {
     match ended_line(piece) {
         Some((front, behind)) => {
@@ -132,27 +137,17 @@ fn take_last(
     out: &mut Vec<Dispatch>,
 ) -> Result<(), WaitsFault>
     requires { list_any (λ b. b == 10) unended.now ≡ false }
-    ensures reads { OnOk result ((policy : BadLines) (text : List ℕ) (told : List Dispatch)
-        → Reads policy reading.old unended.now text (told ++ out.old.items)
-        → EndsLines policy reading.new text (told ++ out.new.items)) }
-    ensures fails { IfErr result (λ fault. (policy : BadLines) (text : List ℕ) (told : List Dispatch)
-        → Reads policy reading.old unended.now text (told ++ out.old.items)
-        → FailsAt policy (history text) fault) }
+    ensures reads { OnOk result ((choice : Choice) (text : List ℕ) (told : List Dispatch)
+        → Reads choice reading.old unended.now text (told ++ out.old.items)
+        → EndsLines choice reading.new text (told ++ out.new.items)) }
+    ensures fails { IfErr result (λ fault. (choice : Choice) (text : List ℕ) (told : List Dispatch)
+        → Reads choice reading.old unended.now text (told ++ out.old.items)
+        → FailsAt choice.bad_lines (history text) fault) }
 {
     if unended.is_empty() {
         return Ok(());
     }
     reading.take_line(unended, out)
-}
-
-/// The last event's stamp, if there is a first event.
-fn last_stamp(first: Option<u64>, latest: u64) -> Option<u64>
-    ensures { result ≡ option_map (λ stamp. latest) first }
-{
-    match first {
-        Some(_) => Some(latest),
-        None => None,
-    }
 }
 
 /// Ends the text: what has not ended is its last line, and its last microsecond is over.
@@ -163,12 +158,12 @@ fn end(
     out: &mut Vec<Dispatch>,
 ) -> Result<TextRead, WaitsFault>
     requires { list_any (λ b. b == 10) unended.now ≡ false }
-    ensures reads { IfOk result (λ read. (policy : BadLines) (text : List ℕ) (told : List Dispatch)
-        → Reads policy reading unended.now text (told ++ out.old.items)
-        → AreDispatches policy text (told ++ out.new.items) read) }
-    ensures fails { IfErr result (λ fault. (policy : BadLines) (text : List ℕ) (told : List Dispatch)
-        → Reads policy reading unended.now text (told ++ out.old.items)
-        → FailsAt policy (history text) fault) }
+    ensures reads { IfOk result (λ read. (choice : Choice) (text : List ℕ) (told : List Dispatch)
+        → Reads choice reading unended.now text (told ++ out.old.items)
+        → AreDispatches choice text (told ++ out.new.items) read) }
+    ensures fails { IfErr result (λ fault. (choice : Choice) (text : List ℕ) (told : List Dispatch)
+        → Reads choice reading unended.now text (told ++ out.old.items)
+        → FailsAt choice.bad_lines (history text) fault) }
 {
     let mut reading = reading;
     take_last(&mut reading, unended, out)?;
@@ -185,6 +180,8 @@ fn end(
         last: last_stamp(state.first, state.latest),
         events: state.lines,
         missing: state.missing,
+        left_out: state.left_out,
+        sums: sums_of(alloc, &state.sums)?,
         losses: losses.finish(alloc)?,
     })
 }
@@ -192,13 +189,56 @@ fn end(
 impl Waits {
     /// A stream of which nothing is read, and what it does with lines that can't be read.
     pub fn new(alloc: Global, bad_lines: BadLines) -> Result<Waits, AllocError>
-        ensures { IfOk result (λ waits. HasRead bad_lines waits [] []) }
+        ensures reads { IfOk result (λ waits. HasRead (all_events bad_lines) waits [] []) }
+        ensures well { IfOk result (λ waits. waits.failed ≡ None) }
     {
         Ok(Waits {
             reading: Reading::new(alloc, bad_lines)?,
             unended: Vec::new(alloc),
             failed: None,
         })
+    }
+
+    /// Leaves events out of the text to come: they say nothing of who runs, and all else is as it would be
+    /// with them. Of several of these each counts the events that it leaves out. Refused for memory, and
+    /// once bytes of the text were read: the stream is as before then.
+    pub fn leave_out(&mut self, without: Without) -> Result<(), WithoutFault>
+        ensures adds { OnOk result ((choice : Choice) (text : List ℕ) (told : List Dispatch)
+            → HasRead choice self.old text told
+            → (text ≡ []) × HasRead (and_without choice without) self.new text told) }
+        ensures failed { self.new.failed ≡ self.old.failed }
+        ensures late { result ≡ Err WithoutFault.Late → self.old.failed ≡ None
+            → (choice : Choice) (text : List ℕ) (told : List Dispatch)
+            → HasRead choice self.old text told → text ≢ [] }
+        ensures stays { OnErr result ((choice : Choice) (text : List ℕ) (told : List Dispatch)
+            → HasRead choice self.old text told → HasRead choice self.new text told) }
+    {
+        if self.has_begun() {
+            return Err(WithoutFault::Late);
+        }
+        match add(&mut self.reading.state.left_out, without) {
+            Ok(()) => Ok(()),
+            Err(_) => Err(WithoutFault::Memory),
+        }
+    }
+
+    /// Sums up the tasks and CPUs of the text to come as well, by its events without those that are left
+    /// out. Refused once bytes of the text were read: the stream is as before then.
+    pub fn sum_up(&mut self, alloc: Global) -> Result<(), WithoutFault>
+        ensures adds { OnOk result ((choice : Choice) (text : List ℕ) (told : List Dispatch)
+            → HasRead choice self.old text told
+            → (text ≡ []) × HasRead (and_sums choice) self.new text told) }
+        ensures failed { self.new.failed ≡ self.old.failed }
+        ensures late { IfErr result (λ fault. (fault ≡ WithoutFault.Late) × (self.new ≡ self.old)) }
+        ensures begun { result ≡ Err WithoutFault.Late → self.old.failed ≡ None
+            → (choice : Choice) (text : List ℕ) (told : List Dispatch)
+            → HasRead choice self.old text told → text ≢ [] }
+    {
+        if self.has_begun() {
+            return Err(WithoutFault::Late);
+        }
+        self.reading.state.sums = Some(Summary::new(alloc));
+        Ok(())
     }
 
     /// Takes the next piece of the text, and adds the dispatches of lines that ended so far, except for
@@ -208,12 +248,13 @@ impl Waits {
     /// can't be read, unless such lines are skipped, or its stamp is before the last event's. Once it
     /// failed, the answer stays the same.
     pub fn feed(&mut self, piece: &[u8], out: &mut Vec<Dispatch>) -> Result<(), WaitsFault>
-        ensures reads { OnOk result ((policy : BadLines) (text : List ℕ) (told : List Dispatch)
-            → HasRead policy self.old text (told ++ out.old.items)
-            → HasRead policy self.new (text ++ piece.now) (told ++ out.new.items)) }
-        ensures fails { IfErr result (λ fault. (policy : BadLines) (text : List ℕ) (told : List Dispatch)
-            → HasRead policy self.old text (told ++ out.old.items)
-            → Fails policy (text ++ piece.now) fault) }
+        ensures reads { OnOk result ((choice : Choice) (text : List ℕ) (told : List Dispatch)
+            → HasRead choice self.old text (told ++ out.old.items)
+            → HasRead choice self.new (text ++ piece.now) (told ++ out.new.items)) }
+        ensures fails { IfErr result (λ fault. (choice : Choice) (text : List ℕ) (told : List Dispatch)
+            → HasRead choice self.old text (told ++ out.old.items)
+            → Fails choice.bad_lines (text ++ piece.now) fault) }
+        ensures well { OnOk result (self.new.failed ≡ None) }
         ensures stays { IfErr result (λ fault. self.new.failed ≡ Some fault) }
         ensures again { IfSome self.old.failed (λ fault. (result ≡ Err fault)
             × (self.new ≡ self.old) × (out.new.items ≡ out.old.items)) }
@@ -236,12 +277,12 @@ impl Waits {
     ///
     /// Fails as `feed` does.
     pub fn finish(self, alloc: Global, out: &mut Vec<Dispatch>) -> Result<TextRead, WaitsFault>
-        ensures reads { IfOk result (λ read. (policy : BadLines) (text : List ℕ) (told : List Dispatch)
-            → HasRead policy self text (told ++ out.old.items)
-            → AreDispatches policy text (told ++ out.new.items) read) }
-        ensures fails { IfErr result (λ fault. (policy : BadLines) (text : List ℕ) (told : List Dispatch)
-            → HasRead policy self text (told ++ out.old.items)
-            → FailsAt policy (history text) fault) }
+        ensures reads { IfOk result (λ read. (choice : Choice) (text : List ℕ) (told : List Dispatch)
+            → HasRead choice self text (told ++ out.old.items)
+            → AreDispatches choice text (told ++ out.new.items) read) }
+        ensures fails { IfErr result (λ fault. (choice : Choice) (text : List ℕ) (told : List Dispatch)
+            → HasRead choice self text (told ++ out.old.items)
+            → FailsAt choice.bad_lines (history text) fault) }
     {
         let Waits {
             reading,

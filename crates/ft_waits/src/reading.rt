@@ -5,7 +5,8 @@ ghost use Rattle.std.specs.List.{list_any};
 ghost use Rattle.ft_event.specs.Line.{line_of};
 ghost use Rattle.ft_event.specs.declared.fault.Line.TheVariants as lines;
 ghost use Rattle.ft_fields.specs.Borrowed.{event_told};
-ghost use Rattle.ft_waits.specs.inner.Streams.{ReadsLines, TakesLine, TakesEvent, TakesQuietly, FailsLine};
+ghost use Rattle.ft_waits.specs.Choice.{all_events};
+ghost use Rattle.ft_waits.specs.inner.Streams.{choice_of, ReadsLines, TakesLine, TakesEvent, TakesQuietly, FailsLine};
 ghost use Rattle.ft_losses.specs.Notes.{Silent, quiet_note};
 
 use crate::fault::{BadLine, BadLines, LinesRead, WaitsFault};
@@ -28,7 +29,7 @@ pub(crate) struct Reading {
 
 /// One more number.
 #[inline(always)]
-fn one_more(count: u64) -> Result<u64, WaitsFault>
+pub(crate) fn one_more(count: u64) -> Result<u64, WaitsFault>
     ensures ok { IfOk result (λ n. n ≡ count + 1) }
     ensures full { IfErr result (λ fault. (fault ≡ WaitsFault.TooLong) × (count ≡ 18446744073709551615)) }
 {
@@ -49,7 +50,7 @@ fn skip(bad_lines: BadLines, bad_line: BadLine) -> Result<(), WaitsFault>
 impl Reading {
     /// No lines.
     pub(crate) fn new(alloc: Global, bad_lines: BadLines) -> Result<Reading, AllocError>
-        ensures policy { IfOk result (λ reading. reading.bad_lines ≡ bad_lines) }
+        ensures choice { IfOk result (λ reading. choice_of reading ≡ all_events bad_lines) }
         ensures none { IfOk result (λ reading. ReadsLines reading [] []) }
     {
         Ok(Reading {
@@ -73,7 +74,7 @@ impl Reading {
     ) -> Result<(), WaitsFault>
         ensures ok { OnOk result (TakesEvent (event_told event.now) self.old out.old.items self.new out.new.items) }
         ensures err { IfErr result (λ fault. FailsLine (Ok (lines.Event (event_told event.now))) self.old fault) }
-        ensures policy { self.new.bad_lines ≡ self.old.bad_lines }
+        ensures choice { OnOk result (choice_of self.new ≡ choice_of self.old) }
     {
         let number = one_more(self.read.lines)?;
         if event.stamp < self.state.latest {
@@ -88,7 +89,7 @@ impl Reading {
     fn take_skipped(&mut self, mark: Option<Mark>) -> Result<(), WaitsFault>
         ensures ok { OnOk result (TakesQuietly (Ok lines.Skip) (quiet_note mark) self.old self.new) }
         ensures err { IfErr result (λ fault. FailsLine (Ok lines.Skip) self.old fault) }
-        ensures policy { self.new.bad_lines ≡ self.old.bad_lines }
+        ensures choice { OnOk result (choice_of self.new ≡ choice_of self.old) }
     {
         let number = one_more(self.read.lines)?;
         self.read.lines = number;
@@ -100,7 +101,7 @@ impl Reading {
     fn take_bad(&mut self, fault: LineFault) -> Result<(), WaitsFault>
         ensures ok { OnOk result (TakesQuietly (Err fault) Silent self.old self.new) }
         ensures err { IfErr result (λ why. FailsLine (Err fault) self.old why) }
-        ensures policy { self.new.bad_lines ≡ self.old.bad_lines }
+        ensures choice { OnOk result (choice_of self.new ≡ choice_of self.old) }
     {
         let line = one_more(self.read.lines)?;
         let bad_line = BadLine { line, fault };
@@ -118,7 +119,7 @@ impl Reading {
         requires { list_any (λ b. b == 10) line.now ≡ false }
         ensures ok { OnOk result (TakesLine line.now self.old out.old.items self.new out.new.items) }
         ensures err { IfErr result (λ fault. FailsLine (line_of line.now) self.old fault) }
-        ensures policy { self.new.bad_lines ≡ self.old.bad_lines }
+        ensures choice { OnOk result (choice_of self.new ≡ choice_of self.old) }
     {
         let mut event = Event::blank();
         match read_cut_line(line, &mut event) {
@@ -138,7 +139,7 @@ impl Reading {
         requires { list_any (λ b. b == 10) line.now ≡ false }
         ensures ok { OnOk result (TakesLine line.now self.old out.old.items self.new out.new.items) }
         ensures err { IfErr result (λ fault. FailsLine (line_of line.now) self.old fault) }
-        ensures policy { self.new.bad_lines ≡ self.old.bad_lines }
+        ensures choice { OnOk result (choice_of self.new ≡ choice_of self.old) }
     {
         match cut_line(line) {
             Some(event) => self.take_event(&event, out),

@@ -2,8 +2,11 @@
 
 ghost use Rattle.std.specs.Prelude.{◌≡◌, vec_len};
 
+use crate::left_out::LeftOut;
 use crate::missing::Missing;
+use crate::starts::Start;
 use ft_dispatch::{PlacedAct, Tasks};
+use ft_summary::Summary;
 
 /// How many CPUs there can be.
 pub(crate) const CPUS: usize = 8192;
@@ -21,10 +24,16 @@ pub(crate) struct State {
     pub(crate) held: Vec<PlacedAct>,
     /// Since when each task is runnable, by the acts before that stamp.
     pub(crate) tasks: Tasks,
+    /// What the acts before that stamp sum up to, if that is wanted.
+    pub(crate) sums: Option<Summary>,
     /// The task that each CPU runs, if it is known.
     pub(crate) running: Vec<Option<i32>>,
+    /// The first event of each CPU, in the order of the text.
+    pub(crate) starts: Vec<Start>,
     /// Switches that are missing.
     pub(crate) missing: Missing,
+    /// Events that are left out: they say nothing of who runs.
+    pub(crate) left_out: Vec<LeftOut>,
     ghost all_cpus: { vec_len lines ≡ 8192 },
     ghost each_cpu: { vec_len running ≡ 8192 },
 }

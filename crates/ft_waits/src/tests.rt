@@ -1,6 +1,6 @@
 //! What a reader of the definitions would try first: small texts, whole and cut anywhere.
 
-use crate::{BadLines, Waits, WaitsFault, WaitsRead, waits_in};
+use crate::{BadLines, JoinFault, Waits, WaitsFault, WaitsRead, waits_in};
 use ft_dispatch::Dispatch;
 use ft_losses::Hole;
 use std::alloc::{AllocError, Global};
@@ -34,6 +34,26 @@ CPU:1 [LOST 7 EVENTS]
 a-1 [001] 1.000200: sched_waking: comm=w pid=42 prio=120 target_cpu=000
 CPU:0 [LOST EVENTS]
 # CPU 1: 9 events overwritten
+";
+
+/// A text of which only the header says that events were overwritten: CPU 1 begins first, and CPU 2 with it.
+const LATE: &[u8] = b"# tracer: nop
+# entries-in-buffer/entries-written: 4/9   #P:4
+a-1 [001] 1.000000: sched_waking: comm=w pid=42 prio=120 target_cpu=000
+a-1 [002] 1.000000: sched_waking: comm=w pid=42 prio=120 target_cpu=000
+a-1 [003] 1.250000: sched_waking: comm=w pid=42 prio=120 target_cpu=000
+a-1 [000] 1.500000: sched_waking: comm=w pid=42 prio=120 target_cpu=000
+";
+
+/// Eight lines with a header, a task that runs on, which shows that a switch is missing, and a loss.
+const SEAMS: &[u8] = b"# entries-in-buffer/entries-written: 4/9   #P:4
+a-1 [000] 1.000100: sched_waking: comm=w pid=42 prio=120 target_cpu=000
+a-1 [000] 1.000150: sched_switch: prev_comm=a prev_pid=1 prev_prio=120 prev_state=R ==> next_comm=w next_pid=42 next_prio=120
+w-42 [000] 1.000160: sched_switch: prev_comm=w prev_pid=42 prev_prio=120 prev_state=R ==> next_comm=a next_pid=1 next_prio=120
+w-42 [000] 1.000170: sched_waking: comm=x pid=7 prio=120 target_cpu=000
+b-2 [001] 1.000180: sched_waking: comm=x pid=8 prio=120 target_cpu=000
+CPU:1 [LOST 5 EVENTS]
+c-3 [001] 1.000190: sched_switch: prev_comm=c prev_pid=3 prev_prio=120 prev_state=S ==> next_comm=w next_pid=42 next_prio=120
 ";
 
 /// Adds an item.
@@ -155,6 +175,167 @@ fn losses_are_holes(rt: HostRuntime) {
         );
         assert!(rt; last.count.is_none() && read.text.losses.buffers.is_none());
     }
+}
+
+/// The holes of `LATE` and a line more.
+fn late_holes(alloc: Global, line: &[u8]) -> Result<Vec<Hole>, WaitsFault> {
+    let mut text = Vec::new(alloc);
+    text.extend_from_slice(LATE)?;
+    text.extend_from_slice(line)?;
+    let read = read_cut(alloc, BadLines::Refuse, &text, 200)?;
+    let mut holes = Vec::new(alloc);
+    holes.extend_from_slice(&read.text.losses.holes)?;
+    Ok(holes)
+}
+
+/// The hole of a CPU that begins late at a stamp.
+fn late(cpu: u16, stamp: u64, count: Option<u64>) -> Hole {
+    Hole {
+        cpu,
+        line: 2,
+        after: None,
+        before: Some(stamp),
+        count,
+    }
+}
+
+#[test]
+fn cpus_begin_late(rt: HostRuntime) {
+    let Ok(holes) = late_holes(rt.alloc(), b"") else {
+        panic!(rt; "a text that is read");
+    };
+    let whole = [late(0, 1_500_000, None), late(3, 1_250_000, None)];
+    assert!(rt; holes.as_slice() == whole.as_slice());
+    // Another line knows how many events they are, or that there are none.
+    let Ok(holes) = late_holes(rt.alloc(), b"# CPU 3: 5 events overwritten\n") else {
+        panic!(rt; "a text that is read");
+    };
+    let counted = [late(0, 1_500_000, None), late(3, 1_250_000, Some(5))];
+    assert!(rt; holes.as_slice() == counted.as_slice());
+    let Ok(holes) = late_holes(rt.alloc(), b"# CPU 3: 0 events overwritten\n") else {
+        panic!(rt; "a text that is read");
+    };
+    assert!(rt; holes.len() == 1 && holes[0] == late(0, 1_500_000, None));
+    // A line says of a CPU that its buffer begins.
+    let Ok(holes) = late_holes(rt.alloc(), b"##### CPU 1 buffer started ####\n") else {
+        panic!(rt; "a text that is read");
+    };
+    assert!(rt; holes.len() == 1 && holes[0].cpu == 1 && holes[0].before.is_none());
+}
+
+/// What a text gives whose part from a byte on is read apart and joined, or why it isn't joined.
+fn read_joined(
+    alloc: Global,
+    text: &[u8],
+    cut: usize,
+) -> Result<Result<WaitsRead, JoinFault>, WaitsFault> {
+    let (front, back) = text.split_at(cut.min(text.len()));
+    let mut waits = Waits::new(alloc, BadLines::Refuse)?;
+    let mut dispatches = Vec::new(alloc);
+    waits.feed(front, &mut dispatches)?;
+    let mut part = Waits::new(alloc, BadLines::Refuse)?;
+    let mut apart = Vec::new(alloc);
+    part.feed(back, &mut apart)?;
+    match waits.join(part, &mut dispatches, &mut apart) {
+        Ok(()) => {}
+        Err(fault) => return Ok(Err(fault)),
+    }
+    dispatches.extend_from_slice(&apart)?;
+    let text = waits.finish(alloc, &mut dispatches)?;
+    Ok(Ok(WaitsRead { dispatches, text }))
+}
+
+/// Whether two readings of a text are the same.
+fn are_same(one: &WaitsRead, other: &WaitsRead) -> bool {
+    one.dispatches.as_slice() == other.dispatches.as_slice()
+        && one.text.lines == other.text.lines
+        && one.text.first == other.text.first
+        && one.text.last == other.text.last
+        && one.text.missing == other.text.missing
+        && one.text.losses.holes.as_slice() == other.text.losses.holes.as_slice()
+        && one.text.losses.buffers == other.text.losses.buffers
+}
+
+#[test]
+fn a_part_is_joined_at_each_line_end(rt: HostRuntime) {
+    let Ok(whole) = read_cut(rt.alloc(), BadLines::Refuse, SEAMS, 0) else {
+        panic!(rt; "a text that is read");
+    };
+    assert!(rt; whole.text.missing.switches == 2 && whole.text.losses.holes.len() == 2);
+    let mut joined: u32 = 0;
+    let mut torn: u32 = 0;
+    for cut in 0..SEAMS.len() + 1 {
+        match read_joined(rt.alloc(), SEAMS, cut) {
+            Ok(Ok(read)) => {
+                assert!(rt; are_same(&read, &whole));
+                joined = joined.saturating_add(1);
+            }
+            Ok(Err(JoinFault::Torn)) => torn = torn.saturating_add(1),
+            Ok(Err(fault)) => assert!(rt; fault == JoinFault::Unended),
+            Err(fault) => assert!(rt; matches!(fault, WaitsFault::BadLine(_))),
+        }
+    }
+    assert!(rt; joined == 8 && torn == 1);
+}
+
+#[test]
+fn a_part_that_begins_in_the_same_microsecond_is_refused(rt: HostRuntime) {
+    let first = 72;
+    assert!(rt; TIE[first - 1] == b'\n');
+    let refused = matches!(
+        read_joined(rt.alloc(), TIE, first),
+        Ok(Err(JoinFault::Overlaps))
+    );
+    assert!(rt; refused);
+}
+
+/// A stream that sums up or not, and has read a text.
+fn summed(
+    alloc: Global,
+    sums: bool,
+    text: &[u8],
+    out: &mut Vec<Dispatch>,
+) -> Result<Waits, WaitsFault> {
+    let mut waits = Waits::new(alloc, BadLines::Refuse)?;
+    if sums && waits.sum_up(alloc).is_err() {
+        return Err(WaitsFault::Memory);
+    }
+    waits.feed(text, out)?;
+    Ok(waits)
+}
+
+/// Why a part is not joined to a text, by which of the two sums up, and what the text gives after that.
+fn not_joined(
+    alloc: Global,
+    sums: bool,
+    part_sums: bool,
+) -> Result<(Option<JoinFault>, WaitsRead), WaitsFault> {
+    let mut dispatches = Vec::new(alloc);
+    let mut waits = summed(alloc, sums, TIE, &mut dispatches)?;
+    let mut apart = Vec::new(alloc);
+    let part = summed(alloc, part_sums, LIFE, &mut apart)?;
+    let fault = waits.join(part, &mut dispatches, &mut apart).err();
+    let text = waits.finish(alloc, &mut dispatches)?;
+    Ok((fault, WaitsRead { dispatches, text }))
+}
+
+#[test]
+fn a_part_is_not_joined_if_one_of_the_two_sums_up(rt: HostRuntime) {
+    for number in 1..4 {
+        let sums = number != 2;
+        let Ok((fault, read)) = not_joined(rt.alloc(), sums, number != 1) else {
+            panic!(rt; "texts that are read");
+        };
+        assert!(rt; fault == Some(JoinFault::Summed));
+        // The text is as before: its waking and its switch, which it sums up if that was wanted.
+        assert!(rt; read.dispatches.len() == 1 && read.text.lines.lines == 2);
+        assert!(rt; read.text.sums.is_some() == sums);
+    }
+    // If neither sums up, the stamps are what refuses it.
+    let Ok((fault, _)) = not_joined(rt.alloc(), false, false) else {
+        panic!(rt; "texts that are read");
+    };
+    assert!(rt; fault == Some(JoinFault::Overlaps));
 }
 
 /// What a stream answers that is fed a text twice.

@@ -2,6 +2,7 @@
 
 ghost use Rattle.std.specs.Prelude.{◌≡◌, IfOk, IfErr};
 ghost use Rattle.std.specs.List.{flat_map};
+ghost use Rattle.ft_waits.specs.Choice.{all_events};
 ghost use Rattle.ft_waits.specs.Reading.{history, FailsAt};
 ghost use Rattle.ft_waits.specs.Streams.{AreDispatches};
 
@@ -27,7 +28,7 @@ pub fn waits_in(
     bad_lines: BadLines,
     pieces: &[Vec<u8>],
 ) -> Result<WaitsRead, WaitsFault>
-    ensures reads { IfOk result (λ read. AreDispatches bad_lines
+    ensures reads { IfOk result (λ read. AreDispatches (all_events bad_lines)
         (flat_map (λ piece. piece.items) pieces.now) read.dispatches.items read.text) }
     ensures fails { IfErr result (λ fault. FailsAt bad_lines
         (history (flat_map (λ piece. piece.items) pieces.now)) fault) }

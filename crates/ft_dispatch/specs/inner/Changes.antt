@@ -2,7 +2,7 @@
 use Rattle.std.specs.Prelude.{ℤ, Some, if◌then◌else◌}
 use Rattle.std.specs.Ordering.{int_eq}
 use Rattle.ft_fields.specs.declared.pos.Pos.{Pos}
-use Rattle.ft_dispatch.specs.Acts.{Act, Waking, Creation, Switch, Handover}
+use Rattle.ft_dispatch.specs.Acts.{Act, Waking, Creation, Switch, Handover, can_run}
 use Rattle.ft_dispatch.specs.Joining.{over}
 use Rattle.ft_dispatch.specs.Telling.{unknown}
 use Rattle.ft_dispatch.specs.declared.dispatch.Left.{Left}
@@ -29,7 +29,7 @@ changed (changes.Behind part) since = over part since
 
 -- where a switch leaves a task, and whether that can still run
 abbrev pub leaving : Handover → Pos → Left
-leaving turn place = record { place = place; runnable = turn.prev_runnable }
+leaving turn place = record { place = place; runnable = can_run turn.prev_state }
 
 -- what is known of a task after an act: a switch to the task forgets all
 abbrev pub after : ℤ → Pos → Act → Since → Since

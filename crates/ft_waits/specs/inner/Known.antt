@@ -1,5 +1,5 @@
 -- What the code keeps of the events so far.
-use Rattle.std.specs.Prelude.{◌≡◌, ◌≤◌, ◌<◌, ℕ, List, ◌++◌, length, reverse, IsPermutation}
+use Rattle.std.specs.Prelude.{◌≡◌, ◌≤◌, ◌<◌, ◌+◌, ◌⊎◌, ℕ, Bool, List, ◌++◌, length, reverse, map, Option, is_some, IfSome, IsPermutation, if◌then◌else◌}
 use Rattle.std.specs.List.{AllByRecursion, IsDistinct}
 use Rattle.std.specs.List.Sorted.{IsSortedByKey, IsStrictlySortedBy}
 use Rattle.std.specs.Map.{keys_of}
@@ -12,19 +12,37 @@ use Rattle.ft_dispatch.specs.Telling.{entries_of, Tells, TakesAll}
 use Rattle.ft_dispatch.specs.declared.act.PlacedAct.{PlacedAct}
 use Rattle.ft_dispatch.specs.declared.dispatch.Dispatch.{Dispatch}
 use Rattle.ft_dispatch.specs.declared.tasks.Tasks.{Tasks}
+use Rattle.ft_summary.specs.Telling.{Tells as Sums}
+use Rattle.ft_summary.specs.declared.summary.Summary.{Summary}
 use Rattle.ft_waits.specs.Reading.{acts_of, first_stamp, latest, number_limit, CountsEvents}
+use Rattle.ft_waits.specs.LeftOut.{has_name, leaves_out, left_out_of}
 use Rattle.ft_waits.specs.Missing.{missing_in}
 use Rattle.ft_waits.specs.inner.Running.{RunsTasks}
+use Rattle.ft_waits.specs.inner.Starts.{starts_of}
+use Rattle.ft_waits.specs.declared.left_out.LeftOut.{LeftOut}
+use Rattle.ft_waits.specs.declared.left_out.Without.{Without}
 use Rattle.ft_waits.specs.declared.state.State.{State}
+
+-- ---- what acts sum up to
+
+-- a summary tells acts, if there is one
+abbrev pub SumsTell : Option Summary → List (Pos × Act) → Type 0
+SumsTell sums acts = IfSome sums (λ summary. Sums summary acts)
+
+-- it takes acts that follow, if there is one
+pub record SumsTake (acts : List (Pos × Act)) (old new : Option Summary) : Type 0 where
+  pub wanted : is_some new ≡ is_some old
+  pub takes : (before : List (Pos × Act)) → SumsTell old before → SumsTell new (reverse acts ++ before)
 
 -- ---- acts that are held
 
 -- held acts follow in the order of their places
-pub record Settles (held : List PlacedAct) (old : Tasks) (out : List Dispatch) (new : Tasks) (out_now : List Dispatch) : Type 0 where
+pub record Settles (held : List PlacedAct) (old : Tasks) (summary : Option Summary) (out : List Dispatch) (new : Tasks) (summary_now : Option Summary) (out_now : List Dispatch) : Type 0 where
   pub ordered : List PlacedAct
   pub moved : IsPermutation held ordered
   pub sorted : IsSortedByKey (λ one. one.place) pos_cmp ordered
   pub takes : TakesAll (entries_of ordered) old out new out_now
+  pub sums : SumsTake (entries_of ordered) summary summary_now
 
 -- ---- after events
 
@@ -33,7 +51,7 @@ abbrev pub IsNumbered : List Traced → Type 0
 IsNumbered before = number_limit ≤ length before
 
 -- acts in order, of which those before a stamp are done and those at it are held
-pub record Orders (tasks : Tasks) (held : List PlacedAct) (stamp : ℕ) (acts : List (Pos × Act)) (told : List Dispatch) : Type 0 where
+pub record Orders (tasks : Tasks) (summary : Option Summary) (held : List PlacedAct) (stamp : ℕ) (acts : List (Pos × Act)) (told : List Dispatch) : Type 0 where
   pub done : List (Pos × Act)
   pub sorted : IsStrictlySortedBy pos_cmp (keys_of done)
   pub earlier : AllByRecursion (λ entry. entry.0.stamp < stamp) done
@@ -41,6 +59,27 @@ pub record Orders (tasks : Tasks) (held : List PlacedAct) (stamp : ℕ) (acts : 
   pub all : IsPermutation acts (done ++ entries_of held)
   pub distinct : IsDistinct (eq_by_cmp pos_cmp) (keys_of acts)
   pub tells : Tells tasks (reverse done) told
+  pub sums : SumsTell summary (reverse done)
+
+-- what is left out by these counts
+abbrev pub left_out_by : List LeftOut → List Without
+left_out_by counts = map (λ count. count.without) counts
+
+-- the largest count
+abbrev pub most_counted : ℕ
+most_counted = 18446744073709551615
+
+-- a count that is one more, if it is to be
+abbrev pub more_if : Bool → ℕ → ℕ
+more_if more count = if more then count + 1 else count
+
+-- the counts with one event more
+abbrev pub with_event : Traced → LeftOut → LeftOut
+with_event event count = record { without = count.without; events = more_if (has_name count.without event) count.events; left_out = more_if (leaves_out count.without event) count.left_out }
+
+-- one of the two can't be more
+abbrev pub IsFull : LeftOut → Type 0
+IsFull count = (count.events ≡ most_counted) ⊎ (count.left_out ≡ most_counted)
 
 -- the state after these events, newest first
 pub record Follows (state : State) (events : List Traced) (told : List Dispatch) : Type 0 where
@@ -49,4 +88,6 @@ pub record Follows (state : State) (events : List Traced) (told : List Dispatch)
   pub last : state.latest ≡ latest events
   pub runs : RunsTasks state.running.items events
   pub missing : state.missing ≡ missing_in events
-  pub orders : Orders state.tasks state.held.items state.latest (acts_of events) told
+  pub starts : state.starts.items ≡ reverse (starts_of events)
+  pub left_out : state.left_out.items ≡ map (left_out_of events) (left_out_by state.left_out.items)
+  pub orders : Orders state.tasks state.sums state.held.items state.latest (acts_of (left_out_by state.left_out.items) events) told

@@ -1,5 +1,5 @@
 -- What a stream has read of a text.
-use Rattle.std.specs.Prelude.{◌≡◌, ◌==◌, false, ℕ, List, ◌∷◌, ◌++◌, reverse, take, None, Result, Ok}
+use Rattle.std.specs.Prelude.{◌≡◌, ◌==◌, false, ℕ, List, ◌∷◌, ◌++◌, reverse, take, None, is_some, Result, Ok}
 use Rattle.std.specs.List.{list_any}
 use Rattle.ft_event.specs.declared.fault.Line.{Line}
 use Rattle.ft_event.specs.declared.fault.Line.TheVariants as lines
@@ -9,10 +9,10 @@ use Rattle.ft_fields.specs.Traced.{Traced}
 use Rattle.ft_losses.specs.Notes.{Note, NoteIs, AreNotes}
 use Rattle.ft_losses.specs.Telling.{Keeps}
 use Rattle.ft_script.specs.Lines.{lines_of}
+use Rattle.ft_waits.specs.Choice.{Choice}
 use Rattle.ft_waits.specs.Reading.{events_of, history, lines_read, refused, FailsAt, Fails}
-use Rattle.ft_waits.specs.inner.Known.{Follows}
+use Rattle.ft_waits.specs.inner.Known.{Follows, left_out_by}
 use Rattle.ft_dispatch.specs.declared.dispatch.Dispatch.{Dispatch}
-use Rattle.ft_waits.specs.declared.fault.BadLines.{BadLines}
 use Rattle.ft_waits.specs.declared.fault.WaitsFault.{WaitsFault}
 use Rattle.ft_waits.specs.declared.reading.Reading.{Reading}
 
@@ -53,9 +53,13 @@ Cuts text lines rest = (later : List ℕ) → lines_of (text ++ later) ≡ rever
 abbrev pub room : ℕ
 room = 4097
 
+-- how a reading reads
+abbrev pub choice_of : Reading → Choice
+choice_of reading = record { bad_lines = reading.bad_lines; without = left_out_by reading.state.left_out.items; sums = is_some reading.state.sums }
+
 -- the lines of a text that have ended were read, and the rest is kept
-pub record Reads (policy : BadLines) (reading : Reading) (unended : List ℕ) (text : List ℕ) (told : List Dispatch) : Type 0 where
-  pub by_policy : reading.bad_lines ≡ policy
+pub record Reads (choice : Choice) (reading : Reading) (unended : List ℕ) (text : List ℕ) (told : List Dispatch) : Type 0 where
+  pub by_choice : choice_of reading ≡ choice
   pub lines : List (List ℕ)
   pub rest : List ℕ
   pub cuts : Cuts text lines rest
@@ -64,8 +68,8 @@ pub record Reads (policy : BadLines) (reading : Reading) (unended : List ℕ) (t
   pub reads : ReadsLines reading lines told
 
 -- all lines of a text were read
-pub record EndsLines (policy : BadLines) (reading : Reading) (text : List ℕ) (told : List Dispatch) : Type 0 where
-  pub by_policy : reading.bad_lines ≡ policy
+pub record EndsLines (choice : Choice) (reading : Reading) (text : List ℕ) (told : List Dispatch) : Type 0 where
+  pub by_choice : choice_of reading ≡ choice
   pub reads : ReadsLines reading (history text) told
 
 -- more of a text is read: of its lines, some end in this part

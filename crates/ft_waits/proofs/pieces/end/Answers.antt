@@ -1,15 +1,22 @@
-use Rattle.std.proofs.Common.{sym, ap, subst, ◌∙◌, ℕ, Vec, Global, Option}
+use Rattle.std.proofs.Common.{sym, ap, subst, ◌∙◌, ◌≡◌, ℕ, Bool, List, Vec, Global, Option, map}
 use Rattle.std.specs.Prelude.{option_map}
-use Rattle.ft_waits.specs.Reading.{events_of, history, latest, refused, CountsEvents}
-use Rattle.ft_waits.specs.declared.fault.BadLines.{BadLines}
+use Rattle.ft_waits.specs.Reading.{dispatches_of_lines, events_of, history, latest, refused, CountsEvents}
+use Rattle.ft_waits.specs.Choice.{Choice}
+use Rattle.ft_waits.specs.Summing.{acts_in, AreSumsIf}
+use Rattle.ft_waits.specs.LeftOut.{left_out_of}
+use Rattle.ft_waits.specs.declared.left_out.LeftOut.{LeftOut}
+use Rattle.ft_waits.specs.declared.left_out.Without.{Without}
+use Rattle.ft_waits.specs.inner.Known.{left_out_by}
 use Rattle.ft_waits.proofs.ReadingLines.{last-known}
 use Rattle.ft_waits.proofs.pieces.end.Goals as goal
 
 pub returns-clause-reads : goal.returns-clause-reads
-returns-clause-reads c = λ policy text told reads.
-    let ends = c.in_ok-take_last.ensures.reads policy text told reads in
+returns-clause-reads c = λ choice text told reads.
+    let ends = c.in_ok-take_last.ensures.reads choice text told reads in
+    let events = events_of (history text) in
+    let same : left_out_by c.take_last.new.reading.state.left_out.items ≡ choice.without = ap (λ (by : Choice). by.without) ends.by_choice in
     record {
-      dispatches = c.in_ok-finish.ensures.told (events_of (history text)) told ends.reads.state;
+      dispatches = c.in_ok-finish.ensures.told events told ends.reads.state ∙ ap (λ (without : List Without). dispatches_of_lines without (history text)) same;
       lines = ends.reads.read;
       first = c.in_ok-finish.ensures.first ∙ ends.reads.state.first;
       last = c.last_stamp.ensures
@@ -18,8 +25,12 @@ returns-clause-reads c = λ policy text told reads.
           ∙ last-known (events_of (history text));
       events = subst (λ (lines : Vec ℕ Global). CountsEvents lines.items (events_of (history text))) (sym c.in_ok-finish.ensures.lines) ends.reads.state.counts;
       missing = c.in_ok-finish.ensures.missing ∙ ends.reads.state.missing;
+      left_out = ap (λ (counts : Vec LeftOut Global). counts.items) c.in_ok-finish.ensures.left_out ∙ ends.reads.state.left_out ∙ ap (λ (without : List Without). map (left_out_of events) without) same;
+      sums = subst (λ (by : Choice). AreSumsIf by.sums (acts_in by.without text) c.in_ok-sums_of.field-0) ends.by_choice
+          (subst (λ (wanted : Bool). AreSumsIf wanted (acts_in (left_out_by c.take_last.new.reading.state.left_out.items) text) c.in_ok-sums_of.field-0) c.in_ok-finish.ensures.wanted
+          (c.in_ok-sums_of.ensures (acts_in (left_out_by c.take_last.new.reading.state.left_out.items) text) (c.in_ok-finish.ensures.sums events told ends.reads.state)));
       notes = ends.reads.notes;
       noted = ends.reads.noted;
       losses = c.in_ok-finish-2.ensures ends.reads.notes ends.reads.losses;
-      unrefused = ap (λ (by : BadLines). refused by (history text)) (sym ends.by_policy) ∙ ends.reads.unrefused;
+      unrefused = ap (λ (by : Choice). refused by.bad_lines (history text)) (sym ends.by_choice) ∙ ends.reads.unrefused;
     }

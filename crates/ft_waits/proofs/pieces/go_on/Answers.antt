@@ -17,7 +17,7 @@ returns-clause-reads c = λ text before told cuts reads.
     let rest = c.in_ok-rest.rest.now in
     let on = c.in_ok-rest.ensures.reads text before told cuts reads in
     record {
-      by_policy = c.in_ok-rest.ensures.policy;
+      by_choice = c.in_ok-rest.ensures.choice;
       lines = on.0;
       rest = rest;
       cuts = on.1;

@@ -9,4 +9,4 @@ use Rattle.ft_losses.proofs.losses.Losses.skip.Goals as goal
 pub returns-in-None : goal.returns-in-None
 returns-in-None c = λ notes keeps number.
     let old = c.args.self.now in
-    subst (λ (m : Option Mark). IsKept old.lanes.items old.ended.items old.buffers (quiet_note m ∷ notes)) (sym c.in-None.is) (silent-more old.lanes.items old.ended.items old.buffers notes keeps)
+    subst (λ (m : Option Mark). IsKept old.lanes.items old.ended.items old.begins (quiet_note m ∷ notes)) (sym c.in-None.is) (silent-more old.lanes.items old.ended.items old.begins notes keeps)

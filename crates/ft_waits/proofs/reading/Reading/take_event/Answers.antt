@@ -6,6 +6,7 @@ use Rattle.ft_event.specs.declared.fault.Line.TheVariants as lines
 use Rattle.ft_waits.specs.declared.fault.WaitsFault.TheVariants as faults
 use Rattle.ft_losses.specs.Notes.{Passed}
 use Rattle.ft_waits.proofs.ReadingLines.{note-by, reads-more, fails-more, too-long, lines-full, quiet, in-time, too-early, too-many}
+use Rattle.ft_waits.proofs.Streaming.{on_ok_both}
 use Rattle.ft_waits.proofs.reading.Reading.take_event.Goals as goal
 
 pub returns-in_err-number-clause-err : goal.returns-in_err-number-clause-err
@@ -27,3 +28,6 @@ returns-clause-ok c = on_ok_weaker c.push.result (λ follows line before told is
 
 pub returns-clause-err : goal.returns-clause-err
 returns-clause-err c = IfErr-weaker c.push.result _ _ (λ fault fails line before told is reads. too-many c.args.self.now line before told fault reads fails) c.push.ensures.fails
+
+pub returns-clause-choice : goal.returns-clause-choice
+returns-clause-choice c = on_ok_both c.push.result (λ without sums i. record { bad_lines = c.args.self.now.bad_lines; without = without i; sums = sums i }) c.push.ensures.left_out c.push.ensures.sums

@@ -1,0 +1,4 @@
+pub mod Lines
+pub mod Losses
+pub mod Layouts
+pub mod inner

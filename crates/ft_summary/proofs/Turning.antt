@@ -1,0 +1,177 @@
+-- What a CPU runs after one act more.
+use Rattle.std.specs.Prelude.{◌≡◌, ◌+◌, ◌-◌, ◌≤◌, ℕ, ℤ, pos, Bool, true, false, ◌&&◌, List, [], ◌∷◌, Option, Some, None, is_some, option_map, nat_eq}
+use Rattle.std.specs.Cmp.{unsigned_Decides}
+use Rattle.std.specs.Option.{option_or}
+use Rattle.std.specs.Ordering.{int_eq}
+use Rattle.std.proofs.Common.{ap, arith, cond, refl, sym, ◌∙◌}
+use Rattle.ft_fields.specs.declared.pos.Pos.{Pos}
+use Rattle.ft_dispatch.specs.Acts.{Act, Waking, Creation, Switch, Handover}
+use Rattle.ft_dispatch.specs.Telling.{handover_of}
+use Rattle.ft_dispatch.specs.declared.act.PlacedAct.{PlacedAct}
+use Rattle.ft_summary.specs.Figures.{cpu_sum, idled_for, idled_with_waiters, waited_in_run}
+use Rattle.ft_summary.specs.Runs.{capped, last_switch, lasted, run_begun, run_ended, total}
+use Rattle.ft_summary.specs.Telling.{cpu_since, waited}
+use Rattle.ft_summary.specs.Waiting.{waited_since_switch, waited_up_to}
+use Rattle.ft_summary.specs.inner.Changes.{cpu_from}
+use Rattle.ft_summary.specs.declared.cpus.Cpu.{Cpu}
+use Rattle.ft_summary.specs.declared.sums.CpuSum.{CpuSum}
+use Rattle.ft_summary.proofs.Summing.{capped-more, capped-none}
+
+abbrev Entry : Type 0
+Entry = Pos × Act
+
+abbrev Told : Type 0
+Told = Option (Pos × Handover)
+
+abbrev sum_at : ℕ → ℕ → ℕ → CpuSum
+sum_at cpu idle waited = record { cpu = cpu; idle = idle; idle_with_waiters = waited }
+
+abbrev cpu_at : ℤ → ℕ → ℕ → CpuSum → Cpu
+cpu_at pid stamp waited sum = record { pid = pid; stamp = stamp; waited = waited; sum = sum }
+
+-- ---- time
+
+within : (b : Bool) (s w g : ℕ) → s ≤ w → cond b 0 (s + g) ≤ w + g
+within true s w g h = omega arith
+within false s w g h = omega arith
+
+-- the time since a switch is no longer than all
+pub since-within : (cpu : ℕ) (acts : List Entry) → waited_since_switch cpu acts ≤ waited acts
+unfolding waited_since_switch total
+since-within cpu [] = omega arith
+since-within cpu (entry ∷ before) = within _ (waited_since_switch cpu before) (waited before) (waited_up_to entry.0 before) (since-within cpu before)
+
+nothing-more : (t : ℕ) → t ≡ 0 → t + 0 ≡ 0
+nothing-more t h = omega arith
+
+no-turn : (b y : Bool) (r t : ℕ) (one : Pos × Handover) (last : Told) → option_or (cond b (Some one) None) last ≡ None → (last ≡ None → t ≡ 0) → t + cond (b && y) r 0 ≡ 0
+no-turn true y r t one last h more = cc
+no-turn false y r t one last h more = nothing-more t (more h)
+
+-- a CPU on which no switch stands has no idle time
+pub never-idle : (cpu : ℕ) (acts : List Entry) → last_switch cpu acts ≡ None → total (idled_for cpu) acts ≡ 0
+unfolding last_switch total
+never-idle cpu [] h = refl
+never-idle cpu ((place, Waking woken) ∷ before) h = nothing-more (total (idled_for cpu) before) (never-idle cpu before h)
+never-idle cpu ((place, Creation created) ∷ before) h = nothing-more (total (idled_for cpu) before) (never-idle cpu before h)
+never-idle cpu ((place, Switch turn) ∷ before) h =
+    no-turn (nat_eq place.cpu cpu) (int_eq turn.prev_pid (pos 0)) (run_ended place turn before) (total (idled_for cpu) before) (place, turn) (last_switch cpu before) h (never-idle cpu before)
+
+pub never-waited : (cpu : ℕ) (acts : List Entry) → last_switch cpu acts ≡ None → total (idled_with_waiters cpu) acts ≡ 0
+unfolding last_switch total
+never-waited cpu [] h = refl
+never-waited cpu ((place, Waking woken) ∷ before) h = nothing-more (total (idled_with_waiters cpu) before) (never-waited cpu before h)
+never-waited cpu ((place, Creation created) ∷ before) h = nothing-more (total (idled_with_waiters cpu) before) (never-waited cpu before h)
+never-waited cpu ((place, Switch turn) ∷ before) h =
+    no-turn (nat_eq place.cpu cpu) (int_eq turn.prev_pid (pos 0)) (waited_in_run (run_begun turn.prev_pid (last_switch place.cpu before)) place before) (total (idled_with_waiters cpu) before) (place, turn) (last_switch cpu before) h (never-waited cpu before)
+
+-- ---- another act, or a switch of another CPU
+
+same-since : (w s g : ℕ) → (w + g) - (s + g) ≡ w - s
+same-since w s g = omega arith
+
+unturned : (cpu w s g i j : ℕ) (last : Told) →
+    option_map (λ l. cpu_at l.1.next_pid l.0.stamp ((w + g) - (s + g)) (sum_at cpu (capped (i + 0)) (capped (j + 0)))) last
+    ≡ option_map (λ l. cpu_at l.1.next_pid l.0.stamp (w - s) (sum_at cpu (capped i) (capped j))) last
+unturned cpu w s g i j None = refl
+unturned cpu w s g i j (Some l) =
+    ap (λ x. Some (cpu_at l.1.next_pid l.0.stamp x (sum_at cpu (capped (i + 0)) (capped (j + 0))))) (same-since w s g)
+    ∙ ap (λ x. Some (cpu_at l.1.next_pid l.0.stamp (w - s) (sum_at cpu x (capped (j + 0))))) (capped-none i)
+    ∙ ap (λ x. Some (cpu_at l.1.next_pid l.0.stamp (w - s) (sum_at cpu (capped i) x))) (capped-none j)
+
+pub cpu-woken : (cpu : ℕ) (place : Pos) (woken : ℤ) (before : List Entry) →
+    option_map (cpu_since cpu ((place, Waking woken) ∷ before)) (last_switch cpu ((place, Waking woken) ∷ before)) ≡ option_map (cpu_since cpu before) (last_switch cpu before)
+unfolding last_switch total cpu_sum waited_since_switch
+cpu-woken cpu place woken before = unturned cpu (waited before) (waited_since_switch cpu before) (waited_up_to place before) (total (idled_for cpu) before) (total (idled_with_waiters cpu) before) (last_switch cpu before)
+
+pub cpu-created : (cpu : ℕ) (place : Pos) (created : ℤ) (before : List Entry) →
+    option_map (cpu_since cpu ((place, Creation created) ∷ before)) (last_switch cpu ((place, Creation created) ∷ before)) ≡ option_map (cpu_since cpu before) (last_switch cpu before)
+unfolding last_switch total cpu_sum waited_since_switch
+cpu-created cpu place created before = unturned cpu (waited before) (waited_since_switch cpu before) (waited_up_to place before) (total (idled_for cpu) before) (total (idled_with_waiters cpu) before) (last_switch cpu before)
+
+-- ---- a switch of the CPU
+
+-- what a CPU runs after a switch at a place, by whether that is on the CPU
+abbrev after_switch : Bool → ℕ → Pos → Handover → List Entry → Option Cpu
+after_switch b cpu place turn before =
+    option_map (λ (l : Pos × Handover). cpu_at l.1.next_pid l.0.stamp ((waited before + waited_up_to place before) - cond (is_some {T = Pos × Handover} (cond b (Some (place, turn)) None)) 0 (waited_since_switch cpu before + waited_up_to place before))
+    (sum_at cpu (capped (total (idled_for cpu) before + cond (b && int_eq turn.prev_pid (pos 0)) (run_ended place turn before) 0))
+    (capped (total (idled_with_waiters cpu) before + cond (b && int_eq turn.prev_pid (pos 0)) (waited_in_run (run_begun turn.prev_pid (last_switch place.cpu before)) place before) 0))))
+    (option_or (cond b (Some (place, turn)) None) (last_switch cpu before))
+
+by-place : (cpu : ℕ) (place : Pos) (turn : Handover) (before : List Entry) →
+    after_switch (nat_eq place.cpu cpu) cpu place turn before ≡ option_map (cpu_since cpu ((place, Switch turn) ∷ before)) (last_switch cpu ((place, Switch turn) ∷ before))
+unfolding last_switch total cpu_sum waited_since_switch
+by-place cpu place turn before = refl
+
+minus-none : (n : ℕ) → n ≡ n - 0
+minus-none n = omega arith
+
+either-none : (y : Bool) (t : ℕ) → t ≡ 0 → 0 ≡ capped (t + cond y 0 0)
+either-none true t h = omega arith
+either-none false t h = omega arith
+
+-- the time since the last switch
+time-since : (w s g now : ℕ) → s ≤ w → now ≡ w + g → now - (w - s) ≡ s + g
+time-since w s g now h e = omega arith
+
+sum-none : (cpu i j : ℕ) → sum_at cpu (capped i) (capped j) ≡ sum_at cpu (capped (i + 0)) (capped (j + 0))
+sum-none cpu i j = ap (λ x. sum_at cpu x (capped j)) (sym (capped-none i)) ∙ ap (λ x. sum_at cpu (capped (i + 0)) x) (sym (capped-none j))
+
+run-sum : (z y : Bool) (cpu i j : ℕ) (begun place : Pos) (w s g now : ℕ) → s ≤ w → now ≡ w + g →
+    cond (z && y) (sum_at cpu (capped (capped i + (place.stamp - begun.stamp))) (capped (capped j + (now - (w - s))))) (sum_at cpu (capped i) (capped j))
+    ≡ sum_at cpu (capped (i + cond y (lasted (cond z (Some begun) None) place) 0)) (capped (j + cond y (cond z (s + g) 0) 0))
+run-sum true true cpu i j begun place w s g now h e =
+    ap (λ x. sum_at cpu (capped (capped i + (place.stamp - begun.stamp))) (capped (capped j + x))) (time-since w s g now h e)
+    ∙ ap (λ x. sum_at cpu x (capped (capped j + (s + g)))) (sym (capped-more i (place.stamp - begun.stamp)))
+    ∙ ap (λ x. sum_at cpu (capped (i + (place.stamp - begun.stamp))) x) (sym (capped-more j (s + g)))
+run-sum true false cpu i j begun place w s g now h e = sum-none cpu i j
+run-sum false true cpu i j begun place w s g now h e = sum-none cpu i j
+run-sum false false cpu i j begun place w s g now h e = sum-none cpu i j
+
+waited-run : (z : Bool) (begun place : Pos) (before : List Entry) → waited_in_run (cond z (Some begun) None) place before ≡ cond z (waited_since_switch place.cpu before + waited_up_to place before) 0
+waited-run true begun place before = refl
+waited-run false begun place before = refl
+
+-- at its own CPU
+own-switch : (last : Told) (act : PlacedAct) (before : List Entry) (now : ℕ) → last ≡ last_switch act.place.cpu before → now ≡ waited before + waited_up_to act.place before →
+    Some (cpu_from (option_map (cpu_since act.place.cpu before) last) act now) ≡ after_switch true act.place.cpu act.place (handover_of act) before
+unfolding cpu_sum
+own-switch None act before now is e =
+    let cpu = act.place.cpu in
+    let y = int_eq act.prev_pid (pos 0) in
+    ap (λ x. Some (cpu_at act.pid act.place.stamp x (sum_at cpu 0 0))) (e ∙ minus-none _)
+    ∙ ap (λ x. Some (cpu_at act.pid act.place.stamp (waited before + waited_up_to act.place before - 0) (sum_at cpu x 0))) (either-none y (total (idled_for cpu) before) (never-idle cpu before (sym is)))
+    ∙ ap (λ x. Some (cpu_at act.pid act.place.stamp (waited before + waited_up_to act.place before - 0) (sum_at cpu (capped (total (idled_for cpu) before + cond y 0 0)) x))) (either-none y (total (idled_with_waiters cpu) before) (never-waited cpu before (sym is)))
+    ∙ ap (λ l. Some (cpu_at act.pid act.place.stamp (waited before + waited_up_to act.place before - 0) (sum_at cpu (capped (total (idled_for cpu) before + cond y (lasted (run_begun act.prev_pid l) act.place) 0)) (capped (total (idled_with_waiters cpu) before + cond y (waited_in_run (run_begun act.prev_pid l) act.place before) 0))))) is
+own-switch (Some last) act before now is e =
+    let cpu = act.place.cpu in
+    let y = int_eq act.prev_pid (pos 0) in
+    let z = int_eq last.1.next_pid act.prev_pid in
+    let i = total (idled_for cpu) before in
+    let j = total (idled_with_waiters cpu) before in
+    let sum = run-sum z y cpu i j last.0 act.place (waited before) (waited_since_switch cpu before) (waited_up_to act.place before) now (since-within cpu before) e in
+    ap (λ x. Some (cpu_at act.pid act.place.stamp now x)) sum
+    ∙ ap (λ x. Some (cpu_at act.pid act.place.stamp now (sum_at cpu (capped (i + cond y (lasted (cond z (Some last.0) None) act.place) 0)) (capped (j + cond y x 0))))) (sym (waited-run z last.0 act.place before))
+    ∙ ap (λ x. Some (cpu_at act.pid act.place.stamp x (sum_at cpu (capped (i + cond y (lasted (cond z (Some last.0) None) act.place) 0)) (capped (j + cond y (waited_in_run (cond z (Some last.0) None) act.place before) 0))))) (e ∙ minus-none _)
+    ∙ ap (λ l. Some (cpu_at act.pid act.place.stamp (waited before + waited_up_to act.place before - 0) (sum_at cpu (capped (i + cond y (lasted (run_begun act.prev_pid l) act.place) 0)) (capped (j + cond y (waited_in_run (run_begun act.prev_pid l) act.place before) 0))))) is
+
+by-cpu : (b : Bool) (cpu : ℕ) (act : PlacedAct) (before : List Entry) (now : ℕ) (own rest : Option Cpu) → nat_eq act.place.cpu cpu ≡ b
+    → (act.place.cpu ≡ cpu → own ≡ after_switch true cpu act.place (handover_of act) before) → rest ≡ option_map (cpu_since cpu before) (last_switch cpu before)
+    → cond b own rest ≡ after_switch b cpu act.place (handover_of act) before
+unfolding cpu_sum
+by-cpu true cpu act before now own rest is same other = same ((unsigned_Decides act.place.cpu cpu).0 is)
+by-cpu false cpu act before now own rest is same other = other ∙ sym (unturned cpu (waited before) (waited_since_switch cpu before) (waited_up_to act.place before) (total (idled_for cpu) before) (total (idled_with_waiters cpu) before) (last_switch cpu before))
+
+-- what each CPU runs after a switch
+pub cpu-turned : (cpus new : ℕ → Option Cpu) (act : PlacedAct) (before : List Entry) (now : ℕ) → now ≡ waited before + waited_up_to act.place before
+    → ((cpu : ℕ) → cpus cpu ≡ option_map (cpu_since cpu before) (last_switch cpu before))
+    → ((cpu : ℕ) → new cpu ≡ cond (nat_eq act.place.cpu cpu) (Some (cpu_from (cpus act.place.cpu) act now)) (cpus cpu))
+    → (cpu : ℕ) → new cpu ≡ option_map (cpu_since cpu ((act.place, Switch (handover_of act)) ∷ before)) (last_switch cpu ((act.place, Switch (handover_of act)) ∷ before))
+cpu-turned cpus new act before now e told is cpu =
+    let here = act.place.cpu in
+    is cpu
+    ∙ by-cpu (nat_eq here cpu) cpu act before now (Some (cpu_from (cpus here) act now)) (cpus cpu) refl
+    (λ same. ap (λ o. Some (cpu_from o act now)) (told here) ∙ own-switch (last_switch here before) act before now refl e
+    ∙ ap (λ c. after_switch true c act.place (handover_of act) before) same) (told cpu)
+    ∙ by-place cpu act.place (handover_of act) before

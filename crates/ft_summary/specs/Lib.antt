@@ -1,0 +1,5 @@
+pub mod Runs
+pub mod Waiting
+pub mod Figures
+pub mod Telling
+pub mod inner
