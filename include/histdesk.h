@@ -16,12 +16,12 @@
  * HISTDESK_MEMORY may come in place of any answer, except where a call never has it; the same call may be made again.
  * HISTDESK_CLOSED comes from each call with a code except histdesk_new.
  *
- * Answers. What is larger than a number is asked for by one call, which says how much it is, and copied by another one.
- * The desk keeps one answer of each kind (a text, rows, latencies, places, triggers) as it was when it was asked for, also
- * over edits, until the next of its kind is asked for, or histdesk_forget. It is copied a part at a time: a .._copy call
- * takes the items from number `from` on, counted from 0, writes as many as there are and as `room` allows to `to`, and
- * answers how many that was. It answers 0 from the end on, where nothing was asked for, and without a desk. What is after
- * the items in `to` stays as it was. It needs no memory and changes nothing.
+ * Answers. What is larger than a number is asked for by one call, which says how much it is, and copied by another one. The
+ * desk keeps one answer of each kind (a text, rows, latencies, places, triggers, lines, losses) as it was when it was asked
+ * for, also over edits, until the next of its kind is asked for, or histdesk_forget. It is copied a part at a time: a
+ * .._copy call takes the items from number `from` on, counted from 0, writes as many as there are and as `room` allows to
+ * `to`, and answers how many that was. It answers 0 from the end on, where nothing was asked for, and without a desk. What
+ * is after the items in `to` stays as it was. It needs no memory and changes nothing.
  *
  *     for (uint64_t from = 0; (count = histdesk_rows_copy(&desk, from, rows, 64)) > 0; from += count)
  *         ..
@@ -79,7 +79,7 @@ enum {
     HISTDESK_BAD_COMMAND = 16,       /* no such event, or of scripts: no such command */
     HISTDESK_NOT_READING = 17,       /* the trigger reads no variable, so it has no latencies */
     HISTDESK_BACKWARDS = 18,         /* of waits: a stamp is before that of the event above: line */
-    HISTDESK_NO_STREAM = 19,         /* of waits: no stream takes pieces, or none has ended */
+    HISTDESK_NO_STREAM = 19,         /* of waits: no stream takes pieces, none has ended, or it has taken a piece */
     HISTDESK_CLOSED = 255            /* the handle has no desk */
 };
 
@@ -106,6 +106,12 @@ enum {
     HISTDESK_WAKEUP_LATENCY = 4, /* wakeup_latency, which triggers make; none is ever held */
     HISTDESK_OTHER = 5,          /* any other event */
     HISTDESK_NONE = 255          /* of histdesk_event: no event is held at the place any more */
+};
+
+/* What stands in place of an event's name if a line of a text has no event that can be read. */
+enum {
+    HISTDESK_LINE_SKIPPED = 253, /* it holds no event, and nothing is wrong with it */
+    HISTDESK_LINE_BAD = 254      /* it can't be read */
 };
 
 /* Kinds of a key's parts. */
@@ -264,6 +270,50 @@ typedef struct histdesk_waits_read {
     bool has_written;          /* whether the text has the kernel's header with both numbers */
 } histdesk_waits_read;
 
+/* A line of a text. */
+typedef struct histdesk_text_line {
+    uint64_t end;   /* how many bytes the text has up to the line's end, with its line break */
+    uint64_t stamp; /* of its event; 0 if it has none */
+    uint32_t cpu;   /* of its event; 0 if it has none */
+    uint32_t event; /* HISTDESK_WAKING .. HISTDESK_OTHER; HISTDESK_LINE_SKIPPED, HISTDESK_LINE_BAD */
+    uint32_t fault; /* of one that can't be read, as in REFERENCE.md, Line faults; else 0 */
+    uint32_t zero;  /* 0 */
+} histdesk_text_line;
+
+/* What the lines of a text report lost. What isn't there is 0. */
+typedef struct histdesk_losses_read {
+    uint64_t holes;   /* how many holes there are */
+    uint64_t held;    /* if has_written: of the events that the kernel wrote to its buffers, how many they held */
+    uint64_t written; /* if has_written: how many it wrote */
+    bool has_written; /* whether the text has the kernel's header with both numbers */
+} histdesk_losses_read;
+
+/* How many events were left out of a text by one histdesk_waits_without. */
+typedef struct histdesk_left_out {
+    uint64_t events;   /* how many events of the name it has */
+    uint64_t left_out; /* how many of them pass the filter */
+} histdesk_left_out;
+
+/* What a text sums up to for a task. Each figure stops at the greatest number of 64 bits. */
+typedef struct histdesk_task_sum {
+    uint64_t run_time;  /* how long it ran, in microseconds: in runs of which both switches are known */
+    uint64_t switches;  /* how often a CPU went to it */
+    uint64_t preempted; /* how often a switch to another task left it while it could run: in state R or R+ */
+    uint64_t slept;     /* how often one left it asleep: in a state that begins with S or I */
+    uint64_t blocked;   /* how often one left it blocked: in a state that begins with D */
+    uint64_t moved;     /* how often it was run on another CPU than the one on which it last ran or was left */
+    int32_t pid;        /* the task, not 0 */
+    uint32_t zero;      /* 0 */
+} histdesk_task_sum;
+
+/* What a text sums up to for a CPU. Each figure stops at the greatest number of 64 bits. */
+typedef struct histdesk_cpu_sum {
+    uint64_t idle;              /* how long it ran task 0, in microseconds: in runs of which both switches are known */
+    uint64_t idle_with_waiters; /* how much of that time some task waited for a processor */
+    uint32_t cpu;               /* the CPU */
+    uint32_t zero;              /* 0 */
+} histdesk_cpu_sum;
+
 /* ---- A desk. */
 
 /* Puts a new desk, which holds nothing, into the handle, and frees the desk that was there. HISTDESK_OK, or
@@ -369,7 +419,22 @@ size_t histdesk_places_copy(histdesk *desk, uint64_t from, histdesk_place *to, s
  * an event of another stamp is now at the CPU and line. */
 size_t histdesk_events_copy(histdesk *desk, uint64_t from, histdesk_event *to, size_t room);
 
-/* Gives back the memory of all that was asked for, and of the report. What is held and attached stays. */
+/* ---- Questions about a text, of which the desk holds nothing: its lines may stand in any order of time, some may be such that
+ * they can't be read, and there may be any number of them. */
+
+/* Asks for the lines of a text: what each is, and where it ends. A last line needs no line break. `count` is how many. No
+ * refusal but HISTDESK_MEMORY. */
+uint32_t histdesk_lines(histdesk *desk, const uint8_t *text, size_t length, uint64_t *count);
+size_t histdesk_lines_copy(histdesk *desk, uint64_t from, histdesk_text_line *to, size_t room);
+
+/* Asks where events were lost, as the lines of a text report it: each hole is between two events of a CPU that follow one
+ * another in the text, whatever their stamps. A line that can't be read reports nothing. Holes come in the order of
+ * histdesk_waits_holes. No refusal but HISTDESK_MEMORY. */
+uint32_t histdesk_losses(histdesk *desk, const uint8_t *text, size_t length, histdesk_losses_read *read);
+size_t histdesk_losses_copy(histdesk *desk, uint64_t from, histdesk_hole *to, size_t room);
+
+/* Gives back the memory of all that was asked for, lines and losses of texts too, and of the report. What is held and attached
+ * stays. */
 void histdesk_forget(histdesk *desk);
 
 /* ---- Waits of a recording.
@@ -394,6 +459,18 @@ void histdesk_forget(histdesk *desk);
  * refuses the text. HISTDESK_MEMORY: the stream that was there stays. */
 uint32_t histdesk_waits_new(histdesk *desk, bool skips_bad_lines);
 
+/* Leaves events out of the text: those of a name that pass the filter of a text of `length` bytes, or all of the name if that
+ * is 0. They wake, create and switch nothing, as if they weren't in the text; but they keep their numbers, and all that is told
+ * of the text itself counts them: lines, events, stamps, holes and missing switches. Each further call leaves out more.
+ * HISTDESK_NO_STREAM: no stream takes pieces, or it has taken one. HISTDESK_BAD_COMMAND: no such event, or HISTDESK_OTHER.
+ * HISTDESK_BAD_FILTER. Of a text that is refused it is refused as histdesk_waits_feed is. After a refusal, HISTDESK_MEMORY too,
+ * the stream goes on as before. */
+uint32_t histdesk_waits_without(histdesk *desk, uint32_t event, const uint8_t *filter, size_t length);
+
+/* Sums up the text by task and by CPU as well, without the events that are left out. HISTDESK_NO_STREAM: no stream takes pieces,
+ * or it has taken one. Of a text that is refused it is refused as histdesk_waits_feed is. Never HISTDESK_MEMORY. */
+uint32_t histdesk_waits_sum_up(histdesk *desk);
+
 /* Takes the next piece of the text. `count` is how many waits became known; they are copied until the next feed or finish.
  * HISTDESK_NO_STREAM, HISTDESK_BAD_LINE, HISTDESK_BACKWARDS, HISTDESK_FULL (over 4,294,967,295 lines). But for
  * HISTDESK_NO_STREAM, a refusal, HISTDESK_MEMORY too, leaves no waits, and the stream answers the same from then on. */
@@ -406,10 +483,26 @@ uint32_t histdesk_waits_finish(histdesk *desk, histdesk_waits_read *read, uint64
 /* Copies the waits that the last feed, finish or histdesk_waits_held told. */
 size_t histdesk_waits_copy(histdesk *desk, uint64_t from, histdesk_wait *to, size_t room);
 
-/* Once the stream has ended, these copy the holes of the text, those that an event ended, the first one first, and those that
- * last to the end, by CPU; and how many events each CPU had in it: item n is of CPU n, and there are 8192. */
+/* Once the stream has ended, copies the holes of the text: those of CPUs that begin late, by CPU, if only the header says that
+ * events were overwritten; those that an event ended, the first one first; and those that last to the end, by CPU. */
 size_t histdesk_waits_holes(histdesk *desk, uint64_t from, histdesk_hole *to, size_t room);
+
+/* Once the stream has ended, copies how many events were left out: item n is of the n-th histdesk_waits_without, from 0. An
+ * event that passes several filters counts for each. */
+size_t histdesk_waits_left_out(histdesk *desk, uint64_t from, histdesk_left_out *to, size_t room);
+
+/* Once the stream has ended, copies the sums of each task that a waking, a creation or a switch names, but task 0, by PID; and
+ * those of each CPU that has a switch, by number. There are none if histdesk_waits_sum_up was not called. */
+size_t histdesk_waits_tasks(histdesk *desk, uint64_t from, histdesk_task_sum *to, size_t room);
+size_t histdesk_waits_cpus(histdesk *desk, uint64_t from, histdesk_cpu_sum *to, size_t room);
+
+/* Copies how many events each CPU had so far: item n is of CPU n, and there are 8192. While the stream runs these are the
+ * events in lines that have ended. There are none of a text that is refused, or if no stream has begun. */
 size_t histdesk_waits_events(histdesk *desk, uint64_t from, uint32_t *to, size_t room);
+
+/* Writes the stamp of the last event so far, in the same lines. `has` is false, and `stamp` 0, if there is no event.
+ * HISTDESK_NO_STREAM: no stream has begun. Of a text that is refused it is refused as histdesk_waits_feed is. */
+uint32_t histdesk_waits_last(histdesk *desk, uint64_t *stamp, bool *has);
 
 /* Asks for the waits of the events that the desk holds now, in the order of their ends. `count` is how many. The stream goes
  * on as before. No refusal but HISTDESK_MEMORY. */
@@ -420,8 +513,8 @@ uint32_t histdesk_waits_held(histdesk *desk, uint64_t *count);
  * latter's. A wait whose cause is none of the three stays as it is. HISTDESK_NO_STREAM; never HISTDESK_MEMORY. */
 uint32_t histdesk_waits_doubt(histdesk *desk, histdesk_wait *waits, size_t count);
 
-/* Why the last of histdesk_waits_new, _feed, _finish, _held and _doubt was refused: number, and line and fault. Never
- * HISTDESK_MEMORY. */
+/* Why the last of histdesk_waits_new, _without, _sum_up, _feed, _finish, _last, _held and _doubt was refused: number; line and fault; or
+ * filter_fault and place. Never HISTDESK_MEMORY. */
 uint32_t histdesk_waits_refused(histdesk *desk, histdesk_refusal *refusal);
 
 /* Ends the stream, if there is one, and gives back its memory. histdesk_free does so too, and histdesk_forget doesn't. */
@@ -523,6 +616,30 @@ HISTDESK_AT_(histdesk_waits_read, missing_at, 72);
 HISTDESK_AT_(histdesk_waits_read, bad_fault, 88);
 HISTDESK_AT_(histdesk_waits_read, has_first, 92);
 HISTDESK_AT_(histdesk_waits_read, has_written, 93);
+HISTDESK_ASSERT_(sizeof(histdesk_text_line) == 32);
+HISTDESK_AT_(histdesk_text_line, stamp, 8);
+HISTDESK_AT_(histdesk_text_line, cpu, 16);
+HISTDESK_AT_(histdesk_text_line, event, 20);
+HISTDESK_AT_(histdesk_text_line, fault, 24);
+HISTDESK_AT_(histdesk_text_line, zero, 28);
+HISTDESK_ASSERT_(sizeof(histdesk_losses_read) == 32);
+HISTDESK_AT_(histdesk_losses_read, held, 8);
+HISTDESK_AT_(histdesk_losses_read, written, 16);
+HISTDESK_AT_(histdesk_losses_read, has_written, 24);
+HISTDESK_ASSERT_(sizeof(histdesk_left_out) == 16);
+HISTDESK_AT_(histdesk_left_out, left_out, 8);
+HISTDESK_ASSERT_(sizeof(histdesk_task_sum) == 56);
+HISTDESK_AT_(histdesk_task_sum, switches, 8);
+HISTDESK_AT_(histdesk_task_sum, preempted, 16);
+HISTDESK_AT_(histdesk_task_sum, slept, 24);
+HISTDESK_AT_(histdesk_task_sum, blocked, 32);
+HISTDESK_AT_(histdesk_task_sum, moved, 40);
+HISTDESK_AT_(histdesk_task_sum, pid, 48);
+HISTDESK_AT_(histdesk_task_sum, zero, 52);
+HISTDESK_ASSERT_(sizeof(histdesk_cpu_sum) == 24);
+HISTDESK_AT_(histdesk_cpu_sum, idle_with_waiters, 8);
+HISTDESK_AT_(histdesk_cpu_sum, cpu, 16);
+HISTDESK_AT_(histdesk_cpu_sum, zero, 20);
 HISTDESK_ASSERT_(sizeof(histdesk_refusal) == 40);
 HISTDESK_AT_(histdesk_refusal, fault, 4);
 HISTDESK_AT_(histdesk_refusal, filter_fault, 8);

@@ -2,9 +2,9 @@
 # c_library.sh [LIBRARY [HISTDESK]]: tests the C library, libhistdesk.so.0, by programs in C: the header, what the object
 # exports and asks for, the rows and random scripts, line by line, with numbers held against texts and with growths of memory
 # refused, a desk that is full, each growth of a session refused in turn, what is held of the heap once all events are struck,
-# buffers of just their size, threads and waits (under valgrind where it is installed), and the example. Where HISTDESK is given,
-# more random scripts are held against that program. Without a word, LIBRARY is the one that the variable LIBHISTDESK names,
-# or the one built here. It prints what went wrong, and a last line with the counts.
+# buffers of just their size, threads, waits and lines (under valgrind where it is installed), and the example. Where HISTDESK
+# is given, more random scripts are held against that program. Without a word, LIBRARY is the one that the variable LIBHISTDESK
+# names, or the one built here. It prints what went wrong, and a last line with the counts.
 # shellcheck disable=SC2154 # what counts.sh assigns
 set -uo pipefail
 
@@ -137,11 +137,15 @@ program threads -pthread "$tests/library/c/threads.c"
 holds "$folder/threads"
 program stream -pthread "$tests"/library/c/{waits,heap}.c
 holds "$folder/stream"
+program lines "$tests"/library/c/{lines,heap}.c
+holds "$folder/lines"
 if command -v valgrind >/dev/null; then
     checked=(valgrind -q --error-exitcode=9 --leak-check=full --show-leak-kinds=all --errors-for-leak-kinds=all)
     gives "exact, under valgrind" 0 "" "${checked[@]}" "$folder/exact"
     program plain_stream -pthread "$tests/library/c/waits.c" -DHEAP_IS_PLAIN
     gives "waits, under valgrind" 0 "" "${checked[@]}" "$folder/plain_stream"
+    program plain_lines "$tests/library/c/lines.c" -DHEAP_IS_PLAIN
+    gives "lines, under valgrind" 0 "" "${checked[@]}" "$folder/plain_lines"
     gives "threads, under helgrind" 0 "" valgrind -q --tool=helgrind --error-exitcode=9 "$folder/threads"
     for one in one_latency each_edit_with_answers; do
         row "$tests/rows/$one" "${checked[@]}" "$folder/script" --numbers

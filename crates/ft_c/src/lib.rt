@@ -26,6 +26,8 @@
 //!   (`specs/Calls.antt`), and nothing is written. A copy copies from what the session holds
 //!   (`specs/Copies.antt`), or nothing; `histdesk_events_copy` copies what is held now at the places
 //!   that the session holds, by stamp, CPU and line. Lets through: what the session does.
+//! - `histdesk_lines`, `histdesk_losses`: what the session's call says of a text (`ReadsLines`, `ReadsLosses` of
+//!   `ft_session`, over `ft_lines`); the desk holds nothing of it. Their copies are as any other.
 //! - `histdesk_waits_..`: what the call of the session's stream says (`specs/Calls.antt` of `ft_stream`), and
 //!   but for the stream the session is as before (`OnlyWaits`).
 //! - `Handle::empty`, `take`, `put`: contracts see what a handle holds: a session, or nothing,
@@ -48,6 +50,7 @@ mod codes;
 mod copies;
 mod desks;
 mod handle;
+mod lines;
 mod parts;
 mod refusals;
 mod waits;

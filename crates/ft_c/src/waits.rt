@@ -3,10 +3,12 @@
 
 ghost use Rattle.std.specs.Prelude.{◌≡◌, None, IfNone, IsSomeAnd};
 ghost use Rattle.std.specs.Option.{MatchOption};
-ghost use Rattle.ft_stream.specs.Calls.{Begins, Feeds, Finishes, DoubtsWaits, IsIdle};
+ghost use Rattle.ft_layout.specs.Names.{name_numbered};
+ghost use Rattle.ft_stream.specs.Calls.{Begins, LeavesOut, SumsUp, Feeds, Finishes, TellsLast, DoubtsWaits, IsIdle};
 ghost use Rattle.ft_stream.specs.Faults.{refusal_layout};
-ghost use Rattle.ft_stream.specs.Layouts.{wait_layout, hole_layout};
-ghost use Rattle.ft_stream.specs.Telling.{holes_at, events_at};
+ghost use Rattle.ft_stream.specs.Layouts.{wait_layout, hole_layout, left_out_layout, task_sum_layout, cpu_sum_layout};
+ghost use Rattle.ft_stream.specs.Summing.{tasks_at, cpus_at};
+ghost use Rattle.ft_stream.specs.Telling.{holes_at, left_out_at, events_at};
 ghost use Rattle.ft_session.specs.Calls.{HoldsWaits};
 ghost use Rattle.ft_c.specs.Calls.{Calls, CallsWriting, OnlyWaits};
 ghost use Rattle.ft_c.specs.Codes.{closed};
@@ -15,9 +17,10 @@ ghost use Rattle.ft_c.specs.Policies.{bad_lines};
 
 use crate::codes::{ACCEPTED, CLOSED};
 use crate::handle::Handle;
-use ft_layout::RefusalLayout;
+use ft_layout::{RefusalLayout, name_numbered};
 use ft_stream::{
-    BadLines, HoleLayout, ReadLayout, WaitLayout, copy_holes, copy_numbers, copy_waits, refusal_of,
+    BadLines, CpuSumLayout, HoleLayout, LeftOutLayout, ReadLayout, TaskSumLayout, WaitLayout,
+    copy_cpus, copy_holes, copy_left_out, copy_numbers, copy_tasks, copy_waits, refusal_of,
 };
 use std::alloc::Global;
 
@@ -41,6 +44,43 @@ pub extern "C" fn histdesk_waits_new(alloc: Global, desk: &mut Handle, skips: bo
     match desk.take(alloc) {
         Some(mut session) => {
             let code = session.waits.begin(bad_lines(skips));
+            desk.put(alloc, session);
+            code
+        }
+        None => CLOSED,
+    }
+}
+
+/// Leaves events out of the text: those of a name's number that pass a filter, or all of the name.
+#[unsafe(no_mangle)]
+pub extern "C" fn histdesk_waits_without(
+    alloc: Global,
+    desk: &mut Handle,
+    event: u32,
+    filter: &[u8],
+) -> u32
+    ensures { Calls desk.old.held desk.new.held result (λ before after.
+        LeavesOut (name_numbered event) filter.now before.waits result after.waits × OnlyWaits before after) }
+{
+    match desk.take(alloc) {
+        Some(mut session) => {
+            let code = session.waits.leave_out(name_numbered(event), filter);
+            desk.put(alloc, session);
+            code
+        }
+        None => CLOSED,
+    }
+}
+
+/// Sums up the tasks and CPUs of the text as well.
+#[unsafe(no_mangle)]
+pub extern "C" fn histdesk_waits_sum_up(alloc: Global, desk: &mut Handle) -> u32
+    ensures { Calls desk.old.held desk.new.held result (λ before after.
+        SumsUp before.waits result after.waits × OnlyWaits before after) }
+{
+    match desk.take(alloc) {
+        Some(mut session) => {
+            let code = session.waits.sum_up();
             desk.put(alloc, session);
             code
         }
@@ -138,7 +178,76 @@ pub extern "C" fn histdesk_waits_holes(
     }
 }
 
-/// Copies how many events each CPU had in a text that has ended, by the CPU's number: how many CPUs.
+/// Copies how many events were left out of a text that has ended: how many such counts.
+#[unsafe(no_mangle)]
+pub extern "C" fn histdesk_waits_left_out(
+    alloc: Global,
+    desk: &mut Handle,
+    from: u64,
+    to: &mut [LeftOutLayout],
+) -> usize
+    ensures part { MatchOption desk.old.held
+        ((result ≡ 0) × (to.new ≡ to.old))
+        (λ held. IsCopied left_out_layout (left_out_at held.waits.phase) from to.old result to.new) }
+    ensures unchanged { desk.new.held ≡ desk.old.held }
+{
+    match desk.take(alloc) {
+        Some(session) => {
+            let copied = copy_left_out(session.waits.phase.left_out(), from, to);
+            desk.put(alloc, session);
+            copied
+        }
+        None => 0,
+    }
+}
+
+/// Copies what a text that has ended sums up to by task: how many tasks.
+#[unsafe(no_mangle)]
+pub extern "C" fn histdesk_waits_tasks(
+    alloc: Global,
+    desk: &mut Handle,
+    from: u64,
+    to: &mut [TaskSumLayout],
+) -> usize
+    ensures part { MatchOption desk.old.held
+        ((result ≡ 0) × (to.new ≡ to.old))
+        (λ held. IsCopied task_sum_layout (tasks_at held.waits.phase) from to.old result to.new) }
+    ensures unchanged { desk.new.held ≡ desk.old.held }
+{
+    match desk.take(alloc) {
+        Some(session) => {
+            let copied = copy_tasks(session.waits.phase.tasks(), from, to);
+            desk.put(alloc, session);
+            copied
+        }
+        None => 0,
+    }
+}
+
+/// Copies what a text that has ended sums up to by CPU: how many CPUs.
+#[unsafe(no_mangle)]
+pub extern "C" fn histdesk_waits_cpus(
+    alloc: Global,
+    desk: &mut Handle,
+    from: u64,
+    to: &mut [CpuSumLayout],
+) -> usize
+    ensures part { MatchOption desk.old.held
+        ((result ≡ 0) × (to.new ≡ to.old))
+        (λ held. IsCopied cpu_sum_layout (cpus_at held.waits.phase) from to.old result to.new) }
+    ensures unchanged { desk.new.held ≡ desk.old.held }
+{
+    match desk.take(alloc) {
+        Some(session) => {
+            let copied = copy_cpus(session.waits.phase.cpus(), from, to);
+            desk.put(alloc, session);
+            copied
+        }
+        None => 0,
+    }
+}
+
+/// Copies how many events each CPU had so far, by the CPU's number: how many CPUs.
 #[unsafe(no_mangle)]
 pub extern "C" fn histdesk_waits_events(
     alloc: Global,
@@ -158,6 +267,29 @@ pub extern "C" fn histdesk_waits_events(
             copied
         }
         None => 0,
+    }
+}
+
+/// Writes the stamp of the last event so far, and whether there is one.
+#[unsafe(no_mangle)]
+pub extern "C" fn histdesk_waits_last(
+    alloc: Global,
+    desk: &mut Handle,
+    stamp: &mut u64,
+    has: &mut bool,
+) -> u32
+    ensures does { CallsWriting desk.old.held desk.new.held result stamp.old stamp.new (λ before after.
+        TellsLast before.waits stamp.old has.old result stamp.new has.new after.waits
+        × OnlyWaits before after) }
+    ensures has { IfNone desk.old.held (has.new ≡ has.old) }
+{
+    match desk.take(alloc) {
+        Some(mut session) => {
+            let code = session.waits.last(stamp, has);
+            desk.put(alloc, session);
+            code
+        }
+        None => CLOSED,
     }
 }
 

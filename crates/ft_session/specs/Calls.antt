@@ -1,5 +1,5 @@
 -- What each call of a session does, by what its desk does. All of it is our own choice.
-use Rattle.std.specs.Prelude.{◌≡◌, ◌≢◌, ℕ, List, [], Vec, Option, Some, None, MatchOption, IsSomeAnd, Result, Err}
+use Rattle.std.specs.Prelude.{◌≡◌, ◌≢◌, ℕ, List, [], Vec, Some, None, MatchOption, IsSomeAnd, Result, Err}
 use Rattle.std.specs.declared.alloc.Global.{Global}
 use Rattle.ft_fields.specs.Traced.{Traced}
 use Rattle.ft_fields.specs.declared.pos.Pos.{Pos}
@@ -22,6 +22,10 @@ use Rattle.ft_layout.specs.Rows.{totals_layout}
 use Rattle.ft_layout.specs.declared.events.EventLayout.{EventLayout}
 use Rattle.ft_layout.specs.declared.places.LineLayout.{LineLayout}
 use Rattle.ft_layout.specs.declared.rows.TotalsLayout.{TotalsLayout}
+use Rattle.ft_lines.specs.Layouts.{losses_layout}
+use Rattle.ft_lines.specs.Losses.{AreLossesOf}
+use Rattle.ft_lines.specs.declared.layouts.LossesLayout.{LossesLayout}
+use Rattle.ft_lines.specs.declared.line.TextLine.{TextLine}
 use Rattle.ft_stream.specs.Calls.{IsIdle, Holds}
 use Rattle.ft_session.specs.declared.session.Session.{Session}
 use Rattle.ft_session.specs.Told.{code_of, edit_told, answer_told, shown_as, IsWritten, IsSized}
@@ -33,7 +37,7 @@ line_event_layout line event = held_event_layout (record { stamp = event.stamp; 
 -- nothing was asked for, or all is forgotten
 abbrev pub AsksNothing : Session → Type 0
 AsksNothing new =
-    (new.text.items ≡ []) × (new.rows.items ≡ []) × (new.pairs.items ≡ []) × (new.places.items ≡ []) × (new.attached.items ≡ []) × (new.edited ≡ None)
+    (new.text.items ≡ []) × (new.rows.items ≡ []) × (new.pairs.items ≡ []) × (new.places.items ≡ []) × (new.attached.items ≡ []) × (new.lines.items ≡ []) × (new.losses.holes.items ≡ []) × (new.losses.buffers ≡ None) × (new.edited ≡ None)
 
 -- a session that holds nothing, was asked for nothing, has refused nothing, and in which no stream has begun
 unfoldable pub IsNew : Session → Type 0
@@ -143,6 +147,22 @@ ReadsEvent line expected old before code event new =
     × (code ≡ code_of new.refused)
     × IsWritten new.refused before event
     × (new ≡ record old { refused = new.refused })
+
+-- ---- questions about a text: the desk is as before
+
+-- its lines
+unfoldable pub ReadsLines : Result (List TextLine) Refused → Session → ℕ → ℕ → ℕ → Session → Type 0
+ReadsLines expected old before code size new =
+    IsRead (λ session. session.lines) expected old before code size new × (new ≡ record old { lines = new.lines; refused = new.refused })
+
+-- what its lines report lost is there, and is written; it is refused only for memory, and then what was there stays
+unfoldable pub ReadsLosses : List ℕ → Session → LossesLayout → ℕ → LossesLayout → Session → Type 0
+ReadsLosses text old before code read new =
+    MatchOption new.refused
+    (AreLossesOf text new.losses × (read ≡ losses_layout new.losses))
+    (λ why. (why ≡ Memory) × (new.losses ≡ old.losses) × (read ≡ before))
+    × (code ≡ code_of new.refused)
+    × (new ≡ record old { losses = new.losses; refused = new.refused })
 
 -- ---- waits
 

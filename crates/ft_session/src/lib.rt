@@ -31,10 +31,14 @@
 //!   memory at any time in the other calls; any number of steps; putting the tables off at any edit
 //!   (the desk's own clauses `repairs` and `now` are not told again here); a new session whose tables
 //!   are deferred; memory that is kept of what `forget` and later answers let go.
+//! - `Session::lines`, `losses`: what `ft_lines` says of a text, of which the desk holds nothing
+//!   (`ReadsLines`, `ReadsLosses` in `specs/Calls.antt`); all else stays. Let through: running out of memory
+//!   at any time.
 //! - The places that a session holds are those of the moment when they were asked for. Which events
 //!   are there now is told by the desk's lanes (`event_in` of `ft_layout`).
 #![tactic(auto)]
 
+mod lines;
 mod session;
 mod told;
 

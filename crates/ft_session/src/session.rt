@@ -17,12 +17,15 @@ ghost use Rattle.ft_session.specs.Calls.{AnswersTotals, AnswersText, AnswersRows
 ghost use Rattle.ft_session.specs.Calls.{AnswersPairs, ReadsText, ReadsPlaces};
 ghost use Rattle.ft_session.specs.Calls.{ReadsTriggers, ReadsEvent, HoldsWaits};
 
+use crate::lines::no_losses;
 use crate::told::{accept, all_told, hold, refuse, told};
 use ft_answers::{AttachedTrigger, Changed, Edited, Pair, Refused, Row};
 use ft_board::KeptBoard;
 use ft_desk::Desk;
 use ft_fields::{Name, Pos};
 use ft_layout::{EventLayout, LineLayout, ReportLayout, TotalsLayout};
+use ft_lines::TextLine;
+use ft_losses::LossesRead;
 use ft_stream::Stream;
 use std::alloc::Global;
 
@@ -43,6 +46,10 @@ pub struct Session {
     pub places: Vec<Pos>,
     /// The attached triggers, as last asked for.
     pub attached: Vec<AttachedTrigger>,
+    /// The lines of the text that was last asked for by `lines`.
+    pub lines: Vec<TextLine>,
+    /// What the text reports lost that was last asked for by `losses`.
+    pub losses: LossesRead,
     /// What the last accepted insert or strike told.
     pub edited: Option<Edited>,
     /// Why the last call with a code was refused, if it was.
@@ -65,6 +72,8 @@ impl Session {
             pairs: Vec::new(alloc),
             places: Vec::new(alloc),
             attached: Vec::new(alloc),
+            lines: Vec::new(alloc),
+            losses: no_losses(alloc),
             edited: None,
             refused: None,
             waits: Stream::new(alloc),
@@ -358,6 +367,8 @@ impl Session {
         self.pairs = Vec::new(self.alloc);
         self.places = Vec::new(self.alloc);
         self.attached = Vec::new(self.alloc);
+        self.lines = Vec::new(self.alloc);
+        self.losses = no_losses(self.alloc);
         self.edited = None;
     }
 }

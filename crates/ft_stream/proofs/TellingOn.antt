@@ -1,30 +1,30 @@
 -- What a part of a text tells comes behind what was told before.
-use Rattle.std.specs.Prelude.{◌≡◌, ℕ, List, [], ◌++◌}
+use Rattle.std.specs.Prelude.{◌≡◌, ℕ, List, [], ◌++◌, None}
 use Rattle.std.proofs.Common.{sym, ap, ◌∙◌, subst, append-nil}
 use Rattle.std.proofs.lemmas.List.Elements.{filter-append}
 use Rattle.ft_dispatch.specs.declared.dispatch.Dispatch.{Dispatch}
+use Rattle.ft_waits.specs.Choice.{Choice}
 use Rattle.ft_waits.specs.Streams.{HasRead, AreDispatches}
-use Rattle.ft_waits.specs.declared.fault.BadLines.{BadLines}
 use Rattle.ft_waits.specs.declared.stream.Waits.{Waits}
 use Rattle.ft_stream.specs.Telling.{ends_wait, waits_of, HasTold, AreWaits}
 use Rattle.ft_stream.specs.declared.phase.Finished.{Finished}
 
 -- nothing more is told by a list that was cleared
-pub by_cleared : (policy : BadLines) (waits : Waits) (text : List ℕ) (told cleared : List Dispatch) → cleared ≡ [] → HasRead policy waits text told → HasRead policy waits text (told ++ cleared)
-by_cleared policy waits text told cleared none read = subst (λ (ds : List Dispatch). HasRead policy waits text ds) (sym (append-nil told) ∙ ap (λ ds. told ++ ds) (sym none)) read
+pub by_cleared : (choice : Choice) (waits : Waits) (text : List ℕ) (told cleared : List Dispatch) → cleared ≡ [] → HasRead choice waits text told → HasRead choice waits text (told ++ cleared)
+by_cleared choice waits text told cleared none read = subst (λ (ds : List Dispatch). HasRead choice waits text ds) (sym (append-nil told) ∙ ap (λ ds. told ++ ds) (sym none)) read
 
 -- the waits of what was told before and of what is told now
 both_waits : (before told out waits : List Dispatch) → before ≡ waits_of told → waits ≡ waits_of out → before ++ waits ≡ waits_of (told ++ out)
 both_waits before told out waits were are = ap (λ ws. ws ++ waits) were ∙ ap (λ ws. waits_of told ++ ws) are ∙ sym (filter-append ends_wait told out)
 
 -- a piece was read, and told these dispatches, of which the waits are kept
-pub tells_on : (policy : BadLines) (old new : Waits) (text more : List ℕ) (before out waits : List Dispatch) → waits ≡ waits_of out → (had : HasTold policy old text before) → HasRead policy new more (had.dispatches ++ out) → HasTold policy new more (before ++ waits)
-tells_on policy old new text more before out waits are had read = record { dispatches = had.dispatches ++ out; has_read = read; are_waits = both_waits before had.dispatches out waits had.are_waits are }
+pub tells_on : (choice : Choice) (old new : Waits) (text more : List ℕ) (before out waits : List Dispatch) → waits ≡ waits_of out → (had : HasTold choice old text before) → HasRead choice new more (had.dispatches ++ out) → new.failed ≡ None → HasTold choice new more (before ++ waits)
+tells_on choice old new text more before out waits are had read well = record { dispatches = had.dispatches ++ out; has_read = read; well = well; are_waits = both_waits before had.dispatches out waits had.are_waits are }
 
 -- the same of the end
-pub tells_end : (policy : BadLines) (old : Waits) (text : List ℕ) (before out waits : List Dispatch) (finished : Finished) → waits ≡ waits_of out → (had : HasTold policy old text before) → AreDispatches policy text (had.dispatches ++ out) finished.read → finished.doubts ≡ finished.read.losses.holes.items → AreWaits policy text (before ++ waits) finished
-tells_end policy old text before out waits finished are had answer doubts = record {
+pub tells_end : (choice : Choice) (old : Waits) (text : List ℕ) (before out waits : List Dispatch) (finished : Finished) → waits ≡ waits_of out → (had : HasTold choice old text before) → AreDispatches choice text (had.dispatches ++ out) finished.read → finished.doubts ≡ finished.read.losses.holes.items → AreWaits choice text (before ++ waits) finished
+tells_end choice old text before out waits finished are had answer doubts = record {
   are_waits = both_waits before had.dispatches out waits had.are_waits are ∙ ap waits_of answer.dispatches;
-  answer = subst (λ (ds : List Dispatch). AreDispatches policy text ds finished.read) answer.dispatches answer;
+  answer = subst (λ (ds : List Dispatch). AreDispatches choice text ds finished.read) answer.dispatches answer;
   doubts = doubts;
 }

@@ -1,14 +1,18 @@
 -- What each call of a stream does. All of it is our own choice.
-use Rattle.std.specs.Prelude.{◌≡◌, ℕ, List, [], ◌++◌, length, map, Option, Some, None, MatchOption, IsSomeAnd}
+use Rattle.std.specs.Prelude.{◌≡◌, ℕ, List, [], ◌++◌, length, map, Option, Some, None, MatchOption, IsSomeAnd, Bool, is_some, unwrap_or}
 use Rattle.ft_dispatch.specs.declared.dispatch.Dispatch.{Dispatch}
+use Rattle.ft_fields.specs.declared.event.Name.{Name}
 use Rattle.ft_held_waits.specs.Held.{dispatches_held}
 use Rattle.ft_lanes.specs.Held.{Lanes}
+use Rattle.ft_waits.specs.Choice.{Choice, all_events}
 use Rattle.ft_waits.specs.declared.fault.BadLines.{BadLines}
 use Rattle.ft_waits.specs.declared.fault.WaitsFault.TheVariants.{Memory}
 use Rattle.ft_stream.specs.Doubting.{doubted}
 use Rattle.ft_stream.specs.Faults.{fault_code, code_of}
 use Rattle.ft_stream.specs.Layouts.{read_layout}
-use Rattle.ft_stream.specs.Telling.{Streams, Ends, refused_at, failed_at, unfinished_at, finished_at, holes_at, waits_of}
+use Rattle.ft_stream.specs.Leaving.{LeavesThemOut, GoesOn, IsRefused}
+use Rattle.ft_stream.specs.Summing.{SumsThemUp, IsTooLate}
+use Rattle.ft_stream.specs.Telling.{Streams, Ends, refused_at, failed_at, unfinished_at, untold_at, finished_at, holes_at, last_at, waits_of}
 use Rattle.ft_stream.specs.declared.fault.StreamFault.{StreamFault}
 use Rattle.ft_stream.specs.declared.fault.StreamFault.TheVariants.{Text}
 use Rattle.ft_stream.specs.declared.layouts.ReadLayout.{ReadLayout}
@@ -28,8 +32,24 @@ Refuses why old code new = (code ≡ fault_code why) × (new ≡ record old { re
 unfoldable pub Begins : BadLines → Stream → ℕ → Stream → Type 0
 Begins policy old code new =
     MatchOption new.refused
-    ((code ≡ 0) × Streams policy new.phase [] [] × (new.waits.items ≡ []) × (new ≡ record old { phase = new.phase; waits = new.waits; refused = None }))
+    ((code ≡ 0) × Streams (all_events policy) new.phase [] [] × (new.waits.items ≡ []) × (new ≡ record old { phase = new.phase; waits = new.waits; refused = None }))
     (λ why. (why ≡ Text Memory) × Refuses why old code new)
+
+-- events are left out of a stream of which nothing is read; if it is refused, the stream goes on as before
+unfoldable pub LeavesOut : Name → List ℕ → Stream → ℕ → Stream → Type 0
+LeavesOut name filter old code new =
+    MatchOption new.refused
+    (LeavesThemOut name filter old.phase new.phase)
+    (λ why. IsRefused name filter old.phase why × GoesOn old.phase new.phase)
+    × (code ≡ code_of new.refused)
+    × (new ≡ record old { phase = new.phase; refused = new.refused })
+
+-- tasks and CPUs are summed up as well in a stream of which nothing is read; if it is refused, the stream is as before
+unfoldable pub SumsUp : Stream → ℕ → Stream → Type 0
+SumsUp old code new =
+    MatchOption new.refused
+    ((code ≡ 0) × SumsThemUp old.phase new.phase × (new ≡ record old { phase = new.phase; refused = None }))
+    (λ why. IsTooLate old.phase why × Refuses why old code new)
 
 -- the count is that of the waits that were told; after a refusal there are none, and the count is as before
 abbrev pub IsCounted : Option StreamFault → ℕ → List Dispatch → ℕ → Type 0
@@ -38,7 +58,7 @@ IsCounted refused before waits count = MatchOption refused (count ≡ length wai
 -- a stream that runs takes a piece of whatever text it has read: the waits that it tells are there
 unfoldable pub FeedsOn : List ℕ → Stream → ℕ → ℕ → ℕ → Stream → Type 0
 FeedsOn piece old before code count new =
-    ((policy : BadLines) (text : List ℕ) (told : List Dispatch) → Streams policy old.phase text told → Streams policy new.phase (text ++ piece) (told ++ new.waits.items))
+    ((choice : Choice) (text : List ℕ) (told : List Dispatch) → Streams choice old.phase text told → Streams choice new.phase (text ++ piece) (told ++ new.waits.items))
     × (new.refused ≡ refused_at new.phase)
     × (code ≡ code_of new.refused)
     × IsCounted new.refused before new.waits.items count
@@ -54,7 +74,7 @@ Feeds piece old before code count new =
 -- a stream that runs ends: the waits that are left are there, and what was read is written
 unfoldable pub FinishesOn : Stream → ReadLayout → ℕ → ℕ → ReadLayout → ℕ → Stream → Type 0
 FinishesOn old read_before before code read count new =
-    ((policy : BadLines) (text : List ℕ) (told : List Dispatch) → Streams policy old.phase text told → Ends policy new.phase text (told ++ new.waits.items))
+    ((choice : Choice) (text : List ℕ) (told : List Dispatch) → Streams choice old.phase text told → Ends choice new.phase text (told ++ new.waits.items))
     × (new.refused ≡ failed_at new.phase)
     × (code ≡ code_of new.refused)
     × IsCounted new.refused before new.waits.items count
@@ -67,6 +87,13 @@ Finishes old read_before before code read count new =
     MatchOption (refused_at old.phase)
     (FinishesOn old read_before before code read count new)
     (λ why. Refuses why old code new × (read ≡ read_before) × (count ≡ before))
+
+-- the last stamp so far is written, of a stream that runs or whose text has ended
+unfoldable pub TellsLast : Stream → ℕ → Bool → ℕ → ℕ → Bool → Stream → Type 0
+TellsLast old stamp_before has_before code stamp has new =
+    MatchOption (untold_at old.phase)
+    ((code ≡ 0) × (stamp ≡ unwrap_or (last_at old.phase) 0) × (has ≡ is_some (last_at old.phase)) × (new ≡ record old { refused = None }))
+    (λ why. Refuses why old code new × (stamp ≡ stamp_before) × (has ≡ has_before))
 
 -- the waits of held events are there now, and where the stream stands stays; it is refused only for memory, and then the waits stay too
 unfoldable pub Holds : Lanes → Stream → ℕ → ℕ → ℕ → Stream → Type 0

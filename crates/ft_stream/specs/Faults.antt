@@ -3,7 +3,7 @@ use Rattle.std.specs.Prelude.{ℕ, Option, Some, None}
 use Rattle.ft_event.specs.LineFault.{line_number}
 use Rattle.ft_waits.specs.declared.fault.WaitsFault.{WaitsFault}
 use Rattle.ft_waits.specs.declared.fault.WaitsFault.TheVariants as texts
-use Rattle.ft_layout.specs.Refusals.{no_refusal}
+use Rattle.ft_layout.specs.Refusals.{no_refusal, with_filter_fault}
 use Rattle.ft_layout.specs.declared.refusals.RefusalLayout.{RefusalLayout}
 use Rattle.ft_stream.specs.declared.fault.StreamFault.{StreamFault}
 use Rattle.ft_stream.specs.declared.fault.StreamFault.TheVariants as faults
@@ -15,10 +15,12 @@ text_code (texts.BadLine bad) = 3
 text_code texts.TooLong = 7
 text_code (texts.Backwards line) = 18
 
--- the code of a refusal
+-- the code of a refusal; those that the desk has too are the desk's
 abbrev pub fault_code : StreamFault → ℕ
 fault_code (faults.Text fault) = text_code fault
 fault_code faults.NoStream = 19
+fault_code faults.NoEvent = 16
+fault_code (faults.Filter fault) = 9
 
 -- the code of a call: 0, or that of its refusal
 abbrev pub code_of : Option StreamFault → ℕ
@@ -36,6 +38,8 @@ with_text_detail layout (texts.Backwards line) = record layout { line = line }
 abbrev pub with_detail : RefusalLayout → StreamFault → RefusalLayout
 with_detail layout (faults.Text fault) = with_text_detail layout fault
 with_detail layout faults.NoStream = layout
+with_detail layout faults.NoEvent = layout
+with_detail layout (faults.Filter fault) = with_filter_fault layout fault
 
 -- a refusal as C has it, or that nothing was refused
 abbrev pub refusal_layout : Option StreamFault → RefusalLayout

@@ -12,9 +12,15 @@ use Rattle.ft_layout.specs.Places.{place_layout}
 use Rattle.ft_layout.specs.declared.places.PlaceLayout.{PlaceLayout}
 use Rattle.ft_losses.specs.declared.hole.Buffers.{Buffers}
 use Rattle.ft_losses.specs.declared.hole.Hole.{Hole}
+use Rattle.ft_waits.specs.declared.left_out.LeftOut.{LeftOut}
+use Rattle.ft_summary.specs.declared.sums.CpuSum.{CpuSum}
+use Rattle.ft_summary.specs.declared.sums.TaskSum.{TaskSum}
 use Rattle.ft_stream.specs.declared.layouts.HoleLayout.{HoleLayout}
+use Rattle.ft_stream.specs.declared.layouts.LeftOutLayout.{LeftOutLayout}
 use Rattle.ft_stream.specs.declared.layouts.ReadLayout.{ReadLayout}
 use Rattle.ft_stream.specs.declared.layouts.WaitLayout.{WaitLayout}
+use Rattle.ft_stream.specs.declared.summing.CpuSumLayout.{CpuSumLayout}
+use Rattle.ft_stream.specs.declared.summing.TaskSumLayout.{TaskSumLayout}
 use Rattle.ft_stream.specs.declared.phase.Finished.{Finished}
 
 -- no place
@@ -81,6 +87,27 @@ hole_layout hole = record {
   has_before = is_some hole.before;
   has_count = is_some hole.count;
 }
+
+-- how many events were left out
+abbrev pub left_out_layout : LeftOut → LeftOutLayout
+left_out_layout count = record { events = count.events; left_out = count.left_out }
+
+-- what acts sum up to for a task
+abbrev pub task_sum_layout : TaskSum → TaskSumLayout
+task_sum_layout sum = record {
+  run_time = sum.run_time;
+  switches = sum.switches;
+  preempted = sum.preempted;
+  slept = sum.slept;
+  blocked = sum.blocked;
+  moved = sum.moved;
+  pid = sum.pid;
+  zero = 0;
+}
+
+-- what acts sum up to for a CPU
+abbrev pub cpu_sum_layout : CpuSum → CpuSumLayout
+cpu_sum_layout sum = record { idle = sum.idle; idle_with_waiters = sum.idle_with_waiters; cpu = sum.cpu; zero = 0 }
 
 -- what a text without the kernel's header tells of the buffers
 abbrev pub no_buffers : Buffers

@@ -2,9 +2,11 @@
 use Rattle.std.specs.Prelude.{◌≡◌, ℕ, Bool, List, [], filter, Option, Some, None, is_some}
 use Rattle.ft_dispatch.specs.Began.{waiting_since}
 use Rattle.ft_dispatch.specs.declared.dispatch.Dispatch.{Dispatch}
+use Rattle.ft_waits.specs.Choice.{Choice}
 use Rattle.ft_waits.specs.Reading.{history, dispatches_in, Fails, FailsAt}
-use Rattle.ft_waits.specs.Streams.{HasRead, AreDispatches}
-use Rattle.ft_waits.specs.declared.fault.BadLines.{BadLines}
+use Rattle.ft_waits.specs.Streams.{HasRead, AreDispatches, counts_kept, last_kept}
+use Rattle.ft_waits.specs.declared.left_out.LeftOut.{LeftOut}
+use Rattle.ft_waits.specs.declared.left_out.Without.{Without}
 use Rattle.ft_waits.specs.declared.stream.Waits.{Waits}
 use Rattle.ft_losses.specs.declared.hole.Hole.{Hole}
 use Rattle.ft_stream.specs.declared.fault.StreamFault.{StreamFault}
@@ -21,35 +23,36 @@ ends_wait dispatch = is_some (waiting_since dispatch.since)
 abbrev pub waits_of : List Dispatch → List Dispatch
 waits_of dispatches = filter ends_wait dispatches
 
--- the waits of a trace text
-abbrev pub waits_in : List ℕ → List Dispatch
-waits_in text = waits_of (dispatches_in text)
+-- the waits of a trace text, without some of its events
+abbrev pub waits_in : List Without → List ℕ → List Dispatch
+waits_in without text = waits_of (dispatches_in without text)
 
 -- a text was read so far, and these waits were told of it
-pub record HasTold (policy : BadLines) (waits : Waits) (text : List ℕ) (told : List Dispatch) : Type 0 where
+pub record HasTold (choice : Choice) (waits : Waits) (text : List ℕ) (told : List Dispatch) : Type 0 where
   pub dispatches : List Dispatch
-  pub has_read : HasRead policy waits text dispatches
+  pub has_read : HasRead choice waits text dispatches
+  pub well : waits.failed ≡ None
   pub are_waits : told ≡ waits_of dispatches
 
 -- the answer to a whole text: its waits were told, no line of it is refused, and waits are doubted by its holes
-pub record AreWaits (policy : BadLines) (text : List ℕ) (told : List Dispatch) (finished : Finished) : Type 0 where
-  pub are_waits : told ≡ waits_in text
-  pub answer : AreDispatches policy text (dispatches_in text) finished.read
+pub record AreWaits (choice : Choice) (text : List ℕ) (told : List Dispatch) (finished : Finished) : Type 0 where
+  pub are_waits : told ≡ waits_in choice.without text
+  pub answer : AreDispatches choice text (dispatches_in choice.without text) finished.read
   pub doubts : finished.doubts ≡ finished.read.losses.holes.items
 
 -- by where a stream stands: what it has read of a text, and the waits that it told of it; or the text is refused
-abbrev pub Streams : BadLines → Phase → List ℕ → List Dispatch → Type 0
-Streams policy phases.Idle text told = ⊥
-Streams policy (phases.Running waits) text told = HasTold policy waits text told
-Streams policy (phases.Failed fault) text told = Fails policy text fault
-Streams policy (phases.Finished finished) text told = ⊥
+abbrev pub Streams : Choice → Phase → List ℕ → List Dispatch → Type 0
+Streams choice phases.Idle text told = ⊥
+Streams choice (phases.Running waits) text told = HasTold choice waits text told
+Streams choice (phases.Failed fault) text told = Fails choice.bad_lines text fault
+Streams choice (phases.Finished finished) text told = ⊥
 
 -- the same of a text that has ended
-abbrev pub Ends : BadLines → Phase → List ℕ → List Dispatch → Type 0
-Ends policy phases.Idle text told = ⊥
-Ends policy (phases.Running waits) text told = ⊥
-Ends policy (phases.Failed fault) text told = FailsAt policy (history text) fault
-Ends policy (phases.Finished finished) text told = AreWaits policy text told finished
+abbrev pub Ends : Choice → Phase → List ℕ → List Dispatch → Type 0
+Ends choice phases.Idle text told = ⊥
+Ends choice (phases.Running waits) text told = ⊥
+Ends choice (phases.Failed fault) text told = FailsAt choice.bad_lines (history text) fault
+Ends choice (phases.Finished finished) text told = AreWaits choice text told finished
 
 -- why a stream takes no piece and does not end there, if it is so
 abbrev pub refused_at : Phase → Option StreamFault
@@ -79,12 +82,33 @@ holes_at (phases.Running waits) = []
 holes_at (phases.Failed fault) = []
 holes_at (phases.Finished finished) = finished.doubts
 
--- how many events each CPU had, by its number, once the text has ended
+-- how many events each CPU had so far, by its number
 abbrev pub events_at : Phase → List ℕ
 events_at phases.Idle = []
-events_at (phases.Running waits) = []
+events_at (phases.Running waits) = counts_kept waits
 events_at (phases.Failed fault) = []
 events_at (phases.Finished finished) = finished.read.events.items
+
+-- how many events were left out, once the text has ended
+abbrev pub left_out_at : Phase → List LeftOut
+left_out_at phases.Idle = []
+left_out_at (phases.Running waits) = []
+left_out_at (phases.Failed fault) = []
+left_out_at (phases.Finished finished) = finished.read.left_out.items
+
+-- the stamp of the last event so far
+abbrev pub last_at : Phase → Option ℕ
+last_at phases.Idle = None
+last_at (phases.Running waits) = last_kept waits
+last_at (phases.Failed fault) = None
+last_at (phases.Finished finished) = finished.read.last
+
+-- why a stream doesn't tell it, if it is so
+abbrev pub untold_at : Phase → Option StreamFault
+untold_at phases.Idle = Some NoStream
+untold_at (phases.Running waits) = None
+untold_at (phases.Failed fault) = Some (Text fault)
+untold_at (phases.Finished finished) = None
 
 -- what was read, if the text has ended
 abbrev pub finished_at : Phase → Option Finished

@@ -1,8 +1,10 @@
 //! Why a call of a stream is refused.
 
-ghost use Rattle.std.specs.Prelude.{◌≡◌};
-ghost use Rattle.ft_stream.specs.Faults.{text_code, fault_code, with_detail, refusal_layout};
+ghost use Rattle.std.specs.Prelude.{◌≡◌, Some};
+ghost use Rattle.ft_stream.specs.Faults.{text_code, fault_code, with_text_detail, refusal_layout};
 
+use ft_base::Refused;
+use ft_filter::FilterFault;
 use ft_layout::RefusalLayout;
 use ft_waits::WaitsFault;
 
@@ -11,8 +13,12 @@ use ft_waits::WaitsFault;
 pub enum StreamFault {
     /// The text is refused, or memory ran out.
     Text(WaitsFault),
-    /// No stream runs, or none has finished.
+    /// No stream runs, none has finished, or the one that runs has taken a piece.
     NoStream,
+    /// No event has the name.
+    NoEvent,
+    /// The text of a filter can't be read.
+    Filter(FilterFault),
 }
 
 /// The code of a text's refusal.
@@ -35,23 +41,40 @@ impl StreamFault {
         match self {
             StreamFault::Text(fault) => text_code(fault),
             StreamFault::NoStream => 19,
+            StreamFault::NoEvent => 16,
+            StreamFault::Filter(_) => 9,
         }
     }
 }
 
-/// With what a refusal says beside its number.
-fn with_detail(layout: RefusalLayout, fault: StreamFault) -> RefusalLayout
-    ensures { result ≡ with_detail layout fault }
+/// With the line of a text's refusal, and its fault, if it has them.
+fn with_text_detail(layout: RefusalLayout, fault: WaitsFault) -> RefusalLayout
+    ensures { result ≡ with_text_detail layout fault }
 {
     match fault {
-        StreamFault::Text(WaitsFault::BadLine(bad)) => RefusalLayout {
+        WaitsFault::BadLine(bad) => RefusalLayout {
             line: bad.line,
             fault: u32::from(bad.fault.number()),
             ..layout
         },
-        StreamFault::Text(WaitsFault::Backwards(line)) => RefusalLayout { line, ..layout },
-        // The code of any other says all.
-        _ => layout,
+        WaitsFault::Backwards(line) => RefusalLayout { line, ..layout },
+        // The code of the others says all.
+        WaitsFault::Memory | WaitsFault::TooLong => layout,
+    }
+}
+
+/// A refusal as C has it.
+fn refusal_layout(fault: StreamFault) -> RefusalLayout
+    ensures { result ≡ refusal_layout (Some fault) }
+{
+    let numbered = RefusalLayout {
+        number: fault.code(),
+        ..RefusalLayout::of(None)
+    };
+    match fault {
+        StreamFault::Text(fault) => with_text_detail(numbered, fault),
+        StreamFault::Filter(fault) => RefusalLayout::of(Some(Refused::BadFilter(fault))),
+        StreamFault::NoStream | StreamFault::NoEvent => numbered,
     }
 }
 
@@ -59,15 +82,8 @@ fn with_detail(layout: RefusalLayout, fault: StreamFault) -> RefusalLayout
 pub fn refusal_of(refused: Option<StreamFault>) -> RefusalLayout
     ensures { result ≡ refusal_layout refused }
 {
-    let none = RefusalLayout::of(None);
     match refused {
-        Some(fault) => with_detail(
-            RefusalLayout {
-                number: fault.code(),
-                ..none
-            },
-            fault,
-        ),
-        None => none,
+        Some(fault) => refusal_layout(fault),
+        None => RefusalLayout::of(None),
     }
 }

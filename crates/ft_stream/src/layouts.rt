@@ -4,14 +4,14 @@ ghost use Rattle.std.specs.Prelude.{◌≡◌, unwrap_or};
 ghost use Rattle.ft_event.specs.LineFault.{line_number};
 ghost use Rattle.std.specs.Option.{option_map_or};
 ghost use Rattle.ft_layout.specs.Places.{place_layout};
-ghost use Rattle.ft_stream.specs.Layouts.{no_place, cause_number, cause_of, place_of, awoken_besides, awoken_in, no_buffers, wait_layout, hole_layout, read_layout};
+ghost use Rattle.ft_stream.specs.Layouts.{no_place, cause_number, cause_of, place_of, awoken_besides, awoken_in, no_buffers, wait_layout, hole_layout, left_out_layout, read_layout};
 
 use crate::phase::Finished;
 use ft_dispatch::{Began, Cause, Dispatch};
 use ft_fields::Pos;
 use ft_layout::{NameLayout, PlaceLayout};
 use ft_losses::{Buffers, Hole};
-use ft_waits::BadLine;
+use ft_waits::{BadLine, LeftOut};
 
 /// A wait for a processor.
 #[repr(C)]
@@ -61,6 +61,16 @@ pub struct HoleLayout {
     pub has_count: bool,
 }
 
+/// How many events were left out of a text.
+#[repr(C)]
+#[derive(Clone, Copy, Debug, PartialEq, Eq)]
+pub struct LeftOutLayout {
+    /// How many events have the name.
+    pub events: u64,
+    /// How many of them were left out.
+    pub left_out: u64,
+}
+
 /// What was read of a text. What isn't there is 0.
 #[repr(C)]
 #[derive(Clone, Copy, Debug, PartialEq, Eq)]
@@ -107,6 +117,18 @@ impl HoleLayout {
             has_after: hole.after.is_some(),
             has_before: hole.before.is_some(),
             has_count: hole.count.is_some(),
+        }
+    }
+}
+
+impl LeftOutLayout {
+    /// The counts as C has them.
+    pub fn of(count: &LeftOut) -> LeftOutLayout
+        ensures { result ≡ left_out_layout count.now }
+    {
+        LeftOutLayout {
+            events: count.events,
+            left_out: count.left_out,
         }
     }
 }

@@ -28,12 +28,17 @@
 //!   is written, and what the stream is afterwards. A text is refused as `ft_waits` refuses it; from then on
 //!   each call answers the same, until a stream begins or ends. Lets through: running out of memory at any
 //!   time; how early a wait is told; memory that is kept of waits that were told.
+//! - `Stream::leave_out`: events of a name are left out, by the text of a filter (`specs/Leaving.antt`); in
+//!   which order its refusals are tested is let through. `Stream::last`, `Phase::events`: the last stamp and
+//!   the counts so far, of lines that have ended.
+//! - `Stream::sum_up`: the text is summed up by task and by CPU as well (`specs/Summing.antt`), as
+//!   `ft_summary` sums up; `Phase::tasks`, `cpus`: these sums, once the text has ended.
 //! - `Stream::doubt`: how sure waits of a text that has ended are, by its holes; exact, `doubted`
 //!   (`specs/Doubting.antt`), over `wait_of_both` of `ft_losses`.
 //! - `Stream::hold`: the waits of held events, by `ft_held_waits`.
 //! - `WaitLayout::of` and the other layouts: each struct is a function of what it shows
-//!   (`specs/Layouts.antt`). `copy_waits`, `copy_holes`, `copy_numbers`: a part of a list, as the copies of
-//!   `ft_layout` are.
+//!   (`specs/Layouts.antt`). `copy_waits`, `copy_holes`, `copy_left_out`, `copy_tasks`, `copy_cpus`, `copy_numbers`: a
+//!   part of a list, as the copies of `ft_layout` are.
 #![tactic(auto)]
 
 mod copying;
@@ -41,12 +46,15 @@ mod doubting;
 mod fault;
 mod held;
 mod layouts;
+mod leaving;
 mod phase;
 mod stream;
+mod summing;
 
-pub use copying::{copy_holes, copy_numbers, copy_waits};
+pub use copying::{copy_holes, copy_left_out, copy_numbers, copy_waits};
 pub use fault::{StreamFault, refusal_of};
 pub use ft_waits::BadLines;
-pub use layouts::{HoleLayout, ReadLayout, WaitLayout};
+pub use layouts::{HoleLayout, LeftOutLayout, ReadLayout, WaitLayout};
 pub use phase::{Finished, Phase};
 pub use stream::Stream;
+pub use summing::{CpuSumLayout, TaskSumLayout, copy_cpus, copy_tasks};

@@ -1,11 +1,11 @@
 //! Where a stream stands.
 
 ghost use Rattle.std.specs.Prelude.{◌≡◌, ◌++◌, [], List, ℕ, OnOk, OnErr, IfOk, IfErr, IfSome, IfNone, IsSomeAnd, Some, None, Err, map};
-ghost use Rattle.ft_waits.specs.Reading.{history, Fails, FailsAt};
+ghost use Rattle.ft_waits.specs.Reading.{history, history_so_far, events_of, last_stamp, CountsEvents, Fails, FailsAt};
 ghost use Rattle.ft_waits.specs.Streams.{HasRead, AreDispatches};
-ghost use Rattle.ft_waits.specs.declared.fault.BadLines.{BadLines as Policy};
+ghost use Rattle.ft_waits.specs.Choice.{Choice};
 ghost use Rattle.ft_dispatch.specs.declared.dispatch.Dispatch.{Dispatch as Told};
-ghost use Rattle.ft_stream.specs.Telling.{HasTold, AreWaits, Streams, Ends, refused_at, failed_at, unfinished_at, finished_at, holes_at, events_at, waits_of};
+ghost use Rattle.ft_stream.specs.Telling.{HasTold, AreWaits, Streams, Ends, refused_at, failed_at, unfinished_at, untold_at, finished_at, holes_at, left_out_at, events_at, last_at, waits_of};
 ghost use Rattle.ft_stream.specs.Doubting.{doubted};
 ghost use Rattle.ft_stream.specs.Layouts.{read_layout};
 
@@ -14,7 +14,7 @@ use crate::fault::StreamFault;
 use crate::layouts::{ReadLayout, WaitLayout};
 use ft_dispatch::Dispatch;
 use ft_losses::{Doubts, Hole};
-use ft_waits::{TextRead, Waits, WaitsFault};
+use ft_waits::{LeftOut, TextRead, Waits, WaitsFault};
 use std::alloc::Global;
 use std::mem;
 
@@ -49,12 +49,12 @@ pub(crate) fn keep_waits(told: &mut Vec<Dispatch>)
 
 /// Takes a piece into a stream that runs: the waits that it told are there then, and none if it fails.
 fn take_piece(running: &mut Waits, piece: &[u8], told: &mut Vec<Dispatch>) -> Result<(), WaitsFault>
-    ensures reads { OnOk result ((policy : Policy) (text : List ℕ) (before : List Told)
-        → HasTold policy running.old text before
-        → HasTold policy running.new (text ++ piece.now) (before ++ told.new.items)) }
-    ensures fails { IfErr result (λ fault. (policy : Policy) (text : List ℕ) (before : List Told)
-        → HasTold policy running.old text before
-        → Fails policy (text ++ piece.now) fault) }
+    ensures reads { OnOk result ((choice : Choice) (text : List ℕ) (before : List Told)
+        → HasTold choice running.old text before
+        → HasTold choice running.new (text ++ piece.now) (before ++ told.new.items)) }
+    ensures fails { IfErr result (λ fault. (choice : Choice) (text : List ℕ) (before : List Told)
+        → HasTold choice running.old text before
+        → Fails choice.bad_lines (text ++ piece.now) fault) }
     ensures none { IfErr result (λ fault. told.new.items ≡ []) }
 {
     told.clear();
@@ -72,12 +72,12 @@ fn take_piece(running: &mut Waits, piece: &[u8], told: &mut Vec<Dispatch>) -> Re
 
 /// Ends the text of a stream that runs: the waits that are left are there then, and none if it fails.
 fn take_end(running: Waits, alloc: Global, told: &mut Vec<Dispatch>) -> Result<Finished, WaitsFault>
-    ensures reads { IfOk result (λ finished. (policy : Policy) (text : List ℕ) (before : List Told)
-        → HasTold policy running text before
-        → AreWaits policy text (before ++ told.new.items) finished) }
-    ensures fails { IfErr result (λ fault. (policy : Policy) (text : List ℕ) (before : List Told)
-        → HasTold policy running text before
-        → FailsAt policy (history text) fault) }
+    ensures reads { IfOk result (λ finished. (choice : Choice) (text : List ℕ) (before : List Told)
+        → HasTold choice running text before
+        → AreWaits choice text (before ++ told.new.items) finished) }
+    ensures fails { IfErr result (λ fault. (choice : Choice) (text : List ℕ) (before : List Told)
+        → HasTold choice running text before
+        → FailsAt choice.bad_lines (history text) fault) }
     ensures none { IfErr result (λ fault. told.new.items ≡ []) }
 {
     told.clear();
@@ -95,13 +95,13 @@ fn take_end(running: Waits, alloc: Global, told: &mut Vec<Dispatch>) -> Result<F
 
 /// Ends the text of a stream that runs, and makes an index of its holes.
 fn end_text(running: Waits, alloc: Global, out: &mut Vec<Dispatch>) -> Result<Finished, WaitsFault>
-    ensures reads { IfOk result (λ finished. (policy : Policy) (text : List ℕ) (told : List Told)
-        → HasRead policy running text (told ++ out.old.items)
-        → AreDispatches policy text (told ++ out.new.items) finished.read) }
+    ensures reads { IfOk result (λ finished. (choice : Choice) (text : List ℕ) (told : List Told)
+        → HasRead choice running text (told ++ out.old.items)
+        → AreDispatches choice text (told ++ out.new.items) finished.read) }
     ensures doubts { IfOk result (λ finished. finished.doubts ≡ finished.read.losses.holes.items) }
-    ensures fails { IfErr result (λ fault. (policy : Policy) (text : List ℕ) (told : List Told)
-        → HasRead policy running text (told ++ out.old.items)
-        → FailsAt policy (history text) fault) }
+    ensures fails { IfErr result (λ fault. (choice : Choice) (text : List ℕ) (told : List Told)
+        → HasRead choice running text (told ++ out.old.items)
+        → FailsAt choice.bad_lines (history text) fault) }
 {
     let read = running.finish(alloc, out)?;
     let doubts = Doubts::of(alloc, &read.losses.holes)?;
@@ -114,9 +114,9 @@ pub(crate) fn feed_phase(
     piece: &[u8],
     told: &mut Vec<Dispatch>,
 ) -> Result<(), StreamFault>
-    ensures reads { IfNone (refused_at phase.old) ((policy : Policy) (text : List ℕ) (before : List Told)
-        → Streams policy phase.old text before
-        → Streams policy phase.new (text ++ piece.now) (before ++ told.new.items)) }
+    ensures reads { IfNone (refused_at phase.old) ((choice : Choice) (text : List ℕ) (before : List Told)
+        → Streams choice phase.old text before
+        → Streams choice phase.new (text ++ piece.now) (before ++ told.new.items)) }
     ensures accepted { OnOk result (refused_at phase.new ≡ None) }
     ensures refused { IfErr result (λ why. refused_at phase.new ≡ Some why) }
     ensures none { IfNone (refused_at phase.old) (OnErr result (told.new.items ≡ [])) }
@@ -142,9 +142,9 @@ pub(crate) fn finish_phase(
     alloc: Global,
     told: &mut Vec<Dispatch>,
 ) -> Result<ReadLayout, StreamFault>
-    ensures reads { IfNone (refused_at phase.old) ((policy : Policy) (text : List ℕ) (before : List Told)
-        → Streams policy phase.old text before
-        → Ends policy phase.new text (before ++ told.new.items)) }
+    ensures reads { IfNone (refused_at phase.old) ((choice : Choice) (text : List ℕ) (before : List Told)
+        → Streams choice phase.old text before
+        → Ends choice phase.new text (before ++ told.new.items)) }
     ensures accepted { IfOk result (λ shown. (failed_at phase.new ≡ None)
         × IsSomeAnd (finished_at phase.new) (λ finished. shown ≡ read_layout finished)) }
     ensures refused { IfNone (refused_at phase.old) (IfErr result (λ why. (failed_at phase.new ≡ Some why)
@@ -204,13 +204,43 @@ impl Phase {
         }
     }
 
-    /// How many events each CPU had, by its number, once the text has ended.
-    pub fn events(&self) -> &[u32]
-        ensures { result.now ≡ events_at self.now }
+    /// How many events were left out, once the text has ended.
+    pub fn left_out(&self) -> &[LeftOut]
+        ensures { result.now ≡ left_out_at self.now }
     {
         match self {
-            Phase::Finished(finished) => finished.read.events.as_slice(),
+            Phase::Finished(finished) => finished.read.left_out.as_slice(),
             _ => &[],
+        }
+    }
+
+    /// How many events each CPU had so far, by its number: in lines that have ended, if the text hasn't.
+    pub fn events(&self) -> &[u32]
+        ensures value { result.now ≡ events_at self.now }
+        ensures meaning { (choice : Choice) (text : List ℕ) (told : List Told)
+            → Streams choice self.now text told → refused_at self.now ≡ None
+            → CountsEvents result.now (events_of (history_so_far text)) }
+    {
+        match self {
+            Phase::Running(running) => running.events(),
+            Phase::Finished(finished) => finished.read.events.as_slice(),
+            Phase::Idle | Phase::Failed(_) => &[],
+        }
+    }
+
+    /// The stamp of the last event so far, in lines that have ended, if the text hasn't. Refused if no
+    /// stream has begun, and of a text that is refused.
+    pub(crate) fn last(&self) -> Result<Option<u64>, StreamFault>
+        ensures value { IfOk result (λ last. (untold_at self.now ≡ None) × (last ≡ last_at self.now)) }
+        ensures refused { IfErr result (λ why. untold_at self.now ≡ Some why) }
+        ensures meaning { IfOk result (λ last. (choice : Choice) (text : List ℕ) (told : List Told)
+            → Streams choice self.now text told → last ≡ last_stamp (events_of (history_so_far text))) }
+    {
+        match self {
+            Phase::Running(running) => Ok(running.last()),
+            Phase::Finished(finished) => Ok(finished.read.last),
+            Phase::Failed(fault) => Err(StreamFault::Text(*fault)),
+            Phase::Idle => Err(StreamFault::NoStream),
         }
     }
 }

@@ -1,14 +1,17 @@
 //! A stream of waits, and its calls.
 
 ghost use Rattle.std.specs.Prelude.{◌≡◌, Some, None};
-ghost use Rattle.ft_stream.specs.Calls.{IsIdle, Begins, Feeds, Finishes, Holds, DoubtsWaits};
+ghost use Rattle.ft_stream.specs.Calls.{IsIdle, Begins, LeavesOut, SumsUp, Feeds, Finishes, TellsLast, Holds, DoubtsWaits};
 ghost use Rattle.ft_stream.specs.Faults.{fault_code};
 
 use crate::fault::StreamFault;
 use crate::held::held_waits;
 use crate::layouts::{ReadLayout, WaitLayout};
+use crate::leaving::leave_out_phase;
 use crate::phase::{Phase, doubt_phase, feed_phase, finish_phase};
+use crate::summing::sum_up_phase;
 use ft_dispatch::Dispatch;
+use ft_fields::Name;
 use ft_lanes::Lanes;
 use ft_waits::{BadLines, Waits, WaitsFault};
 use std::alloc::Global;
@@ -74,6 +77,32 @@ impl Stream {
         }
     }
 
+    /// Leaves events of a name out of the text: those that pass the filter of a text, or all if that is
+    /// empty. They say nothing of who runs, and all else is as it would be with them. Refused if no stream
+    /// runs or the one that runs has taken a piece, if no event has the name, as the desk refuses a
+    /// filter, and for memory: the stream goes on as before then.
+    #[tactic(auto, unfolding(crate::specs::Calls::LeavesOut))]
+    pub fn leave_out(&mut self, name: Name, filter: &[u8]) -> u32
+        ensures { LeavesOut name filter.now self.old result self.new }
+    {
+        match leave_out_phase(&mut self.phase, self.alloc, name, filter) {
+            Ok(()) => accept(&mut self.refused),
+            Err(why) => refuse(&mut self.refused, why),
+        }
+    }
+
+    /// Sums up the tasks and CPUs of the text as well. Refused if no stream runs, or the one that runs has
+    /// taken a piece: the stream goes on as before then.
+    #[tactic(auto, unfolding(crate::specs::Calls::SumsUp))]
+    pub fn sum_up(&mut self) -> u32
+        ensures { SumsUp self.old result self.new }
+    {
+        match sum_up_phase(&mut self.phase, self.alloc) {
+            Ok(()) => accept(&mut self.refused),
+            Err(why) => refuse(&mut self.refused, why),
+        }
+    }
+
     /// Takes the next piece of the text: how many waits it told, of lines that ended so far. Refused as
     /// `Waits::feed` is, and if no stream runs.
     #[tactic(auto, unfolding(crate::specs::Calls::Feeds, crate::specs::Calls::FeedsOn))]
@@ -99,6 +128,22 @@ impl Stream {
             Ok(shown) => {
                 *read = shown;
                 *count = self.waits.len() as u64;
+                accept(&mut self.refused)
+            }
+            Err(why) => refuse(&mut self.refused, why),
+        }
+    }
+
+    /// Writes the stamp of the last event so far, and whether there is one: 0 if there is none. Refused if no
+    /// stream has begun, and of a text that is refused.
+    #[tactic(auto, unfolding(crate::specs::Calls::TellsLast))]
+    pub fn last(&mut self, stamp: &mut u64, has: &mut bool) -> u32
+        ensures { TellsLast self.old stamp.old has.old result stamp.new has.new self.new }
+    {
+        match self.phase.last() {
+            Ok(last) => {
+                *stamp = last.unwrap_or(0);
+                *has = last.is_some();
                 accept(&mut self.refused)
             }
             Err(why) => refuse(&mut self.refused, why),

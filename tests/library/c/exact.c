@@ -60,6 +60,20 @@ static uint32_t matching(uint32_t event, const char *filter, uint64_t *count) {
     return code;
 }
 
+static uint32_t lines_in(const char *text, uint64_t *count) {
+    uint8_t *own = exact(text, strlen(text));
+    uint32_t code = histdesk_lines(desk, own, strlen(text), count);
+    free(own);
+    return code;
+}
+
+static uint32_t losses_in(const char *text, histdesk_losses_read *read) {
+    uint8_t *own = exact(text, strlen(text));
+    uint32_t code = histdesk_losses(desk, own, strlen(text), read);
+    free(own);
+    return code;
+}
+
 /* ---- Copies. */
 
 /* Each copy from each place on, to each room: just what is there, and nothing after it. */
@@ -86,14 +100,16 @@ static uint32_t matching(uint32_t event, const char *filter, uint64_t *count) {
         return holds;                                                                                      \
     }
 
-/* What is after an event's last field is nobody's. */
+/* What is after the last field of an event, or of a hole, is nobody's. */
 static bool is_same(const void *one, const void *other, size_t size) {
     if (size == sizeof(histdesk_event))
         size = offsetof(histdesk_event, prev_state) + sizeof(histdesk_name);
+    if (size == sizeof(histdesk_hole))
+        size = offsetof(histdesk_hole, has_count) + sizeof(bool);
     return memcmp(one, other, size) == 0;
 }
 
-static uint64_t texts, rows, latencies, places, triggers, rows_changed, made_changed;
+static uint64_t texts, rows, latencies, places, triggers, rows_changed, made_changed, lines, holes;
 
 COPIES(uint8_t, text_copy, texts)
 COPIES(histdesk_row, rows_copy, rows)
@@ -103,6 +119,8 @@ COPIES(histdesk_event, events_copy, places)
 COPIES(histdesk_trigger, triggers_copy, triggers)
 COPIES(histdesk_changed, rows_changed_copy, rows_changed)
 COPIES(histdesk_changed, made_changed_copy, made_changed)
+COPIES(histdesk_text_line, lines_copy, lines)
+COPIES(histdesk_hole, losses_copy, holes)
 
 static void copy_all(void) {
     HOLDS(uint8_t_text_copy());
@@ -113,6 +131,8 @@ static void copy_all(void) {
     HOLDS(histdesk_trigger_triggers_copy());
     HOLDS(histdesk_changed_rows_changed_copy());
     HOLDS(histdesk_changed_made_changed_copy());
+    HOLDS(histdesk_text_line_lines_copy());
+    HOLDS(histdesk_hole_losses_copy());
 }
 
 static const char trace[] = "a-1 [000] 1.000100: sched_waking: comm=w pid=42 prio=120 target_cpu=000\n"
@@ -122,6 +142,7 @@ static const char trace[] = "a-1 [000] 1.000100: sched_waking: comm=w pid=42 pri
                             "prev_state=R+ ==> next_comm=w next_pid=42 next_prio=120\n"
                             "w-42 [000] 1.000160: sched_switch: prev_comm=w prev_pid=42 prev_prio=120 "
                             "prev_state=S ==> next_comm=v next_pid=43 next_prio=-1";
+static const char torn[] = "CPU:1 [LOST 5 EVENTS]\na-1 [001] 2.000000: x: y\nCPU:1 [LOST EVENTS]\nno line";
 static const char reader[] = "hist:keys=next_pid:vals=$lat:lat=common_timestamp.usecs-$ts0:"
                              "onmatch(sched.sched_waking).wakeup_latency($lat,next_pid,next_prio)";
 
@@ -152,6 +173,7 @@ static void ask_and_copy(void) {
                                                 {.number = 64, .kind = HISTDESK_LOG2}}}, 1, {UINT64_MAX}};
     static const histdesk_row row_of_v = {{1, {{.text = {"v", 1}, .kind = HISTDESK_TEXT}}}, 1, {0}};
     histdesk_row row;
+    histdesk_losses_read read;
     fill();
     HOLDS(histdesk_rows(desk, 4, &rows) == HISTDESK_OK && rows == 2 && histdesk_rows_copy(desk, 0, &row, 1) == 1);
     HOLDS(memcmp(&row, &row_of_v, sizeof row) == 0);
@@ -161,6 +183,8 @@ static void ask_and_copy(void) {
     HOLDS(histdesk_triggers(desk, &triggers) == HISTDESK_OK && triggers == 4);
     HOLDS(histdesk_list(desk, 1, &texts) == HISTDESK_OK && texts == strlen("1:1 a-1 [001] 1.000120:\n"));
     HOLDS(histdesk_events(desk, &places) == HISTDESK_OK && places == 5);
+    HOLDS(lines_in(torn, &lines) == HISTDESK_OK && lines == 4);
+    HOLDS(losses_in(torn, &read) == HISTDESK_OK && (holes = read.holes) == 2 && !read.has_written);
     strike();
     copy_all();
     HOLDS(histdesk_lane(desk, 0, 2, &places) == HISTDESK_OK && places == 3);
@@ -173,7 +197,7 @@ static void ask_and_copy(void) {
     copy_all();
     HOLDS(matching(HISTDESK_WAKEUP_LATENCY, "lat >= 0", &places) == HISTDESK_OK && places == 0);
     histdesk_forget(desk);
-    texts = rows = latencies = places = triggers = rows_changed = made_changed = 0;
+    texts = rows = latencies = places = triggers = rows_changed = made_changed = lines = holes = 0;
     copy_all();
 }
 
@@ -235,6 +259,8 @@ static void are_closed(void) {
     histdesk_totals totals = {77, 77, 77};
     histdesk_report report = {.rows = 77};
     histdesk_refusal refusal = {.number = 77};
+    histdesk_losses_read read = {.holes = 77};
+    HOLDS(lines_in(torn, &number) == HISTDESK_CLOSED && losses_in(torn, &read) == HISTDESK_CLOSED && read.holes == 77);
     HOLDS(load(trace, &number) == HISTDESK_CLOSED && histdesk_unload(desk, 0, &number) == HISTDESK_CLOSED);
     HOLDS(insert("a-1 [000] 1.000100:", &at) == HISTDESK_CLOSED && histdesk_strike(desk, 0, 1) == HISTDESK_CLOSED);
     HOLDS(attach(HISTDESK_WAKING, "hist:keys=pid", &id) == HISTDESK_CLOSED && refilter(1, "") == HISTDESK_CLOSED);
@@ -407,7 +433,7 @@ int main(void) {
     refuse_questions();
     write_refusals();
     histdesk_free(desk);
-    rows = latencies = places = triggers = texts = rows_changed = made_changed = 0;
+    rows = latencies = places = triggers = texts = rows_changed = made_changed = lines = holes = 0;
     are_closed(); /* ended */
     free(desk);
     printf("%u of %u tests hold\n", good, tests);

@@ -220,6 +220,42 @@ static void ask_events(void) {
     HOLDS(are_places(count, 1, all, names));
 }
 
+/* The lines of the trace, or of its front. */
+static bool are_lines(uint64_t count, uint64_t want) {
+    static const histdesk_text_line all[] = {
+        {72, 1000100, 0, HISTDESK_WAKING, 0, 0},
+        {87, 0, 0, HISTDESK_LINE_SKIPPED, 0, 0},
+        {112, 1000120, 1, HISTDESK_OTHER, 0, 0},
+        {sizeof trace - 1, 1000150, 0, HISTDESK_SWITCH, 0, 0},
+    };
+    histdesk_text_line own[5];
+    uint64_t before = heap.growths;
+    size_t copied = histdesk_lines_copy(&desk, 0, own, 5);
+    return count == want && copied == want && memcmp(own, all, want * sizeof *own) == 0 && before == heap.growths;
+}
+
+/* The hole that a line in front of all reports, if there is one. */
+static bool are_losses(const histdesk_losses_read *read, uint64_t want, uint32_t cpu) {
+    histdesk_hole own[2];
+    uint64_t before = heap.growths;
+    size_t copied = histdesk_losses_copy(&desk, 0, own, 2);
+    return read->holes == want && copied == want && (want == 0 || own[0].cpu == cpu) && before == heap.growths;
+}
+
+static void ask_text(void) {
+    static const char torn[] = "CPU:1 [LOST 5 EVENTS]\n", other[] = "CPU:2 [LOST 5 EVENTS]\n";
+    histdesk_losses_read read = {.holes = 77};
+    uint64_t count = 77;
+    GIVES(HISTDESK_OK, histdesk_lines(&desk, (const uint8_t *)trace, 112, &count));
+    HOLDS(are_lines(count, 3));
+    KEEPS(HISTDESK_OK, histdesk_lines(&desk, BYTES(trace), &count), are_lines(count, 3));
+    HOLDS(are_lines(count, 4));
+    GIVES(HISTDESK_OK, histdesk_losses(&desk, BYTES(torn), &read));
+    HOLDS(are_losses(&read, 1, 1));
+    KEEPS(HISTDESK_OK, histdesk_losses(&desk, BYTES(other), &read), are_losses(&read, 1, 1));
+    HOLDS(are_losses(&read, 1, 2) && are_lines(4, 4));
+}
+
 /* What triggers 1 and 2 count, and the power of two of the latency that trigger 3 counts. */
 static void ask_all(uint64_t wakings, uint32_t line, uint64_t stamp, int64_t power) {
     histdesk_totals totals = {0, 0, 0};
@@ -312,8 +348,8 @@ static void end_all(void) {
     uint64_t events;
     int64_t held = heap.blocks;
     histdesk_forget(&desk);
-    /* A text, rows, latencies, places and triggers were held, each in one block or more. */
-    HOLDS(heap.blocks <= held - 5);
+    /* A text, rows, latencies, places, triggers, lines and losses were held, each in one block or more. */
+    HOLDS(heap.blocks <= held - 7);
     ALWAYS(HISTDESK_OK, histdesk_unload(&desk, 1, &events));
     HOLDS(events == 1);
     ALWAYS(HISTDESK_OK, histdesk_remove(&desk, 2));
@@ -337,6 +373,7 @@ static uint64_t session(uint64_t at, bool for_good) {
     load_and_attach();
     ask_triggers();
     ask_events();
+    ask_text();
     edit_events();
     edit_triggers();
     ask_refusals();

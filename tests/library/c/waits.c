@@ -35,6 +35,7 @@ heap_state heap;
     IDLE "1] 1.000700: " SWITCH "s prev_pid=0 prev_prio=120 prev_state=R ==> next_comm=x next_pid=44 next_prio=5\n" \
     "w-42 [000] 1.000800: " SWITCH "w prev_pid=42 prev_prio=19 prev_state=S ==> next_comm=y next_pid=45 next_prio=1\n" \
     "z-77 [001] 1.000900: x: y\n" \
+    "# CPU 1: 0 events overwritten\n" \
     "CPU:1 [LOST 3 EVENTS]"
 static const char text[] = FRONT "not a line\n" BACK;
 static const char good_text[] = FRONT BACK; /* as a desk loads it */
@@ -52,10 +53,14 @@ static const uint32_t doubts[WAITS] = {HISTDESK_SURE, HISTDESK_SURE, HISTDESK_SU
 static const histdesk_hole holes[HOLES] = {
     {6, 1000300, 1000400, 5, 0, true, true, true},
     {11, 1000500, 1000700, 0, 1, true, true, false},
-    {16, 1000900, 0, 3, 1, true, false, true},
+    {17, 1000900, 0, 3, 1, true, false, true},
+};
+/* Of task 42 if nothing wakes it: it was left while it could run, and runs again. */
+static const histdesk_wait unwoken = {
+    {1000500, 0, 6}, {1000300, 0, 4}, {0, 0, 0}, 42, 19, HISTDESK_PREEMPTED, 0, 0, 0, {"w", 1},
 };
 static const histdesk_waits_read wanted_read = {
-    .lines = 16, .bad = 1, .bad_line = BAD_LINE, .bad_fault = 1, .missing = 1, .missing_at = {1000900, 1, 3}, .holes = HOLES,
+    .lines = 17, .bad = 1, .bad_line = BAD_LINE, .bad_fault = 1, .missing = 1, .missing_at = {1000900, 1, 3}, .holes = HOLES,
     .has_written = true, .held = 7, .written = 9, .has_first = true, .first = 1000100, .last = 1000900,
 };
 
@@ -92,10 +97,16 @@ static bool takes(histdesk *desk, uint64_t count, answer *own) {
     return true;
 }
 
-/* Reads the text in pieces of this size: the first code that isn't 0, or HISTDESK_CLOSED where a copy is wrong. */
-static uint32_t reads(histdesk *desk, bool skips, size_t cut, answer *own) {
+/* Leaves events of a name out that pass a filter. */
+static uint32_t leaves_out(histdesk *desk, uint32_t event, const char *filter) {
+    return histdesk_waits_without(desk, event, (const uint8_t *)filter, strlen(filter));
+}
+
+/* Reads the text in pieces of this size in a stream that has begun: the first code that isn't 0, or HISTDESK_CLOSED where a
+ * copy is wrong. */
+static uint32_t reads_on(histdesk *desk, size_t cut, answer *own) {
     uint64_t count;
-    uint32_t code = histdesk_waits_new(desk, skips);
+    uint32_t code = HISTDESK_OK;
     own->count = 0;
     for (size_t at = 0; code == HISTDESK_OK && at < sizeof text - 1; at += cut) {
         size_t rest = sizeof text - 1 - at;
@@ -106,6 +117,17 @@ static uint32_t reads(histdesk *desk, bool skips, size_t cut, answer *own) {
     if (code == HISTDESK_OK)
         code = histdesk_waits_finish(desk, &own->read, &count);
     return code == HISTDESK_OK && !takes(desk, count, own) ? HISTDESK_CLOSED : code;
+}
+
+/* The same of a stream that begins. In pieces of an even size a filter is there that no event passes, and in those of a size that 4
+ * divides the text is summed up too. */
+static uint32_t reads(histdesk *desk, bool skips, size_t cut, answer *own) {
+    uint32_t code = histdesk_waits_new(desk, skips);
+    if (code == HISTDESK_OK && cut % 2 == 0)
+        code = leaves_out(desk, HISTDESK_SWITCH, "next_comm ~ \"none*\" || !next_pid < 99");
+    if (code == HISTDESK_OK && cut % 4 == 0)
+        code = histdesk_waits_sum_up(desk);
+    return code == HISTDESK_OK ? reads_on(desk, cut, own) : code;
 }
 
 static bool is_wanted(const answer *own) {
@@ -186,6 +208,21 @@ static void rooms(histdesk *desk) {
     HOLDS(wrong == 0);
 }
 
+/* Of CPUs that begin late only the header says that events may be lost, and a line of one of them that none are. */
+static void late(histdesk *desk) {
+    static const char lines[] = "# entries-in-buffer/entries-written: 3/9\na-1 [005] 1.000100: x: y\n"
+                                "a-1 [002] 1.000100: x: y\na-1 [001] 1.000200: x: y\na-1 [000] 1.000300: x: y\n"
+                                "# CPU 1: 0 events overwritten\n";
+    static const histdesk_hole want = {1, 0, 1000300, 0, 0, false, true, false};
+    histdesk_hole found[2];
+    histdesk_waits_read read;
+    uint64_t count;
+    HOLDS(histdesk_waits_new(desk, false) == HISTDESK_OK);
+    HOLDS(histdesk_waits_feed(desk, (const uint8_t *)lines, sizeof lines - 1, &count) == HISTDESK_OK);
+    HOLDS(histdesk_waits_finish(desk, &read, &count) == HISTDESK_OK && read.holes == 1);
+    HOLDS(histdesk_waits_holes(desk, 0, found, 2) == 1 && is_same_hole(found, &want));
+}
+
 static void events(histdesk *desk) {
     static uint32_t counts[CPUS + 1];
     bool holds = true;
@@ -196,6 +233,198 @@ static void events(histdesk *desk) {
     HOLDS(holds && counts[CPUS] == 0xa5a5a5a5);
     HOLDS(histdesk_waits_events(desk, 1, counts, 1) == 1 && counts[0] == 3 && counts[1] == 3);
     HOLDS(histdesk_waits_events(desk, CPUS, counts, 1) == 0 && counts[0] == 3);
+}
+
+/* ---- Events that are left out. */
+
+/* Whether counts of events that were left out are these, in room of each size on the heap, with nothing written beside them. */
+static bool counts_left_out(histdesk *desk, const histdesk_left_out *want, size_t there) {
+    bool holds = true;
+    for (size_t from = 0; from <= there + 1; from++)
+        for (size_t room = 0; room <= there + 1; room++) {
+            size_t rest = from > there ? 0 : there - from, count = rest < room ? rest : room;
+            size_t size = room * sizeof *want;
+            uint8_t *own = malloc(size + 1);
+            if (!own)
+                abort();
+            memset(own, 0xa5, size + 1);
+            holds &= histdesk_waits_left_out(desk, from, (histdesk_left_out *)own, room) == count;
+            holds &= memcmp(own, want + (from > there ? there : from), count * sizeof *want) == 0;
+            for (size_t at = count * sizeof *want; at <= size; at++)
+                holds &= own[at] == 0xa5;
+            free(own);
+        }
+    return holds;
+}
+
+/* Whether these waits are left, whatever the size of the pieces, and what is told of the text is as it was. */
+static bool leaves(histdesk *desk, size_t filters, const uint32_t *events, const char *const *texts,
+                   const histdesk_wait *const *left, size_t count, const histdesk_left_out *counts) {
+    answer own;
+    size_t wrong = 0;
+    for (size_t cut = 1; cut <= sizeof text; cut += cut < 200 ? 1 : 300) {
+        wrong += histdesk_waits_new(desk, true) != HISTDESK_OK;
+        for (size_t at = 0; at < filters; at++)
+            wrong += leaves_out(desk, events[at], texts[at]) != HISTDESK_OK;
+        wrong += reads_on(desk, cut, &own) != HISTDESK_OK || own.count != count || !is_same_read(&own.read, &wanted_read);
+        for (size_t at = 0; at < count && at < own.count; at++)
+            wrong += memcmp(&own.waits[at], left[at], sizeof own.waits[at]) != 0;
+    }
+    return wrong == 0 && counts_left_out(desk, counts, filters);
+}
+
+static void without(histdesk *desk) {
+    const uint32_t wakings[] = {HISTDESK_WAKING, HISTDESK_WAKING}, all[] = {HISTDESK_SWITCH, HISTDESK_WAKEUP};
+    const char *const texts[] = {"pid == 42", "pid > 41 && pid < 45"}, *const nothing[] = {"", "pid == 42"};
+    const histdesk_wait *const one[] = {&wanted[1], &unwoken, &wanted[3], &wanted[4]}, *const two[] = {one[0], one[1], one[3]};
+    HOLDS(leaves(desk, 1, wakings, texts, one, 4, (histdesk_left_out[1]){{4, 2}}));
+    HOLDS(leaves(desk, 2, wakings, texts, two, 3, (histdesk_left_out[2]){{4, 2}, {4, 3}}));
+    HOLDS(leaves(desk, 2, all, nothing, NULL, 0, (histdesk_left_out[2]){{5, 5}, {0, 0}}));
+    HOLDS(histdesk_waits_new(desk, true) == HISTDESK_OK && counts_left_out(desk, NULL, 0));
+    histdesk_waits_free(desk);
+}
+
+static bool is_refused_as(histdesk *desk, uint32_t code, uint32_t fault, uint64_t place) {
+    histdesk_refusal refusal = {.number = HISTDESK_CLOSED, .line = 9};
+    return histdesk_waits_refused(desk, &refusal) == HISTDESK_OK && refusal.number == code && refusal.filter_fault == fault &&
+           refusal.place == place && refusal.has_place == (fault != 0) && refusal.line == 0 && refusal.fault == 0;
+}
+
+/* A filter that is refused, and a stream that goes on as before. */
+static void without_refused(histdesk *desk) {
+    answer own;
+    uint64_t count = 0;
+    histdesk_waits_free(desk);
+    HOLDS(leaves_out(desk, HISTDESK_OTHER, "x") == HISTDESK_NO_STREAM && is_refused_as(desk, HISTDESK_NO_STREAM, 0, 0));
+    HOLDS(histdesk_waits_new(desk, true) == HISTDESK_OK && leaves_out(desk, HISTDESK_WAKING, "pid == 42") == HISTDESK_OK);
+    HOLDS(leaves_out(desk, HISTDESK_WAKING, "pid == ") == HISTDESK_BAD_FILTER);
+    HOLDS(is_refused_as(desk, HISTDESK_BAD_FILTER, 2, 7));
+    HOLDS(leaves_out(desk, HISTDESK_WAKING, "1 && next_pid == 1") == HISTDESK_BAD_FILTER);
+    HOLDS(leaves_out(desk, HISTDESK_WAKING, "next_pid == 1") == HISTDESK_BAD_FILTER);
+    HOLDS(is_refused_as(desk, HISTDESK_BAD_FILTER, 3, 0));
+    HOLDS(leaves_out(desk, HISTDESK_OTHER, "") == HISTDESK_BAD_COMMAND && is_refused_as(desk, HISTDESK_BAD_COMMAND, 0, 0));
+    HOLDS(leaves_out(desk, 77, "pid == 1") == HISTDESK_BAD_COMMAND);
+    HOLDS(histdesk_waits_feed(desk, (const uint8_t *)text, 0, &count) == HISTDESK_OK && leaves_out(desk, 3, "") == HISTDESK_OK);
+    HOLDS(reads_on(desk, 100, &own) == HISTDESK_OK && own.count == 0 && is_same_read(&own.read, &wanted_read));
+    HOLDS(counts_left_out(desk, (histdesk_left_out[2]){{4, 2}, {5, 5}}, 2) && leaves_out(desk, 0, "") == HISTDESK_NO_STREAM);
+    HOLDS(histdesk_waits_new(desk, true) == HISTDESK_OK);
+    HOLDS(histdesk_waits_feed(desk, (const uint8_t *)text, 1, &count) == HISTDESK_OK);
+    HOLDS(leaves_out(desk, HISTDESK_WAKING, "x") == HISTDESK_NO_STREAM && is_refused_as(desk, HISTDESK_NO_STREAM, 0, 0));
+    histdesk_waits_free(desk);
+}
+
+/* ---- What a text sums up to. */
+
+#define SWITCHED(task, cpu, us, comm, pid, state, next_comm, next_pid) \
+    task " [00" cpu "] 1.0000" us ": " SWITCH comm " prev_pid=" pid " prev_prio=9 prev_state=" state " ==> next_comm=" next_comm \
+    " next_pid=" next_pid " next_prio=9\n"
+#define WOKEN(us) "b-2 [001] 1.0000" us ": sched_waking: comm=a pid=1 prio=9 target_cpu=000\n"
+static const char idle_text[] =
+    SWITCHED("a-1", "0", "00", "a", "1", "S", "s", "0") WOKEN("10") SWITCHED("s-0", "0", "30", "s", "0", "R", "a", "1")
+    SWITCHED("a-1", "0", "40", "a", "1", "D", "s", "0") WOKEN("50") SWITCHED("s-0", "1", "60", "s", "0", "R", "a", "1")
+    SWITCHED("s-0", "0", "70", "s", "0", "R", "c", "3");
+
+/* Whether the sums are these, in room of each size on the heap, with nothing written beside them. */
+static bool sums_are(histdesk *desk, const void *want, size_t size, size_t there) {
+    bool holds = true;
+    for (size_t from = 0; from <= there + 1; from++)
+        for (size_t room = 0; room <= there + 1; room++) {
+            size_t rest = from > there ? 0 : there - from, count = rest < room ? rest : room;
+            uint8_t *own = malloc(room * size + 1);
+            if (!own)
+                abort();
+            memset(own, 0xa5, room * size + 1);
+            holds &= count == (size == sizeof(histdesk_task_sum) ? histdesk_waits_tasks(desk, from, (histdesk_task_sum *)own, room)
+                                                                 : histdesk_waits_cpus(desk, from, (histdesk_cpu_sum *)own, room));
+            holds &= count == 0 || memcmp(own, (const uint8_t *)want + from * size, count * size) == 0;
+            for (size_t at = count * size; at <= room * size; at++)
+                holds &= own[at] == 0xa5;
+            free(own);
+        }
+    return holds;
+}
+
+static bool are_summed_up(histdesk *desk, const histdesk_task_sum *tasks, size_t many, const histdesk_cpu_sum *cpus, size_t few) {
+    return sums_are(desk, tasks, sizeof *tasks, many) && sums_are(desk, cpus, sizeof *cpus, few);
+}
+
+static void summed_up(histdesk *desk) {
+    static const histdesk_task_sum all[] = {{450, 2, 1, 1, 0, 0, 42, 0}, {200, 1, 0, 1, 0, 0, 43, 0}, {0, 1, 0, 0, 0, 0, 44, 0},
+                                            {0, 1, 0, 0, 0, 0, 45, 0}};
+    static const histdesk_task_sum some[] = {{0, 0, 0, 0, 0, 0, 42, 0}, {0, 0, 0, 0, 0, 0, 43, 0}, {0, 0, 0, 0, 0, 0, 44, 0},
+                                             {0, 0, 0, 0, 0, 0, 45, 0}};
+    static const histdesk_cpu_sum two[] = {{0, 0, 0, 0}, {0, 0, 1, 0}}, idle[] = {{60, 30, 0, 0}, {0, 0, 1, 0}};
+    static const histdesk_task_sum moved[] = {{10, 2, 0, 1, 1, 1, 1, 0}, {0, 1, 0, 0, 0, 0, 3, 0}};
+    answer own;
+    size_t wrong = 0;
+    for (size_t cut = 1; cut <= sizeof text; cut += cut < 100 ? 1 : 300) {
+        wrong += histdesk_waits_new(desk, true) != HISTDESK_OK || histdesk_waits_sum_up(desk) != HISTDESK_OK;
+        wrong += reads_on(desk, cut, &own) != HISTDESK_OK || !is_wanted(&own) || !are_summed_up(desk, all, 4, two, 2);
+    }
+    HOLDS(wrong == 0);
+    HOLDS(histdesk_waits_new(desk, true) == HISTDESK_OK && leaves_out(desk, HISTDESK_SWITCH, "") == HISTDESK_OK);
+    HOLDS(histdesk_waits_sum_up(desk) == HISTDESK_OK && reads_on(desk, 100, &own) == HISTDESK_OK && own.count == 0);
+    HOLDS(are_summed_up(desk, some, 4, NULL, 0));
+    uint64_t count = 0;
+    HOLDS(histdesk_waits_new(desk, false) == HISTDESK_OK && histdesk_waits_sum_up(desk) == HISTDESK_OK);
+    HOLDS(histdesk_waits_sum_up(desk) == HISTDESK_OK);
+    HOLDS(histdesk_waits_feed(desk, (const uint8_t *)idle_text, sizeof idle_text - 1, &count) == HISTDESK_OK && count == 2);
+    HOLDS(are_summed_up(desk, NULL, 0, NULL, 0));
+    HOLDS(histdesk_waits_finish(desk, &own.read, &count) == HISTDESK_OK && are_summed_up(desk, moved, 2, idle, 2));
+    histdesk_waits_free(desk);
+    HOLDS(are_summed_up(desk, NULL, 0, NULL, 0));
+}
+
+/* Sums that are asked for late, or not at all. */
+static void not_summed_up(histdesk *desk) {
+    answer own;
+    uint64_t count = 0;
+    histdesk_waits_free(desk);
+    HOLDS(histdesk_waits_sum_up(desk) == HISTDESK_NO_STREAM && is_refused_as(desk, HISTDESK_NO_STREAM, 0, 0));
+    HOLDS(reads(desk, true, 102, &own) == HISTDESK_OK && are_summed_up(desk, NULL, 0, NULL, 0));
+    HOLDS(histdesk_waits_sum_up(desk) == HISTDESK_NO_STREAM && is_refused_as(desk, HISTDESK_NO_STREAM, 0, 0));
+    HOLDS(histdesk_waits_new(desk, true) == HISTDESK_OK);
+    HOLDS(histdesk_waits_feed(desk, (const uint8_t *)text, 0, &count) == HISTDESK_OK && histdesk_waits_sum_up(desk) == HISTDESK_OK);
+    HOLDS(histdesk_waits_feed(desk, (const uint8_t *)text, 1, &count) == HISTDESK_OK);
+    HOLDS(histdesk_waits_sum_up(desk) == HISTDESK_NO_STREAM && is_refused_as(desk, HISTDESK_NO_STREAM, 0, 0));
+    histdesk_waits_free(desk);
+}
+
+/* What a stream knows between pieces: of lines that have ended, whatever the size of the pieces. */
+
+/* Whether so many events of the first two CPUs were in lines that have ended, the last one with this stamp. */
+static bool knows(histdesk *desk, uint32_t first, uint32_t second, uint64_t last) {
+    uint32_t counts[2] = {77, 77};
+    uint64_t stamp = 77;
+    bool has = last == 0;
+    return histdesk_waits_events(desk, 0, counts, 2) == 2 && counts[0] == first && counts[1] == second &&
+           histdesk_waits_last(desk, &stamp, &has) == HISTDESK_OK && stamp == last && has == (last != 0);
+}
+
+static void so_far(histdesk *desk) {
+    static const struct {
+        uint64_t stamp;
+        uint32_t cpu;
+    } lines[] = {{0, 0}, {1000100, 0}, {1000150, 0}, {1000200, 0}, {1000300, 0}, {0, 0}, {1000400, 0}, {0, 0}, {1000500, 0},
+                 {1000500, 1}, {0, 0}, {1000600, 0}, {1000700, 1}, {1000800, 0}, {1000900, 1}, {0, 0}, {0, 0}};
+    uint64_t count = 0, last = 0;
+    uint32_t counts[2] = {0, 0};
+    size_t line = 0, wrong = 0;
+    histdesk_waits_read read;
+    HOLDS(histdesk_waits_new(desk, true) == HISTDESK_OK && knows(desk, 0, 0, 0));
+    for (size_t at = 0; at < sizeof text - 1; at++) {
+        wrong += histdesk_waits_feed(desk, (const uint8_t *)text + at, 1, &count) != HISTDESK_OK;
+        if (text[at] == '\n') {
+            if (lines[line].stamp)
+                counts[lines[line].cpu]++, last = lines[line].stamp;
+            line++;
+        }
+        wrong += !knows(desk, counts[0], counts[1], last);
+    }
+    HOLDS(wrong == 0 && line == 16 && counts[0] == 8 && counts[1] == 3 && last == 1000900);
+    HOLDS(histdesk_waits_finish(desk, &read, &count) == HISTDESK_OK && knows(desk, 8, 3, 1000900));
+    HOLDS(histdesk_waits_new(desk, true) == HISTDESK_OK && histdesk_waits_finish(desk, &read, &count) == HISTDESK_OK);
+    HOLDS(knows(desk, 0, 0, 0));
 }
 
 /* ---- Codes. */
@@ -218,6 +447,13 @@ static bool stays_refused(histdesk *desk, uint32_t code, uint64_t line, uint32_t
     holds &= histdesk_waits_finish(desk, &read, &count) == code && count == 77 && read.lines == 78;
     holds &= is_refused(desk, code, line, fault);
     holds &= histdesk_waits_feed(desk, (const uint8_t *)text, 0, &count) == code && count == 77;
+    uint64_t stamp = 79;
+    bool has = true;
+    holds &= histdesk_waits_last(desk, &stamp, &has) == code && stamp == 79 && has && is_refused(desk, code, line, fault);
+    holds &= histdesk_waits_events(desk, 0, &(uint32_t){0}, 1) == 0;
+    holds &= leaves_out(desk, HISTDESK_WAKING, "pid ==") == code && is_refused(desk, code, line, fault);
+    holds &= histdesk_waits_left_out(desk, 0, &(histdesk_left_out){0, 0}, 1) == 0;
+    holds &= histdesk_waits_sum_up(desk) == code && is_refused(desk, code, line, fault) && sums_are(desk, NULL, sizeof(histdesk_task_sum), 0);
     return holds && histdesk_waits_holes(desk, 0, &no_hole, 1) == 0;
 }
 
@@ -254,8 +490,13 @@ static void closed(void) {
     HOLDS(histdesk_waits_finish(&none, &read, &count) == HISTDESK_CLOSED && count == 77 && read.lines == 78);
     HOLDS(histdesk_waits_copy(&none, 0, &one, 1) == 0 && histdesk_waits_holes(&none, 0, &hole, 1) == 0);
     HOLDS(histdesk_waits_events(&none, 0, &refusal.cpu, 1) == 0);
+    bool has = true;
+    HOLDS(leaves_out(&none, HISTDESK_WAKING, "") == HISTDESK_CLOSED);
+    HOLDS(histdesk_waits_left_out(&none, 0, &(histdesk_left_out){0, 0}, 1) == 0);
+    HOLDS(histdesk_waits_last(&none, &count, &has) == HISTDESK_CLOSED && count == 77 && has);
     HOLDS(histdesk_waits_held(&none, &count) == HISTDESK_CLOSED && count == 77);
     HOLDS(histdesk_waits_doubt(&none, &one, 1) == HISTDESK_CLOSED && memcmp(&one, &wanted[0], sizeof one) == 0);
+    HOLDS(histdesk_waits_sum_up(&none) == HISTDESK_CLOSED && are_summed_up(&none, NULL, 0, NULL, 0));
     HOLDS(histdesk_waits_refused(&none, &refusal) == HISTDESK_CLOSED && refusal.number == 79);
     histdesk_waits_free(&none);
     HOLDS(none.at == NULL);
@@ -400,6 +641,12 @@ int main(void) {
     doubted(&desk);
     rooms(&desk);
     events(&desk);
+    so_far(&desk);
+    late(&desk);
+    without(&desk);
+    without_refused(&desk);
+    summed_up(&desk);
+    not_summed_up(&desk);
     codes(&desk);
     closed();
     beside(&desk);

@@ -1,0 +1,73 @@
+//! Events that a stream leaves out.
+
+ghost use Rattle.std.specs.Prelude.{◌≡◌, ◌⊎◌, OnOk, OnErr, IfOk, IfErr, Ok};
+ghost use Rattle.ft_stream.specs.Leaving.{without_for, IsUnread, LeavesThemOut, GoesOn, IsRefused};
+ghost use Rattle.ft_stream.specs.declared.phase.Phase.TheVariants.{Running};
+
+use crate::fault::StreamFault;
+use crate::phase::Phase;
+use ft_fields::Name;
+use ft_filter::{FilterFault, parse};
+use ft_waits::{Waits, WaitsFault, Without, WithoutFault};
+use std::alloc::Global;
+
+/// Reads which events are left out: of a name those that pass the filter of a text, or all if it is empty.
+fn read_without(alloc: Global, name: Name, filter: &[u8]) -> Result<Without, StreamFault>
+    ensures ok { IfOk result (λ without. without_for name filter.now ≡ Ok without) }
+    ensures err { IfErr result (λ why. (why ≡ StreamFault.Text WaitsFault.Memory) ⊎ IsUnread name filter.now why) }
+{
+    if filter.is_empty() {
+        return Ok(Without { name, filter: None });
+    }
+    match parse(alloc, filter, name) {
+        Ok(filter) => Ok(Without {
+            name,
+            filter: Some(filter),
+        }),
+        Err(FilterFault::Memory) => Err(StreamFault::Text(WaitsFault::Memory)),
+        Err(fault) => Err(StreamFault::Filter(fault)),
+    }
+}
+
+/// Leaves events out of the text of a stream that runs.
+fn leave_out(
+    running: &mut Waits,
+    alloc: Global,
+    name: Name,
+    filter: &[u8],
+) -> Result<(), StreamFault>
+    ensures leaves { OnOk result (LeavesThemOut name filter.now (Running running.old) (Running running.new)) }
+    ensures refused { IfErr result (λ why. IsRefused name filter.now (Running running.old) why) }
+    ensures stays { OnErr result (GoesOn (Running running.old) (Running running.new)) }
+{
+    if running.has_begun() {
+        return Err(StreamFault::NoStream);
+    }
+    if name == Name::Other {
+        return Err(StreamFault::NoEvent);
+    }
+    let without = read_without(alloc, name, filter)?;
+    match running.leave_out(without) {
+        Ok(()) => Ok(()),
+        Err(WithoutFault::Memory) => Err(StreamFault::Text(WaitsFault::Memory)),
+        Err(WithoutFault::Late) => Err(StreamFault::NoStream),
+    }
+}
+
+/// Leaves events out of a text, by where its stream stands.
+pub(crate) fn leave_out_phase(
+    phase: &mut Phase,
+    alloc: Global,
+    name: Name,
+    filter: &[u8],
+) -> Result<(), StreamFault>
+    ensures leaves { OnOk result (LeavesThemOut name filter.now phase.old phase.new) }
+    ensures refused { IfErr result (λ why. IsRefused name filter.now phase.old why) }
+    ensures stays { OnErr result (GoesOn phase.old phase.new) }
+{
+    match phase {
+        Phase::Running(running) => leave_out(running, alloc, name, filter),
+        Phase::Failed(fault) => Err(StreamFault::Text(*fault)),
+        Phase::Idle | Phase::Finished(_) => Err(StreamFault::NoStream),
+    }
+}
