@@ -1,22 +1,16 @@
 """A line of a trace for from-perf, from-trace-cmd and record: patterns of plain ones, and odd ones put together so that
 the desk reads of them what the tool has printed."""
 
-import importlib.util
-import os
 import re
 from typing import List, NamedTuple, Tuple
 
-# The package's patterns of lines are read without the package, which needs the library.
-_PATH = os.path.join(os.path.dirname(os.path.dirname(os.path.realpath(__file__))), "python", "histdesk", "_lines.py")
-_SPEC = importlib.util.spec_from_file_location("histdesk_lines", _PATH)
-desk = importlib.util.module_from_spec(_SPEC)
-_SPEC.loader.exec_module(desk)
+import line_patterns
 
 # What stands after a stamp and its blanks, with the line break, as one group. What is torn of the four events doesn't match.
 REST = rb"((?:sched_(?:switch:[ ]{1,64}%b|wak(?:ing|eup(?:_new)?):[ ]{1,64}%b)|(?!sched:|%b:)[^ \n]{1,64}:[^\n]{0,2048})\n)" % (
-    desk.SWITCH,
-    desk.WAKE,
-    desk.LABELS,
+    line_patterns.SWITCH,
+    line_patterns.WAKE,
+    line_patterns.LABELS,
 )
 # A stamp of six or nine digits, as two groups: all digits but the sixth after the point, then that one, and the next one too
 # where there are nine.
@@ -28,7 +22,7 @@ ROUNDED = {b"%d%d" % (digit, after): b"%d" % (digit + (after >= 5)) for digit in
 ROUNDED.update({b"": b"", **{b"%d" % digit: b"%d" % digit for digit in range(10)}})
 CARRIED = b"95"
 
-OWN = re.compile(desk.LABELS)
+OWN = re.compile(line_patterns.LABELS)
 # As the desk cuts a line: the task ends at the first dash after which the rest has its form.
 TASK = re.compile(rb"(.*?)-[0-9]+ +(?:\( *[0-9-]+\) +)?\[[0-9]+\] ", re.DOTALL)
 WAKE = re.compile(rb"(comm=)(.*)( pid=-?[0-9]+ prio=-?[0-9]+(?: success=-?[0-9]+)? target_cpu=[0-9]+ *)", re.DOTALL)
@@ -123,7 +117,7 @@ def check(line: Line, task: bytes, pieces: List[bytes]) -> None:
     names = pieces[1::2]
     plain = pieces[:]
     plain[1::2] = [b"x" * len(name) for name in names]
-    if desk.SURE.fullmatch(line.text(b"x" * len(task), b"".join(plain))):
+    if line_patterns.SURE.fullmatch(line.text(b"x" * len(task), b"".join(plain))):
         return
     if any(len(name) > LONGEST for name in names):
         raise NotTurned(f"a name has more than {LONGEST} bytes")

@@ -42,9 +42,10 @@ keeps them. numpy and pandas are used where they are there. The library `libhist
 environment variable `HISTDESK_LIBRARY` says, then in the folders around the package, then where the loader looks.
 """
 
+from ._changed import Fate
 from ._counts import Counts, CountsRow, Greatest
 from ._desk import Desk
-from ._diff import Difference, DifferenceRow, Fate, Figures, Struck, diff
+from ._diff import Difference, DifferenceRow, Figures, Struck, diff
 from ._events import Events
 from ._loaded import Lane, Loaded
 from ._losses import Hole, Losses, LossWarning
@@ -53,7 +54,8 @@ from ._questions import Asked, AskRows, AskWaits, Failed
 from ._recording import Part, Recording, read
 from ._refused import Refused, refusal_words
 from ._rows import Rows
-from ._scene import Runner, Share, Stretch
+from ._ran import Runner, Share, Stretch
+from ._slices import Source
 from ._trigger import Trigger
 from ._values import Bucket, Changed, Edit, Event, Latency, Log2, Place, Totals
 from ._waits import Waits, waits
@@ -94,6 +96,7 @@ __all__ = [
     "Rows",
     "Runner",
     "Share",
+    "Source",
     "Stretch",
     "Struck",
     "Totals",

@@ -1,15 +1,34 @@
-"""What the strikes of a recording's events change of its waits: how many are gone, and what is counted of each task."""
+"""What becomes of a recording's waits without some of its events: how many are gone, and what is counted of each task."""
 
 from __future__ import annotations
 
-from typing import Any, Dict, List, NamedTuple, Optional
+from typing import Any, List, NamedTuple, Optional
 
-from ._diff import Fate
+from ._counts import CountsRow
 from ._layout import needed
-from ._ended import Ended, Found
-from ._waits import KINDS
+from ._places import Places
+from ._waits import KINDS, Waits
 
-PERCENTS = (50, 99)
+
+class Fate(NamedTuple):
+    """What became of a recording's waits without some events: how many are gone, how many still end at the same switch and
+    begin with another event, and how many are new."""
+
+    gone: int
+    moved: int
+    new: int
+
+    def __str__(self) -> str:
+        return f"{self.gone} waits are gone, {self.moved} begin with another event, and {self.new} are new"
+
+
+class Change(NamedTuple):
+    """What became of waits: which of them aren't there any more, or not as they were, which of those that are left were
+    not there, or not so, both as ascending indices; and how many that are."""
+
+    taken: Any
+    new: Any
+    fate: Fate
 
 
 class Counted(NamedTuple):
@@ -33,45 +52,42 @@ class Row(NamedTuple):
     after: Optional[Counted]
 
 
-def fate_of(ended: Ended, at: Any) -> Fate:
-    """What became of the waits that some switches ended at first."""
-    was, now = ended.first.begin[at], ended.now.begin[at]
-    gone, new = (was >= 0) & (now < 0), (was < 0) & (now >= 0)
-    return Fate(int(gone.sum()), int((~gone & ~new & (was != now)).sum()), int(new.sum()))
-
-
-def rows_of(ended: Ended, at: Any) -> List[Row]:
-    """What is counted of the tasks and kinds of which waits have changed that end at some switches; by pid and kind."""
+def change_of(before: Waits, after: Waits) -> Change:
+    """What became of the waits of a recording without some events. A wait is known by the switch that ends it."""
     numpy = needed()
-    sides = ended.first, ended.now
-    keys = numpy.unique(numpy.concatenate([keys_of(ended, side, at[side.begin[at] >= 0]) for side in sides]))
-    ends = numpy.flatnonzero(numpy.isin(ended.pid, keys >> 2))
-    names = last_names(ended, ends)
-    before, after = (counted(ended, side, ends) for side in sides)
-    return [Row(names[key >> 2], key >> 2, KINDS[key & 3], before.get(key), after.get(key)) for key in keys.tolist()]
+    was, now = before._records, after._records
+    old = Places(was["end_cpu"], was["end_line"]).index(now["end_cpu"], now["end_line"])
+    left = numpy.flatnonzero(old >= 0)
+    old = old[left]
+    begins, like = (alike(was, old, now, left, fields) for fields in (["begin_cpu", "begin_line"], ["kind", "doubt"]))
+    is_taken, is_new = numpy.ones(len(was), bool), numpy.ones(len(now), bool)
+    is_taken[old[begins & like]] = is_new[left[begins & like]] = False
+    fate = Fate(len(was) - len(left), int((~begins).sum()), len(now) - len(left))
+    return Change(numpy.flatnonzero(is_taken), numpy.flatnonzero(is_new), fate)
 
 
-def keys_of(ended: Ended, found: Found, at: Any) -> Any:
-    """A number for the task and the kind of each wait that some switches end."""
-    return (ended.pid[at].astype("i8") << 2) + found.kind[at]
+def alike(was: Any, old: Any, now: Any, new: Any, fields: List[str]) -> Any:
+    """For which pairs of records, by their indices, some fields are the same."""
+    return needed().logical_and.reduce([was[field][old] == now[field][new] for field in fields])
 
 
-def counted(ended: Ended, found: Found, ends: Any) -> Dict[int, Counted]:
-    """What is counted of the waits that some switches end, by task and kind."""
+def rows_of(before: Waits, after: Waits, change: Change) -> List[Row]:
+    """What is counted of the tasks and kinds of which waits have changed; by pid and kind."""
     numpy = needed()
-    at = ends[(found.begin[ends] >= 0) & ~found.doubtful[ends]]
-    keys, micros = keys_of(ended, found, at), ended.micros(found, at)
-    order = numpy.lexsort((micros, keys))
-    keys, micros = keys[order], micros[order]
-    known, first, counts = numpy.unique(keys, return_index=True, return_counts=True)
-    totals = numpy.add.reduceat(micros, first) if len(first) else first
-    # That of a rank is the least such that so many per cent are at most as great.
-    columns = [counts, totals, *(micros[first + -(-counts * percent // 100) - 1] for percent in (*PERCENTS, 100))]
-    return dict(zip(known.tolist(), map(Counted, *(column.tolist() for column in columns))))
+    sides = (before, change.taken), (after, change.new)
+    keys = numpy.unique(numpy.concatenate([keys_of(side._records[at]) for side, at in sides]))
+    some = [side[numpy.isin(side._records["pid"], keys >> 2)] for side, _ in sides]
+    names = {**some[1]._last_names(), **some[0]._last_names()}
+    was, now = ({row.key: row for row in side.counts("task").rows() if row.count} for side in some)
+    found = [(key >> 2, KINDS[key & 3]) for key in keys.tolist()]
+    return [Row(names[key[0]], *key, told(was.get(key)), told(now.get(key))) for key in found]
 
 
-def last_names(ended: Ended, ends: Any) -> Dict[int, str]:
-    """The last name of each task that some switches run, by its number."""
-    pids, last = needed().unique(ended.pid[ends[::-1]], return_index=True)
-    names = ended.names[ended.codes[ends[len(ends) - 1 - last]]]
-    return dict(zip(pids.tolist(), names.tolist()))
+def keys_of(records: Any) -> Any:
+    """A number for the task and the kind of each wait."""
+    return (records["pid"].astype("i8") << 2) + records["kind"]
+
+
+def told(row: Optional[CountsRow]) -> Optional[Counted]:
+    """What is told of a row."""
+    return row and Counted(*(getattr(row, field) for field in Counted._fields))

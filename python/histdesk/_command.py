@@ -3,24 +3,27 @@
 from __future__ import annotations
 
 import argparse
+import gzip
 import os
 import re
 import shlex
 import signal
 import sys
 import time
-import warnings
-from typing import TYPE_CHECKING, Any, Callable, Iterator, List, NoReturn, Tuple
+from typing import TYPE_CHECKING, Any, Callable, Iterator, List, NoReturn, Tuple, TypeVar
 
 from ._lines import holds_event
-from ._losses import LossWarning, seconds
-from ._recording import Choice, Recording, read
+from ._losses import seconds
+from ._pieces import Text, text_again
+from ._recording import Choice, Recording, counted_from, read_text
 from ._refused import Refused, refusal_words
 from ._shown import are, counted
-from ._source import content_of, searched
 
 if TYPE_CHECKING:
-    from ._waits import Waits
+    from ._counted import Choice as Choices
+    from ._waits import Summary, Waits
+
+Found = TypeVar("Found", bound="Summary")
 
 EVENTS = ("sched_waking", "sched_wakeup", "sched_wakeup_new", "sched_switch", "other")
 STAMP = re.compile(r"([0-9]{1,10})(?:\.([0-9]{1,6}))?")
@@ -33,6 +36,8 @@ PRINTED = {
     re.compile(rb".* [0-9]+ +\[[0-9]+\] +[0-9]+\.[0-9]+: +[^ ]+:"): ("what perf script printed", "from-perf"),
     re.compile(rb"cpus=[0-9]|version = [0-9]"): ("what trace-cmd report printed", "from-trace-cmd"),
 }
+# So many bytes of a text are looked at for that.
+FRONT_ROOM = 1 << 16
 # What comes before the first line that holds something, and that line, as far as a desk reads one.
 FRONT, LINE = re.compile(rb"(?:#[^\n]*\n|\n)*"), re.compile(rb"[^\n]{0,8192}")
 # So many numbers of lines are told.
@@ -108,26 +113,58 @@ def recording(words: argparse.Namespace, path: str, tool: str, **choice: Any) ->
     """Reads the trace of that path, or standard input where it is `-`, as the options say; `choice` says otherwise. What is
     lost or left out is told on standard error."""
     wanted = {"start": words.start, "until": words.until, "cpus": words.cpus, "events": words.events, **choice}
-    text = searched(content_of(opened(path)))
-    check_kind(text, path)
-    # Its own line says which lines these are.
-    with warnings.catch_warnings():
-        warnings.simplefilter("ignore", LossWarning)
-        found = read(text, **wanted, lenient=words.lenient)
-    found.path = path
+    found = read_text(path, checked(path), Choice(**wanted), words.lenient)
+    # These lines say what was lost.
+    found.is_told = True
     for told in remarks(found, Choice(**wanted)):
         print(f"{tool}: {path}: {told}", file=sys.stderr)
     return found
 
 
-def whole_waits(words: argparse.Namespace, path: str, tool: str) -> Waits:
-    """The waits of the whole trace of that path, or of standard input if it is `-`. What is lost or left out is told on
-    standard error; how far the reading is, on a terminal."""
-    from ._waits import waits_of_text
+def checked(path: str) -> Text:
+    """The text of that path, or of standard input if it is `-`. Ends the tool if it is no trace."""
+    text = text_again(opened(path))
+    check_kind(text.read(0, FRONT_ROOM), path)
+    return text
 
+
+def stretch(words: argparse.Namespace, path: str) -> Recording:
+    """The stretch of time that is asked for of the trace of that path, or of standard input if it is `-`; it isn't read yet."""
+    from ._slices import found_stretch
+
+    return found_stretch(path, checked(path), Choice(words.start, words.until), words.lenient)
+
+
+def whole_waits(words: argparse.Namespace, path: str, tool: str, keeps: bool = True) -> Waits:
+    """The waits of the trace of that path, or of standard input if it is `-`: of the whole of it, or of a stretch of time. What
+    is lost or left out is told on standard error; how far the reading is, on a terminal. A whole standard input can be read
+    again if it `keeps` that."""
+    from ._waits import waits_of_recording, waits_of_text
+
+    def found(watch: Watch) -> Waits:
+        if words.start is None and words.until is None:
+            return waits_of_text(opened(path), words.lenient, watch, path, keeps)
+        part = stretch(words, path)
+        watch.size = part.size
+        return waits_of_recording(part, words.lenient, watch)
+
+    return watched(found, path, tool)
+
+
+def counted_waits(words: argparse.Namespace, path: str, tool: str, choice: Choices) -> Summary:
+    """The same waits as they are counted; those of a whole trace are not kept."""
+    from ._counted import counted
+
+    if words.start is None and words.until is None:
+        return watched(lambda watch: counted(opened(path), choice, words.lenient, watch, path), path, tool)
+    return whole_waits(words, path, tool, keeps=False).only(kinds=choice.kinds, cpus=choice.cpus)
+
+
+def watched(answer: Callable[[Watch], Found], path: str, tool: str) -> Found:
+    """What a trace of that path answers while its reading is watched. What is lost or left out is told on standard error."""
     watch = Watch(path, tool)
     try:
-        found = waits_of_text(opened(path), words.lenient, watch, path)
+        found = answer(watch)
     finally:
         watch.end()
     for told in filter(None, [found.warning, bad_lines_of(found)]):
@@ -135,7 +172,7 @@ def whole_waits(words: argparse.Namespace, path: str, tool: str) -> Waits:
     return found
 
 
-def bad_lines_of(found: Waits) -> str:
+def bad_lines_of(found: Summary) -> str:
     """How many lines were left out that can't be read; empty if there are none."""
     if not found.bad_lines:
         return ""
@@ -150,7 +187,8 @@ class Watch:
 
     def __init__(self, path: str, tool: str) -> None:
         self._path, self._tool = path, tool
-        self._size = os.path.getsize(path) if os.path.isfile(path) else 0
+        # Of how many bytes, or 0.
+        self.size = os.path.getsize(path) if os.path.isfile(path) else 0
         self._read, self._since, self._told = 0, time.monotonic(), 0.0
 
     def __call__(self, piece: Any) -> None:
@@ -161,7 +199,7 @@ class Watch:
         if now - self._since >= PATIENCE and now - self._told >= AGAIN and sys.stderr.isatty():
             self._told = now
             # What is packed is longer than its file.
-            share = f" of {self._size / 1e6:.0f}" if self._read <= self._size else ""
+            share = f" of {self.size / 1e6:.0f}" if self._read <= self.size else ""
             print(f"\r{self._tool}: {self._read / 1e6:.0f}{share} MB read\x1b[K", end="", file=sys.stderr, flush=True)
 
     def end(self) -> None:
@@ -198,6 +236,8 @@ def kinds_of(text: Any) -> Iterator[Tuple[str, str]]:
 def remarks(found: Recording, choice: Choice) -> List[str]:
     """What is to be known before an answer is believed, a line each."""
     told = [*([found.warning] if found.warning else []), *bad_lines_told(found)]
+    if found.lines_from is not None:
+        told.append(counted_from(found.lines_from))
     part = found.taken
     if part and part.rest is not None and part.first is not None and part.last is not None:
         length = seconds(part.last - part.first)
@@ -241,6 +281,8 @@ def run(tool: str, function: Callable[[], int]) -> NoReturn:
         ended_by(signal.SIGINT)
     except MemoryError:
         print(f"{tool}: {refusal_words('refused 1')}", file=sys.stderr)
+    except gzip.BadGzipFile as error:
+        print(f"{tool}: what is packed in the trace can't be unpacked: {error}", file=sys.stderr)
     except OSError as error:
         print(f"{tool}: {error.filename or 'standard output'}: {error.strerror or error}", file=sys.stderr)
     except Refused as error:

@@ -17,6 +17,8 @@ Percent = Union[int, float, str, Fraction]
 PERCENTS = (50, 90, 99)
 # Products of microseconds and counts may pass 64 bits, so each is summed in two halves, of so many bits below.
 LOW_BITS = 26
+# So many bits of a number are used where two are joined to one.
+BITS = 63
 
 
 class Greatest(NamedTuple):
@@ -262,16 +264,51 @@ def cells(row: CountsRow, has_source: bool) -> List[Any]:
 # ---- how they are made
 
 
+def counted(key: Any, micros: Any) -> Columns:
+    """Columns of pairs in any order, each of which counts one."""
+    numpy, bits = needed(), bits_of(micros)
+    if bits_of(key) + bits > BITS:
+        return summed(key, micros, numpy.ones(len(key), "int64"))
+    pairs = joined(key, micros, bits)
+    pairs.sort()
+    starts = starts_of(pairs)
+    found = pairs[starts].astype("int64")
+    return Columns(found >> bits, found & ((1 << bits) - 1), numpy.diff(starts, append=len(pairs)))
+
+
 def summed(key: Any, micros: Any, count: Any) -> Columns:
     """Columns of pairs in any order, which may stand there more than once."""
+    numpy, bits, low = needed(), bits_of(micros), micros
+    if bits_of(key) + bits > BITS:
+        # Their order will do.
+        low = numpy.unique(micros, return_inverse=True)[1]
+        bits = bits_of(low)
+    pairs = joined(key, low, bits)
+    # Quick where the pairs of columns stand one after the other, each in order.
+    order = pairs.argsort(kind="stable")
+    pairs = pairs[order]
+    starts = starts_of(pairs)
+    first = order[starts]
+    return Columns(key[first], micros[first], numpy.add.reduceat(count[order], starts) if len(starts) else count)
+
+
+def bits_of(numbers: Any) -> int:
+    """How many bits the greatest of some numbers has."""
+    return int(numbers.max(initial=0)).bit_length()
+
+
+def joined(key: Any, low: Any, bits: int) -> Any:
+    """Pairs as one number each, the key's above one of so many bits; of 32 bits if they hold it, which are sorted quickest."""
+    pairs = key << bits | low
+    return pairs.astype("u4") if bits_of(pairs) <= 32 else pairs
+
+
+def starts_of(ascending: Any) -> Any:
+    """Where each different one of ascending numbers stands first."""
     numpy = needed()
-    order = numpy.lexsort((micros, key))
-    key, micros, count = key[order], micros[order], count[order]
-    is_first = numpy.ones(len(key), bool)
-    is_first[1:] = (key[1:] != key[:-1]) | (micros[1:] != micros[:-1])
-    starts = numpy.flatnonzero(is_first)
-    sums = numpy.add.reduceat(count, starts) if len(starts) else count
-    return Columns(key[starts], micros[starts], sums)
+    is_first = numpy.ones(len(ascending), bool)
+    numpy.not_equal(ascending[1:], ascending[:-1], out=is_first[1:])
+    return numpy.flatnonzero(is_first)
 
 
 def combined(fields: Sequence[str], parts: Sequence[Tuple[Counts, Sequence[Key]]]) -> Counts:

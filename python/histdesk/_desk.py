@@ -15,7 +15,7 @@ from ._library import library
 from ._loaded import Lane, Loaded
 from ._losses import Hole, LossWarning, losses_of
 from ._recording import Recording, path_of
-from ._refused import Refused
+from ._refused import Refused, moved
 from ._session import PLACES, Session
 from ._source import bytes_of, content_of, lines_of, searched
 from ._trigger import Trigger
@@ -90,12 +90,16 @@ class Desk:
                 count = self._session.count(library.histdesk_load, address, length, given=content)
             except Refused as refused:
                 refused.path = path_of(trace) if refused.line else None
+                if isinstance(trace, Recording) and refused.line:
+                    raise moved(refused, trace.lines_before()) from None
                 raise
         loaded = Loaded(count, lines - count, self._lanes_of(count), losses)
         for hole in losses.holes:
             self._holes.setdefault(hole.cpu, []).append(hole)
-        if losses.warning and not isinstance(trace, Recording):
+        if losses.warning and not (isinstance(trace, Recording) and trace.is_told):
             warnings.warn(losses.warning, LossWarning, stacklevel=2)
+        if isinstance(trace, Recording):
+            trace.is_told = True
         return loaded
 
     def _lanes_of(self, count: int) -> Tuple[Lane, ...]:

@@ -2,26 +2,21 @@
 
 from __future__ import annotations
 
-import re
 import warnings
+from functools import cached_property
 from typing import Any, Callable, Collection, Dict, Iterable, List, NamedTuple, Optional, Sequence, Tuple, Union
 
 from . import _shown
+from ._changed import Fate, change_of
 from ._counts import Counts, CountsRow, Key
 from ._desk import Desk, Trace
-from ._library import library
+from ._left_out import Chosen, check, parsed, waits_without
 from ._losses import LossWarning
-from ._layout import needed
-from ._recording import Recording, read
-from ._waits import BY, SPARE, Waits, numbered, of, waits, waits_of
+from ._recording import Recording
+from ._waits import BY, Waits, of, waits
 
 Side = Union[Trace, Recording, Desk, Waits]
 
-# An event, and perhaps which ones of its name.
-WITHOUT = re.compile(r"\s*(\S+)(?:\s+if\s+(.*\S))?\s*", re.DOTALL)
-STRIKABLE = ("sched_waking", "sched_wakeup_new", "sched_switch")
-# A filter that holds of every event.
-ALWAYS = "common_cpu >= 0"
 # What rows may be sorted by, and the title of its changes.
 TITLES = {"waited": "change of waited/s", "max": "change of max"}
 SORTS = tuple(TITLES)
@@ -77,18 +72,6 @@ class Struck(NamedTuple):
         return f"{self.count} of {self.of} {self.event}" + ("" if self.filter is None else f" if {self.filter}")
 
 
-class Fate(NamedTuple):
-    """What became of a recording's waits without some events: how many are gone, how many still end at the same switch and
-    begin with another event, and how many are new."""
-
-    gone: int
-    moved: int
-    new: int
-
-    def __str__(self) -> str:
-        return f"{self.gone} waits are gone, {self.moved} begin with another event, and {self.new} are new"
-
-
 class Difference:
     """How waits changed; `diff` makes it. Doubtful waits are left out on both sides.
 
@@ -128,16 +111,10 @@ class Difference:
 
     # ---- the answers
 
-    @property
+    @cached_property
     def fate(self) -> Optional[Fate]:
         """What became of the waits, where some events were taken away."""
-        if self.struck is None:
-            return None
-        before, after = self.before.array, self.after.array
-        ends = [numbered(side.end_cpu, side.end_line) for side in (before, after)]
-        _, old, new = needed().intersect1d(*ends, assume_unique=True, return_indices=True)
-        begins = [numbered(side.begin_cpu, side.begin_line) for side in (before[old], after[new])]
-        return Fate(len(before) - len(old), int((begins[0] != begins[1]).sum()), len(after) - len(new))
+        return None if self.struck is None else change_of(self.before, self.after).fate
 
     def whole(self, *, above: Optional[int] = None) -> DifferenceRow:
         """What is counted of all waits together. `above` is that of `table`."""
@@ -321,9 +298,9 @@ def diff(before: Side, after: Optional[Side] = None, *, without: Union[str, Iter
     its events: `diff("my.trace", without="sched_waking if common_pid == 0")`.
 
     A side is what `waits` takes, or `Waits`. What `without` names is an event, and perhaps ` if ` and a filter as
-    `Desk.matching` takes it; there may be several, in a list. These events are struck from the desk that holds the recording,
-    and the waits are those of the events that are left: where a waking is struck, the task waits from an earlier one on, or its
-    wait isn't there.
+    `Desk.matching` takes it; there may be several, in a list. The waits are then those of the events that are left, as if the
+    others weren't in the recording: without a waking, the task waits from an earlier one on, or its wait isn't there. A
+    recording may be of any length, as `waits` says; without some events it is read once.
 
     Raises what `waits` raises; `ValueError` where there is neither another side nor `without`, or both, and where `without`
     names an event with which no wait begins or ends; and `Refused` with number 9 where a filter can't be read."""
@@ -334,7 +311,13 @@ def diff(before: Side, after: Optional[Side] = None, *, without: Union[str, Iter
         return Difference(waits_on(before), waits_on(after))
     if isinstance(before, (Desk, Waits)):
         raise TypeError("events are taken away from a recording: a trace, or what read() has read")
-    return diff_without(before, [parsed(text) for text in filters])
+    found = diff_without(before, [parsed(text) for text in filters])
+    is_told = isinstance(before, Recording) and before.is_told
+    if found.before.warning and not is_told:
+        warnings.warn(found.before.warning, LossWarning, stacklevel=2)
+    if isinstance(before, Recording):
+        before.is_told = True
+    return found
 
 
 def waits_on(side: Side) -> Waits:
@@ -342,43 +325,16 @@ def waits_on(side: Side) -> Waits:
     return side if isinstance(side, Waits) else waits(side)
 
 
-def parsed(text: str) -> Tuple[str, Optional[str]]:
-    """The event and the filter of a text. Raises `ValueError` where it names no event with which waits begin or end."""
-    found = WITHOUT.fullmatch(text)
-    event = found[1] if found else ""
-    if event not in STRIKABLE:
-        raise ValueError(
-            f"{text!r}: waits begin and end with {', '.join(STRIKABLE)}, so one of these, and perhaps ` if ` and a filter"
-        )
-    return event, found[2]  # type: ignore[index]
-
-
-def diff_without(trace: Union[Trace, Recording], chosen: Sequence[Tuple[str, Optional[str]]]) -> Difference:
-    """How waits change in a recording without some events."""
-    needed()
-    with Desk() as empty:
-        # What can't be read is refused before anything takes long.
-        for event, condition in chosen:
-            empty.matching(event, condition or ALWAYS)
-    with warnings.catch_warnings():
-        warnings.simplefilter("ignore", LossWarning)
-        recording = read(trace, spare=SPARE)
-    if recording.warning and not isinstance(trace, Recording):
-        warnings.warn(recording.warning, LossWarning, stacklevel=3)
-    before = waits(recording)
-    # Triggers would have to be kept up to date with each strike, so these are made on a desk without any.
-    with recording.desk() as desk:
-        places = [desk.matching(event, condition or ALWAYS) for event, condition in chosen]
-        counts = [len(desk.matching(event, ALWAYS)) for event, _ in chosen]
-        strike(desk, places)
-        after = waits_of(desk, recording)
-    return Difference(before, after, [Struck(*one, len(found), count) for one, found, count in zip(chosen, places, counts)])
-
-
-def strike(desk: Desk, places: Sequence[Any]) -> None:
-    """Strikes the events at some places, each once. Nobody wants to know what a strike changes, so it isn't asked for."""
-    numpy = needed()
-    cpus, lines = (numpy.concatenate([found[field] for found in places]) for field in ("cpu", "line"))
-    session, call = desk._session, library.histdesk_strike
-    for number in numpy.unique(numbered(cpus, lines)).tolist():
-        session.call(call, *divmod(number, 1 << 32))
+def diff_without(
+    trace: Union[Trace, Recording],
+    chosen: Sequence[Chosen],
+    lenient: bool = False,
+    watch: Optional[Callable[[Any], None]] = None,
+    path: Optional[str] = None,
+) -> Difference:
+    """How waits change in a recording without some events. Other words are those of `_waits.waits_of_text`."""
+    # What can't be read is refused before anything takes long.
+    check(chosen)
+    before, (after, counts) = waits_without(trace, chosen, lenient, watch, path)
+    struck = [Struck(one.event, one.text or None, found.count, found.of) for one, found in zip(chosen, counts)]
+    return Difference(before, after, struck)

@@ -3,9 +3,10 @@
 from __future__ import annotations
 
 from collections.abc import Sequence
-from typing import Any, List, Tuple, Union, overload
+from typing import Any, Tuple, Union, overload
 
 from . import _layout, _shown
+from ._numbers import Numbers
 from ._values import Event
 
 NUMBERS = ("stamp", "cpu", "line", "common_pid", "pid", "prio", "target_cpu", "prev_pid", "prev_prio")
@@ -15,8 +16,6 @@ NAMES = ("task", "comm", "prev_comm", "prev_state")
 SHOWN = ("stamp", "cpu", "line", "name", "task", "common_pid", "comm", "pid", "prio")
 # The last field of the common part; the fields after it are of some names alone.
 COMMON = Event._fields.index("common_pid")
-# Odd numbers, by which the parts of a name are mixed.
-MIX = (0x9E3779B97F4A7C15, 0xC2B2AE3D27D4EB4F, 0x165667B19E3779F9, 0x27D4EB2F165667C5)
 
 
 class Events(Sequence[Event]):
@@ -168,21 +167,6 @@ def texts(array: Any, field: str) -> Any:
 
 def coded(array: Any, field: str) -> Tuple[Any, Any]:
     """The different texts of a name of all events, as an array, and which one each event has. Each is decoded once."""
-    found, codes = coded_names(array, field)
-    return _layout.numpy().array([_layout.text_of(name[:31], name[31]) for name in found], dtype=object), codes
-
-
-def coded_names(array: Any, field: str) -> Tuple[List[bytes], Any]:
-    """The different values of a name of all structs, 31 bytes and the length each, and which one each struct has."""
-    numpy = _layout.numpy()
-    count, at = len(array), array.dtype.fields[field][1]
-    # The 31 bytes and the length after them, as four numbers; names are the same where all four are.
-    structs = numpy.ascontiguousarray(array).view("u1").reshape(count, array.dtype.itemsize)
-    names = numpy.ascontiguousarray(structs[:, at : at + 32])
-    numbers = names.view("u8")
-    # One number of four, modulo 2^64. Should two names have the same one, all four are compared.
-    mixed = (numbers * numpy.array(MIX, "u8")).sum(axis=1, dtype="u8")
-    _, first, codes = numpy.unique(mixed, return_index=True, return_inverse=True)
-    if not numpy.array_equal(numbers[first][codes], numbers):
-        _, first, codes = numpy.unique(numbers, axis=0, return_index=True, return_inverse=True)
-    return [names[event].tobytes() for event in first], codes.reshape(count)
+    names = Numbers(_layout.NAME_WORDS)
+    codes = names.of(_layout.words_of_names(array, field))
+    return _layout.texts_of_names(names.rows), codes

@@ -2,7 +2,8 @@
 
 from __future__ import annotations
 
-from typing import TYPE_CHECKING, Any, Iterator, List, NamedTuple, Optional, Sequence, Tuple
+import itertools
+from typing import TYPE_CHECKING, Any, Iterable, Iterator, List, NamedTuple, Optional, Sequence, Tuple
 
 from . import _layout
 from ._events import COMMON, NAMES, Events, has, texts
@@ -54,7 +55,7 @@ def event_columns(events: Events, recording: Optional[Recording]) -> List[List[A
 
 
 def event_column(array: Any, field: str) -> List[Any]:
-    """A field of events, None where an event doesn't have it."""
+    """A field of events, None if an event doesn't have it."""
     numpy = _layout.numpy()
     names = numpy.array(_layout.EVENT_NAMES, dtype=object)
     column = names[array.name] if field == "name" else texts(array, field) if field in NAMES else array[field]
@@ -65,10 +66,14 @@ def event_column(array: Any, field: str) -> List[Any]:
     return values
 
 
-def waits_table(waits: Waits) -> Table:
-    """Waits one by one, in the order in which they ended: the task's name, and the fields of `Waits.array`."""
-    rows = zip(waits.names.tolist(), *(waits.array[field].tolist() for field in waits.array.dtype.names))
-    return Table(("task", *waits.array.dtype.names), rows)
+def waits_table(parts: Iterable[Waits]) -> Table:
+    """Waits one by one, in the order in which they ended: the task's name, and the fields of `Waits.array`. They come in parts,
+    of which one is asked for after the other."""
+    from ._waits import FIELDS
+
+    names = [name for name, _ in FIELDS]
+    rows = (zip(part.names.tolist(), *(part.array[name].tolist() for name in names)) for part in parts)
+    return Table(("task", *names), itertools.chain.from_iterable(rows))
 
 
 def rows_table(trigger: Trigger) -> Table:

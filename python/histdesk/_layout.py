@@ -20,6 +20,8 @@ CPUS = 8192
 # Causes of a wait, and how sure it is.
 WOKEN, CREATED, PREEMPTED = 1, 2, 3
 SURE, LIKELY, DOUBTFUL = 0, 1, 2
+# What stands in place of an event's name if a line of a text has no event, and nothing is wrong with it; or can't be read.
+LINE_SKIPPED, LINE_BAD = 253, 254
 # Kinds of a key's part.
 PLAIN, LOG2, BUCKET, TEXT = 0, 1, 2, 3
 
@@ -74,6 +76,38 @@ class Place(ctypes.Structure):
     _fields_ = [("stamp", ctypes.c_uint64), ("cpu", ctypes.c_uint32), ("line", ctypes.c_uint32)]
 
 
+class LeftOut(ctypes.Structure):
+    """How many events of a name a text has, and how many of them were left out of a stream of waits."""
+
+    _fields_ = [("events", ctypes.c_uint64), ("left_out", ctypes.c_uint64)]
+
+
+class TaskSum(ctypes.Structure):
+    """What a text sums up to for a task; `run_time` is in microseconds."""
+
+    _fields_ = [
+        ("run_time", ctypes.c_uint64),
+        ("switches", ctypes.c_uint64),
+        ("preempted", ctypes.c_uint64),
+        ("slept", ctypes.c_uint64),
+        ("blocked", ctypes.c_uint64),
+        ("moved", ctypes.c_uint64),
+        ("pid", ctypes.c_int32),
+        ("zero", ctypes.c_uint32),
+    ]
+
+
+class CpuSum(ctypes.Structure):
+    """What a text sums up to for a CPU; `idle` and `idle_with_waiters` are in microseconds."""
+
+    _fields_ = [
+        ("idle", ctypes.c_uint64),
+        ("idle_with_waiters", ctypes.c_uint64),
+        ("cpu", ctypes.c_uint32),
+        ("zero", ctypes.c_uint32),
+    ]
+
+
 class WaitsRead(ctypes.Structure):
     """What was read of a text by a stream of waits; what isn't there is 0."""
 
@@ -94,12 +128,35 @@ class WaitsRead(ctypes.Structure):
     ]
 
 
+class Hole(ctypes.Structure):
+    """A hole; what it doesn't have is 0."""
+
+    _fields_ = [
+        *((name, ctypes.c_uint64) for name in ["line", "after", "before", "count"]),
+        ("cpu", ctypes.c_uint32),
+        *((name, ctypes.c_bool) for name in ["has_after", "has_before", "has_count"]),
+    ]
+
+
+class LossesRead(ctypes.Structure):
+    """What the lines of a text report lost; what isn't there is 0."""
+
+    _fields_ = [
+        ("holes", ctypes.c_uint64),
+        ("held", ctypes.c_uint64),
+        ("written", ctypes.c_uint64),
+        ("has_written", ctypes.c_bool),
+    ]
+
+
 # A name is 31 bytes and its length; a key is the number of its parts, and room for three of them: number, bucket, name, kind.
-NAME_CODE = "31sB"
+NAME_CODE, NAME_WORDS = "31sB", 4
 PART_CODE = "qQ" + NAME_CODE + "Q"
 KEY_CODE = "Q" + 3 * PART_CODE
 PLACE_CODE = "QII"
 
+# A line of a text, as `LINE_FIELDS` has it.
+LINE = struct.Struct("=2q4I")
 PLACE = struct.Struct("=" + PLACE_CODE)
 LATENCY = struct.Struct("=" + 2 * PLACE_CODE + "Q")
 ROW = struct.Struct("=" + KEY_CODE + "4Q")
@@ -134,10 +191,11 @@ WAIT_FIELDS = [
     ("name", "S31"),
     ("name_length", "u1"),
 ]
-HOLE_FIELDS = [
-    *((name, "=u8") for name in ["line", "after", "before", "count"]),
-    ("cpu", "=u4"),
-    *((name, "?") for name in ["has_after", "has_before", "has_count"]),
+
+# `end` is how many bytes the text has up to the line's end, with its line break.
+LINE_FIELDS = [
+    *((name, "=i8") for name in ["end", "stamp"]),
+    *((name, "=u4") for name in ["cpu", "event", "fault", "zero"]),
 ]
 
 
@@ -184,10 +242,24 @@ def wait_type() -> Any:
     return numpy().dtype(WAIT_FIELDS)
 
 
+def words_of_names(structs: Any, field: str) -> Any:
+    """A name of some structs, the 31 bytes and the length after them as 64-bit words."""
+    kind = structs.dtype
+    words = {"names": ["words"], "formats": [("u8", NAME_WORDS)], "offsets": [kind.fields[field][1]], "itemsize": kind.itemsize}
+    return structs.view(numpy().ndarray).view(words)["words"]
+
+
+def texts_of_names(words: Any) -> Any:
+    """Names as an array of texts, of their words."""
+    found = numpy().empty(len(words), object)
+    found[:] = [text_of(name[:31], name[31]) for name in map(bytes, words.view("u1"))]
+    return found
+
+
 @functools.lru_cache(maxsize=None)
-def hole_type() -> Any:
-    """A hole, for numpy, its end filled up as in C."""
-    return numpy().dtype(HOLE_FIELDS, align=True)
+def line_type() -> Any:
+    """A line of a text, for numpy."""
+    return numpy().dtype(LINE_FIELDS)
 
 
 @functools.lru_cache(maxsize=None)

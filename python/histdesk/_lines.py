@@ -1,80 +1,86 @@
-"""Which lines of a trace the desk reads. The grammar is that of docs/REFERENCE.md, Trace lines."""
+"""What each line of a trace's text is, as the engine reads it."""
 
 from __future__ import annotations
 
-import re
-import threading
-from typing import List
+import ctypes
+from typing import Any, Iterator, List, NamedTuple
 
-# Pieces of patterns, in which blanks and comments mean nothing (`re.VERBOSE`). All repeats have bounds, whose sum over a
-# line is below the 4,096 bytes that it may have.
-_NUMBER = rb"-?[0-9]{1,9}"
-_NAME = rb"[^\n]{0,31}"
-LABELS = rb"sched_(?:switch|wak(?:ing|eup(?:_new)?))"
-WAKE = rb"comm=%(name)b[ ]pid=%(number)b[ ]prio=%(number)b(?:[ ]success=%(number)b)?[ ]target_cpu=[0-9]{1,9}[ ]{0,64}" % {
-    b"name": _NAME,
-    b"number": _NUMBER,
-}
-"""The fields of a waking, after their label and its colon."""
-# The name after the arrow holds no `>`, so the arrow is the last one.
-SWITCH = (
-    rb"prev_comm=%(name)b[ ]prev_pid=%(number)b[ ]prev_prio=%(number)b[ ]prev_state=[^ \n]{1,31}"
-    rb"[ ]==>[ ]next_comm=[^>\n]{0,31}[ ]next_pid=%(number)b[ ]next_prio=%(number)b[ ]{0,64}"
-) % {b"name": _NAME, b"number": _NUMBER}
-"""The fields of a switch."""
-# The first `[` is that of the CPU, so the dash before it is the only one with the form of a task's end after it. A first word
-# without `:` is that of the flags.
-_FRONT = (
-    rb"(?!\#)[ ]{0,32}[^\[\n]{0,31}-[0-9]{1,9}[ ]{1,64}(?:\([ ]{0,32}[0-9-]{1,16}\)[ ]{1,64})?"
-    rb"\[[0-7]?[0-9]{1,3}\][ ]{1,64}(?:[^ :\n0-9][^ :\n]{0,15}[ ]{1,64})?[0-3]?[0-9]{1,9}\.[0-9]{6}:"
-)
-_OWN = rb"[ ]{1,64}sched_(?:switch:[ ]{0,64}" + SWITCH + rb"|wak(?:ing|eup(?:_new)?):[ ]{0,64}" + WAKE + rb")"
-_OTHER = rb"(?![ ]*" + LABELS + rb":)(?:[ ][^\n]{0,2048})?"
+from . import _layout
+from ._layout import needed
+from ._library import library
+from ._session import Session
+from ._source import bytes_of
 
-SURE = re.compile(rb"^" + _FRONT + rb"(?:" + _OWN + rb"|" + _OTHER + rb")$", re.VERBOSE | re.MULTILINE)
-"""Matches lines that hold an event which the desk reads, and no others. A few that it reads don't match: those with odd names,
-very long ones, numbers near their limits. It matches a line alone (`SURE.fullmatch(line)`, without its line break) and
-the lines of a whole text: `SURE.sub(b"", text)` leaves those that are not sure, each at its number."""
-
-SKIPPED = re.compile(
-    rb"^(?:[ \t]{0,4096}|\#[^\n]{0,4095}|CPU:[0-9]{1,64}[ ]\[LOST[ ](?:[0-9]{1,64}[ ])?EVENTS\])$", re.VERBOSE | re.MULTILINE
-)
-"""Matches lines that hold no event and are good: empty ones, comments, lost-events lines; in a text too, as `SURE` does."""
-
-_NO_EVENT, _READ = 6, 0
-_here = threading.local()
+NONE = -1
+# So many bytes are asked about at once.
+ROOM = 1 << 20
 
 
-def readable(line: bytes) -> bool:
-    """Whether the desk reads a line, without its line break: it holds an event, or is one of those that are skipped.
+class Lines(NamedTuple):
+    """Of each line of a text where it ends, after its line break; its event's CPU (-1 if it holds none), stamp in microseconds
+    and name (by its number); and whether it can't be read."""
 
-    Where `SURE` and `SKIPPED` leave it open, a desk is asked. Raises `MemoryError` where memory ran out."""
-    return bool(SURE.fullmatch(line) or SKIPPED.fullmatch(line)) or _asked(line) in (_READ, _NO_EVENT)
+    ends: Any
+    cpus: Any
+    stamps: Any
+    names: Any
+    bad: Any
+
+
+def lines_in(text: Any) -> Lines:
+    """What each line of a text is; needs numpy. Raises `MemoryError` if memory ran out."""
+    numpy, parts = needed(), list(lines_by_part(text))
+    if not parts:
+        return Lines(*(numpy.zeros(0, kind) for kind in ("i8", "i8", "i8", "u1", "?")))
+    return parts[0] if len(parts) == 1 else Lines(*map(numpy.concatenate, zip(*parts)))
+
+
+def lines_by_part(text: Any) -> Iterator[Lines]:
+    """The same, part by part."""
+    for start, part in parts_of(text):
+        told = asked(part).view(_layout.line_type())
+        is_event = told["event"] <= _layout.OTHER
+        cpus = needed().where(is_event, told["cpu"].astype("i8"), NONE)
+        names = needed().where(is_event, told["event"], _layout.OTHER).astype("u1")
+        yield Lines(told["end"] + start, cpus, told["stamp"], names, told["event"] == _layout.LINE_BAD)
+
+
+def parts_of(text: Any) -> Iterator[Any]:
+    """A text in parts of whole lines, each with the byte at which it begins."""
+    start = 0
+    while start < len(text):
+        end = min(start + ROOM, len(text))
+        end = text.rfind(b"\n", start, end) + 1 or text.find(b"\n", end) + 1 or len(text)
+        yield start, text[start:end]
+        start = end
+
+
+def asked(text: Any) -> Any:
+    """What the engine tells of the lines of a text: an array of bytes, or a buffer if there is no numpy."""
+    session = Session()
+    with bytes_of(text) as (address, length):
+        ask = library.histdesk_lines, ctypes.c_void_p(address), length
+        found = session.content(library.histdesk_lines_copy, _layout.LINE.size, *ask, numpy=_layout.numpy())
+    session.close()
+    return found
+
+
+def bad_lines(text: Any) -> List[int]:
+    """The numbers, from 1, of the lines that can't be read. Raises `MemoryError` if memory ran out."""
+    found: List[int] = []
+    count = 0
+    for _, part in parts_of(text):
+        events = events_of(part)
+        found += [count + at for at, event in enumerate(events, 1) if event == _layout.LINE_BAD]
+        count += len(events)
+    return found
 
 
 def holds_event(line: bytes) -> bool:
-    """Whether a line, without its line break, holds an event that the desk reads; asked as `readable` does."""
-    return bool(SURE.fullmatch(line)) or _asked(line) == _READ
+    """Whether a line, without its line break, holds an event that can be read."""
+    return any(event <= _layout.OTHER for event in events_of(line))
 
 
-def unreadable(text: bytes) -> List[int]:
-    """The numbers, from 1, of a text's lines that the desk doesn't read. Raises `MemoryError` where memory ran out."""
-    open_lines = enumerate(SURE.sub(b"", text).split(b"\n"), 1)
-    return [number for number, line in open_lines if line and not readable(line)]
-
-
-def _asked(line: bytes) -> int:
-    """The number with which a desk refuses to insert a line, or `_READ`."""
-    # Here, since the patterns above need no library.
-    from ._desk import Desk
-    from ._refused import Refused
-
-    # A desk stays with its thread.
-    if not hasattr(_here, "desk"):
-        _here.desk = Desk()
-    try:
-        edit = _here.desk.insert(line)
-    except Refused as refused:
-        return refused.number
-    _here.desk.strike(edit.cpu, edit.line)
-    return _READ
+def events_of(text: Any) -> List[int]:
+    """What stands for the event of each line."""
+    return [event for _, _, _, event, _, _ in _layout.LINE.iter_unpack(asked(text))]

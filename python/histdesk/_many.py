@@ -132,7 +132,8 @@ def many(
     It asks by so many processes of this machine; by as many as there are processors, where nothing is said, and in this process
     with 0. With a `client` of Dask (`distributed.Client`), it asks by the workers of its cluster, which have to find the files
     by the same paths. A worker needs this package and the library `libhistdesk.so.0` alone, beside what the question needs:
-    `AskWaits` needs numpy. A recording of a million events takes about 600 MB there.
+    `AskWaits` needs numpy. That reads recordings of any length in pieces; the desk of another question holds the first part of
+    a long one, with 300 to 600 MB for a million events, where `AskWaits` takes 60 MB for a recording of any length.
 
     A recording that can't be read, or whose question raises an exception, is left out, and so is one whose worker is killed,
     and a second one too: `Many.failed` says why. All others have their answers: where a worker is killed, its recordings are

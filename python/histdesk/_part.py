@@ -2,25 +2,24 @@
 
 from __future__ import annotations
 
-from typing import Any, Collection, Optional
+from typing import Any, Callable, Collection, Dict, Iterator, List, Optional
 
 from . import _layout
 from ._layout import needed
-from ._recording import LIMIT, Choice, Part, Recording, leave_out
-from ._scan import NONE, Lines, scanned
-from ._source import content_of, searched
+from ._lines import NONE, Lines, lines_in
+from ._recording import LIMIT, Choice, Part, Recording
 
 
 def take(recording: Recording, choice: Choice, lines: Optional[Lines] = None) -> None:
     """Leaves the events that are wanted and fit into a desk, and notes what was taken. What is known of the lines of its
     text, if it is known already, needn't be found again."""
     numpy = needed()
-    lines = lines or scanned(recording.text)
+    lines = lines or lines_in(recording.text)
     is_event = lines.cpus != NONE
     wanted = is_event & chosen(lines, choice)
     rest, until = None, choice.until
-    recording._known = lines if numpy.count_nonzero(wanted) > LIMIT else None
-    if choice.spare and recording._known:
+    recording._is_part = bool(numpy.count_nonzero(wanted) > LIMIT)
+    if choice.spare and recording._is_part:
         wanted &= ~named(lines, choice.spare)
     if numpy.count_nonzero(wanted) > LIMIT:
         rest = until = first_left(lines.stamps[wanted])
@@ -34,26 +33,98 @@ def take(recording: Recording, choice: Choice, lines: Optional[Lines] = None) ->
         recording._lines = {int(cpu): places(lines.cpus, wanted, cpu) for cpu in numpy.unique(lines.cpus[wanted])}
 
 
-def part_with(recording: Recording, cpu: int, line: int) -> Optional[Recording]:
-    """Where a recording is a part of a file, of which the event of a CPU at a line isn't, or of which events that can be spared
-    aren't: a part with all events of the choice, in which that event is, and of those before it as many as fill nine tenths
-    of a desk. None where there is no such event, or the file can't be read again."""
-    lines, choice = recording._known, recording.choice._replace(spare=())
-    is_whole = not recording.choice.spare and recording.desk_line(cpu, line) is not None
-    if lines is None or recording.path in (None, "-") or is_whole:
-        return None
-    numpy = needed()
-    wanted = (lines.cpus != NONE) & chosen(lines, choice)
-    at = numpy.flatnonzero(lines.cpus == cpu)[line - 1 : line] if line > 0 else numpy.zeros(0, "i8")
-    if not wanted[at].any():
-        return None
-    stamps = numpy.sort(lines.stamps[wanted])
-    start = int(stamps[max(int(numpy.searchsorted(stamps, lines.stamps[at[0]])) - LIMIT * 9 // 10, 0)])
-    other = Recording(recording.path, searched(content_of(recording.path)), recording.losses)
-    leave_out(other, recording.bad_lines)
-    other.choice = choice._replace(start=start)
-    take(other, other.choice, lines)
-    return other
+def take_from(recording: Recording, choice: Choice, pieces: Callable[[], Iterator[bytes]]) -> bool:
+    """The same of a long text in the order of time, of whose lines no more are read than a desk holds. Answers false, and takes
+    nothing, if these are in another order."""
+    found = collected(pieces(), choice, ())
+    is_part = found.is_full()
+    if is_part and choice.spare:
+        found = collected(pieces(), choice, choice.spare)
+    if not found.is_in_order:
+        return False
+    recording.text = found.text()
+    if found.is_full():
+        take(recording, choice)
+    else:
+        recording.taken = found.part()
+    recording._is_part = is_part
+    recording._lines = found.lines(recording._lines)
+    return True
+
+
+class Collected:
+    """Lines of a long text that are wanted, until they have more events than a desk holds."""
+
+    def __init__(self, choice: Choice, spared: Collection[str]) -> None:
+        self._choice, self._spared = choice, spared
+        self._pieces: List[bytes] = []
+        self._count = 0
+        self._first: Optional[int] = None
+        self._last: Optional[int] = None
+        # Of each CPU which of its lines the events are, and how many events it has.
+        self._places: Dict[int, List[Any]] = {}
+        self._events: Dict[int, int] = {}
+        # Whether no event was left out yet.
+        self._is_all = True
+        self.is_in_order = True
+        self._latest = 0
+
+    def add(self, piece: bytes) -> None:
+        """Takes the next lines."""
+        numpy, lines = needed(), lines_in(piece)
+        is_event = lines.cpus != NONE
+        self._check_order(lines.stamps[is_event])
+        wanted = is_event & chosen(lines, self._choice) & ~named(lines, self._spared)
+        for cpu in numpy.unique(lines.cpus[is_event]).tolist():
+            before = self._events.get(cpu, 0)
+            self._places.setdefault(cpu, []).append(before + places(lines.cpus, wanted, cpu))
+            self._events[cpu] = before + int(numpy.count_nonzero(lines.cpus == cpu))
+        stamps = lines.stamps[wanted]
+        self._count += len(stamps)
+        if len(stamps):
+            self._first = int(stamps[0]) if self._first is None else self._first
+            self._last = int(stamps[-1])
+        self._is_all &= bool((wanted == is_event).all())
+        kept = wanted | (~is_event & near(lines, self._choice))
+        self._pieces.append(piece if kept.all() else only(piece, lines.ends, kept))
+
+    def _check_order(self, stamps: Any) -> None:
+        """Finds out whether these stamps follow on those before."""
+        if len(stamps):
+            self.is_in_order &= bool(self._latest <= stamps[0] and (stamps[:-1] <= stamps[1:]).all())
+            self._latest = int(stamps[-1])
+
+    def is_full(self) -> bool:
+        """Whether a desk holds no more of them."""
+        return self._count > LIMIT
+
+    def part(self) -> Part:
+        """What was collected, if a desk holds it all."""
+        return Part(self._count, self._first, self._last, None)
+
+    def text(self) -> bytes:
+        """What was collected, with empty lines in place of what was left out."""
+        return b"".join(self._pieces)
+
+    def lines(self, known: Optional[Dict[int, Any]]) -> Optional[Dict[int, Any]]:
+        """Of each CPU which of its lines in the long text these lines of what was collected are; None stands for all lines."""
+        if self._is_all:
+            return known
+        numpy, found = needed(), {}
+        for cpu, parts in self._places.items():
+            of_cpu = numpy.concatenate(parts)
+            found[cpu] = of_cpu if known is None else of_cpu[known[cpu] - 1] if cpu in known else of_cpu[:0]
+        return found
+
+
+def collected(pieces: Iterator[bytes], choice: Choice, spared: Collection[str]) -> Collected:
+    """Of the lines of a long text those that are wanted, but for events of some names."""
+    found = Collected(choice, spared)
+    for piece in pieces:
+        found.add(piece)
+        if found.is_full():
+            break
+    return found
 
 
 def chosen(lines: Lines, choice: Choice) -> Any:

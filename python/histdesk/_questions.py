@@ -2,13 +2,15 @@
 
 from __future__ import annotations
 
-from typing import Any, Collection, NamedTuple, Optional, Sequence, Tuple, Union
+from typing import Any, Collection, Dict, NamedTuple, Optional, Sequence, Tuple, Union
 
+from . import _counted
 from ._counts import Counts
 from ._desk import Desk
-from ._recording import Part, Recording
+from ._pieces import text_again
+from ._recording import Choice, Part, Recording, read_text
 from ._rows import Rows
-from ._waits import SPARE, Waits, waits
+from ._waits import SPARE, Summary, Waits, waits, waits_of_recording
 
 
 class Told(NamedTuple):
@@ -95,12 +97,14 @@ class AskWaits:
     """Asks each recording how long its tasks waited, for `many`. The answer is `Counts`: waits counted by key and by
     microsecond, so that percentiles of all recordings together are exact. It needs numpy, in each worker too.
 
+    A recording may be of any length: it is read in pieces, and its waits are counted, and not kept.
+
     `by` and `doubtful` are those of `Waits.counts`, `kinds` and `cpus` those of `Waits.only`. A key's greatest wait tells of
     which recording it is, as `source`. Raises `ValueError` where one of them can't be asked for, and `ImportError` without
     numpy."""
 
     adds_up = True
-    # Left out first, where a recording has more events than a desk holds.
+    # Left out first, if what is chosen of a recording is more than a desk holds.
     reading = {"spare": SPARE}
 
     def __init__(
@@ -119,10 +123,29 @@ class AskWaits:
         return found.only(kinds=self.kinds, cpus=self.cpus).counts(self.by, self.doubtful)
 
     def ask(self, recording: Recording) -> Told:
-        """The counts of one recording."""
-        found = waits(recording)
+        """The counts of what was read of a recording."""
+        found = waits_of_recording(recording)
         counts = self._counts(found).named(recording.path or "")
         return Told(counts, doubtful=counts.doubtful, dropped=found.dropped)
+
+    def ask_path(self, path: str, *, lenient: bool = False, **choice: Any) -> Tuple[Asked, Counts]:
+        """The counts of the recording of that path, of which other words of `read` choose a part; and what has to be known."""
+        if all(value is None for value in choice.values()):
+            found = _counted.counted(path, _counted.Choice(self.by, self.doubtful, self.kinds, self.cpus), lenient)
+            return self._asked(path, found, found.counts(self.by, self.doubtful))
+        words: Dict[str, Any] = {**self.reading, **choice}
+        wanted = Choice(**words)
+        recording = read_text(path, text_again(path), wanted, lenient)
+        waits_found = waits_of_recording(recording)
+        asked, counts = self._asked(path, waits_found, self._counts(waits_found))
+        if wanted.events is None:
+            return asked, counts
+        # A desk holds these events.
+        return asked._replace(bad_lines=len(recording.bad_lines), taken=recording.taken), counts
+
+    def _asked(self, path: str, found: Summary, counts: Counts) -> Tuple[Asked, Counts]:
+        """What is counted of a recording's waits, and what has to be known of it."""
+        return Asked(path, found.warning, counts.doubtful, found.dropped, found.bad_lines), counts.named(path)
 
     def merge(self, parts: Sequence[Counts]) -> Counts:
         """Those of several, added up."""

@@ -111,6 +111,20 @@ def exception_of(refusal: _layout.Refusal, given: Any = None) -> Exception:
     return refused
 
 
+def moved(refused: Refused, lines: int) -> Refused:
+    """The same refusal of a line that stands so many lines later in the text."""
+    if not (refused.line and lines):
+        return refused
+    refusal = _layout.Refusal(number=refused.number, fault=refused.fault or 0, line=refused.line + lines)
+    found = exception_of(refusal)
+    if isinstance(found, Refused):
+        found.path = refused.path
+        for told_more in getattr(refused, "__notes__", []):
+            found.add_note(told_more)
+        return found
+    return refused
+
+
 def note(refused: Refused, given: Any) -> str:
     """What helps to see what is wrong with what was handed in; empty where there is nothing more to say."""
     if refused.line:

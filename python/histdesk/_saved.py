@@ -3,7 +3,6 @@
 from __future__ import annotations
 
 import contextlib
-import functools
 import gzip
 import json
 import os
@@ -14,12 +13,13 @@ from typing import IO, Any, Dict, Iterator, List, Match
 from ._script import Asked
 from ._serve import PAGES
 from ._layout import needed
-from ._view import Side, View, answered, text_of
+from ._view import Side, View, text_of
+from ._waits import Waits
 
-# So many of the greatest waits are told, each in so many stretches.
-WORST, STRETCHES = 200, 1000
-# How hard gzip tries.
-LEVEL = 6
+# So many of the greatest waits are told, each in so many stretches, if they have at most so many events together.
+WORST, STRETCHES, EVENTS = 200, 1000, 1 << 20
+# How hard gzip tries: with more, columns of a million waits get a few per cent smaller, and take seconds.
+LEVEL = 1
 PAGE = "page.html"
 STYLE = re.compile(r'<link rel="stylesheet" href="([a-z.]+)">')
 SCRIPT = re.compile(r'<script src="([a-z.]+)"></script>')
@@ -103,7 +103,18 @@ def packed(content: bytes) -> str:
 
 def scenes_of(side: Side) -> Dict[str, Any]:
     """What is told of the greatest waits, by where they end."""
-    array = side.waits.array
-    worst = needed().sort(needed().argsort(-array.micros, kind="stable")[:WORST])
-    places: List[Any] = list(zip(array.end_cpu[worst].tolist(), array.end_line[worst].tolist()))
-    return {"%d:%d" % place: answered("", functools.partial(side.wait, place, most=STRETCHES)) for place in places}
+    return {"%d:%d" % place: strip for place, strip in side.strips(side.waits[told_of(side.waits)], STRETCHES)}
+
+
+def told_of(waits: Waits) -> List[int]:
+    """Which waits are told, in their order: the greatest one, and of the next ones those that have few enough events together,
+    if these are strewn evenly."""
+    micros, held = waits._column("micros"), waits.held
+    worst = needed().argsort(-micros, kind="stable")[:WORST].tolist()
+    span = max((held.last or 0) - (held.first or 0), 1)
+    found, left = worst[:1], EVENTS * span // max(held.events, 1)
+    for at in worst[1:]:
+        if micros[at] <= left:
+            found.append(at)
+            left -= int(micros[at])
+    return sorted(found)

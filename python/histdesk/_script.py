@@ -1,4 +1,7 @@
-"""The script for the program that gives what a page shows, and the shell's line that runs it."""
+"""The script for the program that gives what a page shows, and the shell's line that runs it.
+
+A script has only triggers, so it says by triggers what a wait is of a woken task or of a new one, where the package asks the
+engine."""
 
 from __future__ import annotations
 
@@ -8,21 +11,29 @@ from typing import List, NamedTuple, Optional, Sequence, Tuple
 
 from . import _shown
 from ._recording import Recording
+from ._shape import STAMP
 from ._source import PACKED
-from ._waits import BEGINS, ENDS, RUNNABLE, SIZE, STAMP
 
 NAME = "view.script"
+# A table's greatest size.
+SIZE = 131_072
+# Of each kind of waits that a script measures the event with which they begin, the field with the task, and the filter of what
+# begins one. Task 0 is what a CPU runs where nothing waits; it is always runnable, and waits for nothing.
+BEGINS = {"woken": ("sched_waking", "pid", "pid != 0"), "new": ("sched_wakeup_new", "pid", "pid != 0")}
+# The switches by which a task leaves that could run on, and those that run one.
+RUNNABLE = 'prev_state == "R" || prev_state == "R+"'
+ENDS = "next_pid != 0"
 
 
 class NoScript(LookupError):
     """There is no script that gives it, and why."""
 
 
-def check(recording: Recording) -> None:
-    """Raises `NoScript` where the program can't load what the desk holds."""
+def check_loads(recording: Recording, is_whole: bool) -> None:
+    """Raises `NoScript` if the program can't load what a desk holds of a recording, of all of it or of a part."""
     if recording.bad_lines:
         raise NoScript("the program refuses a trace that has lines which can't be read")
-    if recording.taken is not None and recording._lines is not None:
+    if not is_whole:
         raise NoScript("the program loads whole traces, and this is a part of one")
 
 
@@ -77,12 +88,14 @@ def trigger_of(asked: Asked) -> str:
     return f"{asked.trigger} if {asked.filter}" if asked.filter else asked.trigger
 
 
-def command_of(program: str, path: Optional[str]) -> str:
-    """The shell's line that runs a script which stands in a file of that name."""
-    if path is None or path == "-":
-        return f"{program} {NAME} TRACE"
-    shown = shlex.quote(_shown.shown(path))
-    return f"{program} {NAME} {f'<(zcat {shown})' if is_packed(path) else shown}"
+def command_of(program: str, path: Optional[str], lines: Optional[int] = None) -> str:
+    """The shell's line that runs a script which stands in a file of that name, over a trace or its first lines."""
+    is_file = path is not None and path != "-"
+    trace = shlex.quote(_shown.shown(path)) if path is not None and is_file else "TRACE"
+    unpack = f"zcat {trace}" if path is not None and is_file and is_packed(path) else ""
+    if lines is not None:
+        return f"{program} {NAME} <({f'{unpack} | head -n {lines}' if unpack else f'head -n {lines} {trace}'})"
+    return f"{program} {NAME} {f'<({unpack})' if unpack else trace}"
 
 
 def is_packed(path: str) -> bool:

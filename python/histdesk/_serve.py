@@ -25,8 +25,6 @@ HOST = "127.0.0.1"
 ROOM = 1 << 16
 # So many seconds a connection may say nothing.
 PATIENCE = 300
-# After so many seconds without a question, what may be asked later is prepared.
-PAUSE = 0.3
 PAGES = os.path.join(os.path.dirname(os.path.realpath(__file__)), "page")
 KINDS = {".html": "text/html", ".css": "text/css", ".js": "text/javascript"}
 BINARY, JSON = "application/octet-stream", "application/json"
@@ -111,20 +109,10 @@ class Server(http.server.ThreadingHTTPServer):
         """Begins to listen. Questions wait until they are answered."""
         threading.Thread(target=self.serve_forever, daemon=True).start()
 
-    def answer_all(self, prepare: Callable[[], bool]) -> None:
-        """Answers questions until it is interrupted. Where none comes for a while, `prepare` is called, again and again until
-        it says that nothing is left to prepare."""
-        is_left = True
-        pause: Optional[float] = None
+    def answer_all(self) -> None:
+        """Answers questions until it is interrupted."""
         while True:
-            try:
-                job = self.jobs.get(timeout=pause)
-            except queue.Empty:
-                is_left = prepare()
-                pause = 0 if is_left else None
-                continue
-            job.run()
-            pause = PAUSE if is_left else None
+            self.jobs.get().run()
 
     def asked(self, ask: Callable[[], Any]) -> Any:
         """The answer of the thread that answers."""

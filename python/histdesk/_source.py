@@ -11,10 +11,12 @@ import zlib
 from typing import Any, Iterator, Tuple
 
 from . import _layout
-from ._losses import newlines
 
 # What a member of a .gz file begins with: its magic bytes, and the one method that there is.
 PACKED = b"\x1f\x8b\x08"
+NEWLINE = ord("\n")
+# So many bytes the processor's caches hold.
+PIECE = 1 << 18
 # Where no bytes are: the library takes no null pointer.
 NOWHERE = ctypes.create_string_buffer(1)
 
@@ -77,6 +79,18 @@ def searched(content: Any) -> Any:
 def lines_of(text: Any) -> int:
     """How many lines a text has: pieces that a line break ends, and a last one that isn't empty."""
     return newlines(text, 0, len(text)) + (len(text) > 0 and text[-1] not in (10, b"\n"))
+
+
+def newlines(text: Any, start: int, end: int) -> int:
+    """How many line breaks are in a part of a text."""
+    numpy = _layout.numpy()
+    if numpy is not None and end > start:
+        found = numpy.frombuffer(text, "u1")[start:end]
+        return sum(int(numpy.count_nonzero(found[at : at + PIECE] == NEWLINE)) for at in range(0, len(found), PIECE))
+    if isinstance(text, (bytes, bytearray)):
+        return text.count(b"\n", start, end)
+    size = 1 << 20
+    return sum(text[at : min(at + size, end)].count(b"\n") for at in range(start, end, size))
 
 
 def is_buffer(trace: Any) -> bool:

@@ -4,27 +4,23 @@ from __future__ import annotations
 
 import base64
 import time
-from functools import cached_property
-from typing import Any, Callable, Dict, List, Optional, Sequence, Tuple
+from typing import Any, Callable, Dict, Iterable, Iterator, List, NamedTuple, Optional, Sequence, Tuple, Union
 
 from . import _layout
-from ._changed import Row, fate_of, rows_of
+from ._again import Part, Whole
+from ._changed import Change, Row, change_of, rows_of
 from ._desk import Desk
-from ._diff import ALWAYS, SIDES, STRIKABLE, Difference, DifferenceRow, Figures
+from ._diff import SIDES, Difference, DifferenceRow, Figures
 from ._diff import Struck as Strike
-from ._ended import Ended, Found, Places
 from ._layout import needed
+from ._left_out import Chosen, Less, check, check_events
 from ._recording import Recording
 from ._refused import Refused, place_in
-from ._scene import Pair, Scene
-from ._script import Asked, check, command_of, script_of
-from ._strip import MOST, Window, hole_of, strip_of
-from ._struck import Struck
+from ._script import Asked, check_loads, command_of, script_of
+from ._strip import MOST, Json, Window, hole_of
+from ._teller import Teller, wait_of
 from ._values import Bucket, Log2
-from ._waits import Waits, remarks_of
-from ._why import scene_with, told, told_at
-
-Json = Dict[str, Any]
+from ._waits import Waits, waits
 
 # Of what form the answers are.
 VERSION = 1
@@ -76,7 +72,8 @@ class View:
         return answered(text, lambda: side.filter(event, text))
 
     def trigger(self, recording: int, event: str, text: str) -> Json:
-        """The table of a trigger, without the events that are struck."""
+        """The table of a trigger, without the events that are struck. If a desk doesn't hold the whole recording, `of` says of
+        which events it is; else that is None."""
         side = self.side(recording)
         return answered(text, lambda: side.trigger(event, text))
 
@@ -98,39 +95,20 @@ class View:
         """The waits of the first recording without the events that some filters choose, each with the name of its event: what
         is other than in `waits`. A refusal has the number of its filter."""
         side, began = self.side(0), time.perf_counter()
-        filters = filters_of(strikes)
+        chosen = chosen_of(strikes)
         try:
-            found = side.struck.all_of(filters)
+            check(chosen)
         except Refused as refused:
             number = getattr(refused, "which", 0)
             return {**refusal(refused, strikes[number][1]), "strike": number}
-        try:
-            side.struck.choose(found)
-        except BaseException:
-            side.forget()
-            raise
-        counts = [len(found[one]) for one in filters]
-        return {"struck": counts, **side.changed(strikes, counts), "seconds": time.perf_counter() - began}
+        return {**side.strike(chosen), "seconds": time.perf_counter() - began}
 
     def script(self, recording: int, asked: Asked, strikes: Sequence[Tuple[str, str]]) -> Json:
         """The script that gives the table of the waits, and that of a trigger, without the events that some filters choose; and
-        the shell's line that runs it."""
-        side = self.side(recording)
-        return answered("", lambda: side.script(asked, strikes, self.program))
-
-    def begin(self) -> None:
-        """Finds out what is asked first."""
-        for side in self.sides:
-            side.ends
-
-    def prepare(self) -> bool:
-        """Prepares something of what may be asked later, and answers whether something is left."""
-        # In the order in which it is asked for by people who look around.
-        for side in self.sides:
-            if not side.is_seen:
-                side.scene
-                return True
-        return self.side(0).struck.prepare()
+        the shell's line that runs it. `of` is that of `trigger`."""
+        side, chosen = self.side(recording), chosen_of(strikes)
+        check_events(chosen)
+        return answered("", lambda: side.script(asked, chosen, self.program))
 
     def side(self, number: int) -> Side:
         """A recording, by its number. Raises `ValueError` where there is none."""
@@ -139,110 +117,105 @@ class View:
         return self.sides[number]
 
 
+class Struck(NamedTuple):
+    """The events that are struck, the waits without them, and what is other in these."""
+
+    chosen: Tuple[Chosen, ...]
+    waits: Waits
+    change: Change
+
+
 class Side:
-    """A recording: its desk, its waits, and what is asked of them."""
+    """A recording: its waits, and what is asked of them."""
 
-    def __init__(self, recording: Recording, remarks: Sequence[str] = ()) -> None:
-        """`remarks` are others than those of its waits. Raises what `Recording.desk` raises, and `ImportError` where numpy
-        isn't there."""
+    def __init__(self, trace: Union[Waits, Recording], remarks: Iterable[str] = ()) -> None:
+        """Of all waits of a recording that can be read again, or of what was chosen of one. `remarks` are others than those of
+        its waits. Raises what `waits` raises, and `ImportError` if there is no numpy."""
         needed()
-        self.recording = recording
-        self._remarks = remarks
-        self._desk: Optional[Desk] = recording.desk()
-        # Of a part of a long file, all events of a stretch of it.
-        self._near: Optional[Scene] = None
-
-    # Found out when they are first asked for, since who waits for a page may do so in a browser that has yet to open.
-
-    @cached_property
-    def ended(self) -> Ended:
-        """The switches that end its waits, on its desk."""
-        # After a strike that found no memory, it is made anew.
-        desk, self._desk = self._desk or self.recording.desk(), None
-        return Ended(desk, self.recording, Places(desk, self.recording))
-
-    @cached_property
-    def struck(self) -> Struck:
-        """Its desk, from which events can be struck."""
-        return Struck(self.ended)
-
-    @cached_property
-    def waits(self) -> Waits:
-        """Its waits."""
-        return self.ended.waits()
-
-    @cached_property
-    def ends(self) -> Any:
-        """The switches that end its waits."""
-        return needed().flatnonzero(self.ended.first.begin >= 0)
-
-    @cached_property
-    def scene(self) -> Scene:
-        """All its events, struck ones too."""
-        # A desk of which events were struck isn't as it was any more.
-        return Scene(self.recording.desk() if self.struck.was_any else self.ended.desk, self.recording)
-
-    @property
-    def is_seen(self) -> bool:
-        """Whether `scene` needs no more time."""
-        return "scene" in self.__dict__ or self.recording.is_part
-
-    def forget(self) -> None:
-        """Gives up the desk, which is in between."""
-        for name in ("ended", "struck"):
-            self.__dict__.pop(name, None)
+        self._remarks = tuple(remarks)
+        self.again: Union[Whole, Part]
+        if isinstance(trace, Waits):
+            if trace.source is None:
+                raise TypeError("these are waits of no recording that can be read again")
+            self.waits, self.again = trace, Whole(trace, trace.source)
+        else:
+            self.waits, self.again = waits(trace), Part(trace)
+        self.struck: Optional[Struck] = None
+        # The names of tasks, by the numbers that the page knows.
+        self._tasks: Dict[str, int] = {name: number for number, name in enumerate(self.waits._names.tolist())}
 
     def about(self) -> Json:
         """What is known of it."""
-        held = self.ended.held
+        held = self.waits.held
         return {
-            "path": self.recording.path,
+            "path": self.waits.path,
             "events": held.events,
             "first": held.first,
             "last": held.last,
             "cpus": list(held.cpus),
-            "warning": self.recording.warning,
-            "remarks": [*self._remarks, *remarks_of(self.ended.about)],
-            "holes": [hole_of(hole) for hole in self.recording.holes],
-            "tasks": self.ended.names.tolist(),
-            "waits": len(self.ends),
+            "warning": self.waits.warning,
+            "remarks": [*self._remarks, *self.waits.remarks()],
+            "holes": [hole_of(hole) for hole in self.waits.holes],
+            "tasks": list(self._tasks),
+            "waits": len(self.waits),
         }
 
     def columns(self) -> bytes:
         """The waits, column by column."""
-        return self._packed(self.ended.first, self.ends)
+        return self._packed(self.waits)
 
-    def _packed(self, found: Found, at: Any) -> bytes:
-        """The waits that some switches end."""
-        columns = self.ended.columns(found, at)
-        columns["begin"] = columns["begin_stamp"] - (self.ended.held.first or 0)
-        columns["micros"] = needed().minimum(columns["micros"], LONGEST)
-        return packed({**columns, "name": self.ended.codes[at]})
+    def _packed(self, found: Waits) -> bytes:
+        """Some waits, of all events or without those that are struck."""
+        numpy, records = needed(), found._records
+        names = [self._tasks.setdefault(name, len(self._tasks)) for name in found._names.tolist()]
+        columns = {name: records[name] for name, _ in COLUMNS if name in records.dtype.names}
+        columns["begin"] = records["begin_stamp"] - (self.waits.held.first or 0)
+        columns["micros"] = numpy.minimum(found._column("micros"), LONGEST)
+        columns["name"] = numpy.array(names, "u4")[records["name"]] if len(records) else records["name"]
+        columns["doubtful"] = found._column("doubtful")
+        return packed(columns)
 
     def filter(self, event: str, text: str) -> Json:
-        """The waits that a filter chooses; an empty one chooses all of that event. Where events are struck, those of `changed`
+        """The waits that a filter chooses; an empty one chooses all of that event. If events are struck, those of `strike`
         too."""
-        mask = self.ended.places.mask(self.struck.matching(event, text if text.strip() else ALWAYS))
+        places = self.again.matching(Chosen(event, text if text.strip() else ""))
+        end = "end" if event == "sched_switch" else "begin"
 
-        def chosen(found: Found, at: Any) -> Any:
-            return mask[self.ended.number[at] if event == "sched_switch" else found.begin[at]]
+        def chosen(found: Waits) -> Any:
+            return places.index(found._records[f"{end}_cpu"], found._records[f"{end}_line"]) >= 0
 
-        first = chosen(self.ended.first, self.ends)
+        first = chosen(self.waits)
         answer: Json = {"count": int(first.sum()), "chosen": bits(first)}
-        if self.struck.is_any:
-            answer["new"] = bits(chosen(self.ended.now, self._new(self.ended.changed())))
+        if self.struck:
+            answer["new"] = bits(chosen(self.struck.waits[self.struck.change.new]))
         return answer
 
-    def _new(self, at: Any) -> Any:
-        """Of the switches that end another wait than at first, those that end one."""
-        return at[self.ended.now.begin[at] >= 0]
+    def strike(self, chosen: Sequence[Chosen]) -> Json:
+        """What is other than in `columns` without some events."""
+        less, left_out = self.again.without(chosen) if chosen else Less(self.waits, [])
+        change = change_of(self.waits, less)
+        self.struck = Struck(tuple(chosen), less, change) if chosen else None
+        known = len(self._tasks)
+        found = {
+            "taken": text_of(change.taken.astype("<u4").tobytes()),
+            "new": text_of(self._packed(less[change.new])),
+            "count": len(change.new),
+            "tasks": {number: name for name, number in self._tasks.items() if number >= known},
+        }
+        told = [Strike(one.event, one.text.strip() or None, part.count, part.of) for one, part in zip(chosen, left_out)]
+        return {
+            "struck": [part.count for part in left_out],
+            "changed": found,
+            "rows": [row_told(row) for row in rows_of(self.waits, less, change)],
+            "report": [*(f"without {one}" for one in told), str(change.fate)],
+        }
 
     def trigger(self, event: str, text: str) -> Json:
         """The table of a trigger."""
         # What can't be attached to a desk without triggers is refused.
         with Desk() as empty:
             empty.attach(event, text)
-        trigger = self.ended.desk.attach(event, text)
+        trigger = self.again.held.without(self.struck.chosen if self.struck else ()).attach(event, text)
         try:
             rows, totals = trigger.rows(), trigger.totals()
             return {
@@ -251,59 +224,34 @@ class Side:
                 "rows": [[cell(value) for value in row] for row in rows[:ROWS]],
                 "totals": totals._asdict(),
                 "more": len(rows[ROWS:]),
+                "of": self.again.held.told,
             }
         finally:
             trigger.remove()
 
-    def changed(self, strikes: Sequence[Tuple[str, str]], counts: Sequence[int]) -> Json:
-        """What is other than in `columns` without the events that some filters choose, of which each chooses so many."""
-        at = self.ended.changed()
-        taken, new = at[self.ended.first.begin[at] >= 0], self._new(at)
-        found = {
-            "taken": text_of(self.ends.searchsorted(taken).astype("<u4").tobytes()),
-            "new": text_of(self._packed(self.ended.now, new)),
-            "count": len(new),
-        }
-        strikes_told = [
-            Strike(event, text.strip() or None, count, self.struck.count(event))
-            for (event, text), count in zip(strikes, counts)
-        ]
-        report = [*(f"without {one}" for one in strikes_told), str(fate_of(self.ended, at))]
-        return {"changed": found, "rows": [row_told(row) for row in rows_of(self.ended, at)], "report": report}
+    def wait(self, place: Tuple[int, int], window: Window = Window(), after: bool = False) -> Json:
+        """A wait, and what ran around it; see `View.wait`."""
+        struck = Teller(self.struck.waits).wait_with("end", *place) if after and self.struck else None
+        return self.again.strip(struck or self.again.teller.wait_at(*place), window, MOST)
 
-    def wait(self, place: Tuple[int, int], window: Window = Window(), after: bool = False, most: int = MOST) -> Json:
-        """A wait, and what ran around it, in about so many stretches at most; see `View.wait`."""
-        found = self.ended.begins(*place)
-        scene = self.scene_with(place, found and found[1])
-        if found is None or not (after and self.struck.is_any):
-            return strip_of(scene, told_at(scene, *place), window, most)
-        kind, begin = found
-        return strip_of(scene, told(scene, Pair(kind, scene.at(*begin) or 0, scene.at(*place))), window, most)
+    def strips(self, found: Waits, most: int) -> Iterator[Tuple[Tuple[int, int], Json]]:
+        """What `wait` gives of some of its waits, by where each ends, in the order in which they begin."""
+        rows = found[found._column("begin_stamp").argsort(kind="stable")].array
+        ends = zip(rows.end_cpu.tolist(), rows.end_line.tolist())
+        return zip(ends, self.again.strips([wait_of(row) for row in rows], most))
 
-    def scene_with(self, place: Tuple[int, int], begin: Optional[Tuple[int, int]]) -> Scene:
-        """The events among which one is, and that at which its wait began."""
-        if not (self.recording.choice.spare and self.recording.is_part):
-            return self.scene
-        if self._near is None or None in (self._near.at(*place), begin and self._near.at(*begin)):
-            self._near = scene_with(self.recording, *place)
-        # A wait may be longer than the part of all events. Where the task was queued isn't told then.
-        return self.scene if begin and self._near.at(*begin) is None else self._near
-
-    def script(self, asked: Asked, strikes: Sequence[Tuple[str, str]], program: str) -> Json:
+    def script(self, asked: Asked, chosen: Sequence[Chosen], program: str) -> Json:
         """A script, and the line that runs it."""
-        check(self.recording)
-        numbers = needed().unique(needed().concatenate([[], *self.struck.all_of(filters_of(strikes)).values()])).astype("i8")
-        places = zip(self.ended.places.cpus(numbers).tolist(), self.ended.places.lines(numbers).tolist())
+        held = self.again.held
+        check_loads(held.recording, self.again.is_whole)
         asked = Asked(*(text.strip() for text in asked))
-        return {"script": script_of([*places], asked), "command": command_of(program, self.recording.path)}
+        script = script_of(held.places(chosen), asked)
+        return {"script": script, "command": command_of(program, self.waits.path, held.lines), "of": held.told}
 
 
-def filters_of(strikes: Sequence[Tuple[str, str]]) -> List[Tuple[str, str]]:
-    """The filters of strikes, each with its event's name. Raises `ValueError` of an event of which no wait hangs."""
-    for event, _ in strikes:
-        if event not in STRIKABLE:
-            raise ValueError(f"waits begin and end with {', '.join(STRIKABLE)}, and not with {event}")
-    return [(event, text if text.strip() else ALWAYS) for event, text in strikes]
+def chosen_of(strikes: Sequence[Tuple[str, str]]) -> List[Chosen]:
+    """The events that strikes name."""
+    return [Chosen(event, text if text.strip() else "") for event, text in strikes]
 
 
 # ---- plain data

@@ -5,41 +5,35 @@ from __future__ import annotations
 import itertools
 import warnings
 from collections import namedtuple
-from typing import Any, Callable, Collection, Dict, List, NamedTuple, Optional, Sequence, Tuple, Union
+from typing import Any, Callable, Collection, Dict, Iterator, List, NamedTuple, Optional, Sequence, Tuple, TypeVar, Union
 
-from . import _layout, _shown
-from ._counts import Counts, CountsRow, Greatest, Key, summed
+from . import _kept, _layout, _shown
+from ._counts import Counts, CountsRow
 from ._desk import Desk, Trace
 from ._library import library
 from ._losses import Hole, Losses, LossWarning, seconds
 from ._layout import needed
-from ._recording import Recording, path_of, read
-from ._refused import MOST_SHOWN, Refused
+from ._pieces import KeptText, Text, is_read_once, pieces_of, text_again
+from ._recording import Choice, Recording, counted_from, path_of, read_whole
+from ._refused import MOST_SHOWN, Refused, moved
 from ._session import PLACES
-from ._stream import RECORD_FIELDS, Backwards, Streamed, line_at, streamed
+from ._slices import Source
+from ._stream import Backwards, Read, Streamed, line_at, streamed
 from ._stream import held as held_waits
-from ._trigger import Trigger
-from ._values import Place, Totals
+from ._tally import LastNames, Tally
+from ._values import Place
 
-KINDS = ("woken", "new", "preempted")
+Answer = TypeVar("Answer")
+
+KINDS = _kept.KINDS
 WOKEN, NEW, PREEMPTED = range(3)
 # What no wait needs, and is left out first where a trace has more events than a desk holds.
 SPARE = ("sched_wakeup", "other")
 
 # A table's greatest size: so many tasks are told apart.
 SIZE = 131_072
-STAMP = "common_timestamp.usecs"
-# Of each kind the event, the field with the task, and the filter of what begins a wait. Task 0 is what a CPU runs where nothing
-# waits; it is always runnable, and waits for nothing. Of the switches that a task leaves by, the last one counts, and begins a
-# wait only where the task could still run: one that left otherwise has run since it was preempted, though nothing tells of
-# that.
-BEGINS = {
-    "woken": ("sched_waking", "pid", "pid != 0"),
-    "new": ("sched_wakeup_new", "pid", "pid != 0"),
-    "preempted": ("sched_switch", "prev_pid", "prev_pid != 0"),
-}
-RUNNABLE = 'prev_state == "R" || prev_state == "R+"'
-ENDS = "next_pid != 0"
+# The event with which waits of each kind begin.
+BEGIN_WITH = {"woken": "sched_waking", "new": "sched_wakeup_new", "preempted": "sched_switch"}
 
 # In the order of a row of `array`.
 FIELDS = [
@@ -66,6 +60,8 @@ FIGURES = ("count", "total", "mean", "p50", "p90", "p99", "max")
 ENDED = ("end_stamp", "end_cpu", "end_line")
 # What pandas takes columns of a table for, if not for whole numbers.
 FRAMED = {"task": "object", "name": "object", "kind": "object", "mean": "float64"}
+# So many waits are counted at once.
+COUNTED = 1 << 14
 # So many rows are shown in a notebook or at a prompt.
 SHOWN = 20
 
@@ -87,8 +83,8 @@ class Held(NamedTuple):
 class About(NamedTuple):
     """What else is known of some waits: of which file they are, of what they are told, what was lost, where the next part of
     the recording begins, the kinds of which no event began a wait, how many events that would begin one found no room, how
-    many lines can't be read and the first of these, how many switches are missing though no line reports it, and where the
-    first event stands that shows it."""
+    many lines can't be read and the first of these, how many switches are missing though no line reports it, where the first
+    event stands that shows it, and the stamp from which on lines are counted, None if that is the recording's beginning."""
 
     path: Optional[str]
     held: Held
@@ -100,12 +96,7 @@ class About(NamedTuple):
     first_bad_line: Optional[int] = None
     missing: int = 0
     first_missing: Optional[Place] = None
-
-
-def begun_by(about: About, begun: Dict[str, Totals]) -> About:
-    """The same with what triggers have counted of the events that began waits."""
-    unknown = tuple(kind for kind, totals in begun.items() if not totals.hits)
-    return about._replace(unknown=unknown, dropped=sum(totals.dropped for totals in begun.values()))
+    lines_from: Optional[int] = None
 
 
 def remarks_of(about: About) -> List[str]:
@@ -114,61 +105,47 @@ def remarks_of(about: About) -> List[str]:
     if about.dropped:
         told.append(f"{about.dropped} waits are missing: of more than {SIZE} tasks, only the first ones are told apart")
     for kind in (kind for kind in ("woken", "preempted") if about.held.events and kind in about.unknown):
-        told.append(f"no {BEGINS[kind][0]} began a wait, so nothing is known of {kind} ones")
+        told.append(f"no {BEGIN_WITH[kind]} began a wait, so nothing is known of {kind} ones")
     if about.rest is not None:
         told.append(f"this is a part of the recording; the next one begins at {seconds(about.rest)}")
+    if about.lines_from is not None:
+        told.append(counted_from(about.lines_from))
     return told
 
 
-class Waits:
-    """Waits of tasks for a processor, in the order in which they ended; `waits` makes it.
+class Summary:
+    """What is known of some waits, and what they are counted by."""
 
-    A wait ends with the `sched_switch` that runs a task. It is `woken` where a `sched_waking` of the task began it, `new` where
-    its `sched_wakeup_new` did, and `preempted` where a `sched_switch` did that took the processor from it while it could run. A
-    waking of a task that still ran, or that was preempted and not yet run again, begins none; a wait that hasn't ended is none.
-    A wait is *doubtful* where events were lost in its time, on whichever CPU: it may be false, and is counted only where that
-    is asked for. It is *likely* true all the same if the CPUs on which it began and ended lost none.
+    _about: About
 
-    | Form | What it gives |
-    |---|---|
-    | `waits.array` | a numpy record array |
-    | `waits.names`, `waits.name(3)` | the names of the tasks, as the switches have them that run them |
-    | `waits.table("task")` | a row for each task and kind, the greatest wait first; or `"name"`, `"cpu"`, `"prio"`, `"kind"` |
-    | `waits.counts("task")` | `Counts`, which add up exactly over many recordings, and have other percentiles and histograms |
-    | `waits.only(kinds=["woken"], cpus=[2])` | those of a kind, or that ended on a CPU; `waits[mask]` those of a numpy mask |
-    | `waits.to_pandas()` | a DataFrame of the waits one by one; with a word, of that table |
-
-    The fields of the array are `kind`, `pid`, `prio`, `begin_stamp`, `begin_cpu`, `begin_line`, the same of `end_`, `micros`,
-    `doubtful` and `likely`. Stamps are in microseconds; a CPU and a line name an event of the whole recording.
-    """
-
-    def __init__(self, records: Any, names: Any, about: About) -> None:
-        """Of an array of what is kept of each (`_stream.RECORD_FIELDS`), the names of tasks by their numbers, and what else is
-        known."""
-        self._records = records
-        self._names = names
-        self._about = about
-        self._array: Any = None
+    def __len__(self) -> int:
+        """How many they are."""
+        raise NotImplementedError
 
     @property
-    def array(self) -> Any:
-        """The waits one by one, as a numpy record array."""
-        if self._array is None:
-            array = needed().zeros(len(self), FIELDS).view(needed().recarray)
-            array.kind = needed().array(KINDS)[self._records["kind"]]
-            for field in array.dtype.names[1:]:
-                array[field] = self._column(field)
-            self._array = array
-        return self._array
+    def doubtful(self) -> int:
+        """How many of the waits are doubtful."""
+        raise NotImplementedError
 
-    def _column(self, field: str) -> Any:
-        """A field of all waits; `kind` by its number."""
-        records = self._records
-        if field == "micros":
-            return records["end_stamp"] - records["begin_stamp"]
-        if field == "doubtful":
-            return records["doubt"] != _layout.SURE
-        return records["doubt"] == _layout.LIKELY if field == "likely" else records[field]
+    @property
+    def likely(self) -> int:
+        """How many of these are likely true."""
+        raise NotImplementedError
+
+    def counts(self, by: str = "task", doubtful: bool = False) -> Counts:
+        """The waits counted by kind and by `"task"` (the key is its number), by `"name"`, by the `"cpu"` on which they ended,
+        by the `"prio"` with which the task ran then, or by `"kind"` alone; doubtful ones only where that is asked for.
+
+        Raises `ValueError` of another word."""
+        raise NotImplementedError
+
+    def _last_names(self) -> Dict[int, str]:
+        """The last name of each task."""
+        raise NotImplementedError
+
+    def _by_kind(self, doubtful: bool) -> List[int]:
+        """How many they are of each kind; doubtful ones counted where that is asked for."""
+        raise NotImplementedError
 
     # ---- what is known
 
@@ -176,6 +153,11 @@ class Waits:
     def path(self) -> Optional[str]:
         """The file of which they are, or None."""
         return self._about.path
+
+    @property
+    def lines_from(self) -> Optional[int]:
+        """The stamp from which on the lines of each CPU are counted; None if that is from the recording's beginning on."""
+        return self._about.lines_from
 
     @property
     def held(self) -> Held:
@@ -208,10 +190,6 @@ class Waits:
         """The number of the first of these lines, from 1; None if there is none."""
         return self._about.first_bad_line
 
-    def with_bad_lines(self, count: int, first: Optional[int]) -> Waits:
-        """The same waits of a text of which so many lines were left out, from this one on."""
-        return Waits(self._records, self._names, self._about._replace(bad_lines=count, first_bad_line=first))
-
     @property
     def missing(self) -> int:
         """How many switches are missing in the recording though no line reports it: how many events another task ran than the
@@ -223,19 +201,131 @@ class Waits:
         """Where the first event stands that shows such a switch; None if there is none."""
         return self._about.first_missing
 
+    def remarks(self) -> List[str]:
+        """What else is to be known before the numbers are believed, a line each."""
+        return remarks_of(self._about)
+
+    # ---- counted
+
+    def table(self, by: str = "task", doubtful: bool = False) -> List[Any]:
+        """What is counted, the greatest wait first: named tuples of the key's parts and the kind, `count`, `total`, `mean`,
+        `p50`, `p90`, `p99` and `max` in microseconds, where the greatest wait ended (`end_stamp`, `end_cpu`, `end_line`) and
+        whose it was, and how many more were `doubtful` (or were among them, where they are counted too).
+
+        By `"task"`, the name is that at the greatest wait, since a task may change it. Figures are None where all waits of a
+        row are doubtful. Raises `ValueError` of another word for `by`."""
+        counts = self.counts(by, doubtful)
+        rows = counts.rows()
+        names = self._last_names() if by == "task" and any(row.greatest is None for row in rows) else {}
+        return [self._row(by, row, names) for row in rows]
+
+    def _row(self, by: str, row: CountsRow, names: Dict[int, str]) -> Any:
+        """A row of the table."""
+        wait = row.greatest
+        ended = (wait.stamp, wait.cpu, wait.line) if wait else (None, None, None)
+        whose = {"task": wait.name, "pid": wait.pid} if wait else {}
+        key: Sequence[Any] = row.key
+        if by == "task":
+            key = (wait.name if wait else names[key[0]], *key)
+        after = [whose.get(field) for field in BY[by][1]]
+        figures = (getattr(row, name) for name in FIGURES)
+        return ROWS[by](*key, *figures, *ended, *after, row.doubtful)
+
+    # ---- how they are shown
+
+    def lines(self, doubtful: bool = False) -> List[str]:
+        """What they are of, and how many they are of each kind, in lines of text; doubtful ones counted where that is asked
+        for."""
+        counts = self._by_kind(doubtful)
+        told = f"{_shown.counted(sum(counts), 'wait')}: " + ", ".join(f"{count} {kind}" for count, kind in zip(counts, KINDS))
+        told += "; times in microseconds"
+        lines = [_shown.shown(f"{self.path}: {of(self.held)}" if self.path else of(self.held)), told]
+        if self.doubtful:
+            they, their = ("it", "its") if self.doubtful == 1 else ("they", "their")
+            how = f"counted, though {they}" if doubtful else f"left out: {they}"
+            told = f"{_shown.counted(self.doubtful, 'doubtful wait')} {_shown.are(self.doubtful)} {how}"
+            lines.append(f"{told} may be false, since events were lost in {their} time{self._likely_told()}")
+        return [*lines, *self.remarks()]
+
+    def _likely_told(self) -> str:
+        """How many doubtful waits are likely true; empty if none is."""
+        if not self.likely:
+            return ""
+        if self.doubtful == 1:
+            return "; it is likely true, since the CPUs on which it began and ended lost none"
+        told = f"{self.likely} of them {_shown.are(self.likely)} likely true"
+        return f"; {told}, since the CPUs on which they began and ended lost none"
+
+
+class Waits(Summary):
+    """Waits of tasks for a processor, in the order in which they ended; `waits` makes it.
+
+    What a wait is, of which kind, and when it is doubtful or likely, is in docs/REFERENCE.md, Waits.
+
+    | Form | What it gives |
+    |---|---|
+    | `waits.array` | a numpy record array |
+    | `waits.names`, `waits.name(3)` | the names of the tasks, as the switches have them that run them |
+    | `waits.table("task")` | a row for each task and kind, the greatest wait first; or `"name"`, `"cpu"`, `"prio"`, `"kind"` |
+    | `waits.counts("task")` | `Counts`, which add up exactly over many recordings, and have other percentiles and histograms |
+    | `waits.only(kinds=["woken"], cpus=[2])` | those of a kind, or that ended on a CPU; `waits[mask]` those of a numpy mask |
+    | `waits.to_pandas()` | a DataFrame of the waits one by one; with a word, of that table |
+
+    The fields of the array are `kind`, `pid`, `prio`, `begin_stamp`, `begin_cpu`, `begin_line`, the same of `end_`, `micros`,
+    `doubtful` and `likely`. Stamps are in microseconds; a CPU and a line name an event of the whole recording.
+    """
+
+    def __init__(self, records: Any, names: Any, about: About, source: Optional[Source] = None) -> None:
+        """Of an array of what is kept of each (`_kept.RECORD_FIELDS`), the names of tasks by their numbers, what else is
+        known, and the recording that they are of, if it is a whole one that can be read again."""
+        self._records = records
+        self._names = names
+        self._about = about
+        self._source = source
+        self._array: Any = None
+
+    @property
+    def array(self) -> Any:
+        """The waits one by one, as a numpy record array."""
+        if self._array is None:
+            array = needed().zeros(len(self), FIELDS).view(needed().recarray)
+            array.kind = needed().array(KINDS)[self._records["kind"]]
+            for field in array.dtype.names[1:]:
+                array[field] = self._column(field)
+            self._array = array
+        return self._array
+
+    def _column(self, field: str) -> Any:
+        """A field of all waits; `kind` by its number."""
+        records = self._records
+        if field == "micros":
+            return records["end_stamp"] - records["begin_stamp"]
+        if field == "doubtful":
+            return records["doubt"] != _layout.SURE
+        return records["doubt"] == _layout.LIKELY if field == "likely" else records[field]
+
+    # ---- what is known
+
+    @property
+    def source(self) -> Optional[Source]:
+        """What they are of, to read slices of it: a whole recording, or a stretch of time of one; None if they are of what a
+        desk holds. It isn't pickled with them."""
+        return self._source
+
+    def with_bad_lines(self, count: int, first: Optional[int]) -> Waits:
+        """The same waits of a text of which so many lines were left out, from this one on."""
+        return Waits(self._records, self._names, self._about._replace(bad_lines=count, first_bad_line=first), self._source)
+
+    def __getstate__(self) -> Dict[str, Any]:
+        return {**self.__dict__, "_source": None}
+
     @property
     def doubtful(self) -> int:
-        """How many of the waits are doubtful."""
         return int(self._column("doubtful").sum())
 
     @property
     def likely(self) -> int:
-        """How many of these are likely true."""
         return int(self._column("likely").sum())
-
-    def remarks(self) -> List[str]:
-        """What else is to be known before the numbers are believed, a line each."""
-        return remarks_of(self._about)
 
     def __len__(self) -> int:
         return len(self._records)
@@ -255,7 +345,7 @@ class Waits:
         """Those that a numpy mask, a list of indices or a slice chooses."""
         if isinstance(chosen, int):
             raise TypeError("a wait alone is waits.array[at]; a mask or a slice chooses some of them")
-        return Waits(self._records[chosen], self._names, self._about)
+        return Waits(self._records[chosen], self._names, self._about, self._source)
 
     def only(self, *, kinds: Optional[Collection[str]] = None, cpus: Optional[Collection[int]] = None) -> Waits:
         """Those of these kinds, and of those the ones that ended on these CPUs; None is all. Raises `ValueError` of another
@@ -263,97 +353,25 @@ class Waits:
         unknown = set(kinds or ()) - set(KINDS)
         if unknown:
             raise ValueError(f"{sorted(unknown)[0]!r} is no kind of wait; the kinds are {', '.join(KINDS)}")
-        numpy = needed()
-        mask = numpy.ones(len(self), bool)
-        if kinds is not None:
-            mask &= numpy.isin(self._records["kind"], [KINDS.index(kind) for kind in kinds])
-        if cpus is not None:
-            mask &= numpy.isin(self._records["end_cpu"], list(cpus))
-        return self[mask]
+        return self if kinds is None and cpus is None else self[_kept.chosen(self._records, kinds, cpus)]
 
     # ---- counted
 
     def counts(self, by: str = "task", doubtful: bool = False) -> Counts:
-        """The waits counted by kind and by `"task"` (the key is its number), by `"name"`, by the `"cpu"` on which they ended,
-        by the `"prio"` with which the task ran then, or by `"kind"` alone; doubtful ones only where that is asked for.
-
-        Raises `ValueError` of another word."""
-        numpy, (keys, codes) = needed(), self._keys(by)
-        may_be_false = self._column("doubtful")
-        taken = numpy.ones(len(self), bool) if doubtful else ~may_be_false
-        key, micros = codes[taken], self._column("micros")[taken]
-        columns = summed(key, micros, numpy.ones(len(key), "int64"))
-        doubts = numpy.bincount(codes[may_be_false], minlength=len(keys))
-        fields = ("pid" if by == "task" else by, "kind")[by == "kind" :]
-        return Counts(fields, keys, columns, self._greatest(codes, taken, len(keys)), doubts)
-
-    def _keys(self, by: str) -> Tuple[List[Key], Any]:
-        """The different keys in order, and the number of each wait's."""
-        numpy, kinds = needed(), self._records["kind"]
-        if by == "name":
-            numbers, values = self._records["name"].astype("int64"), self._names
-        elif by in BY and by != "kind":
-            values, numbers = numpy.unique(self._records[{"task": "pid", "cpu": "end_cpu"}.get(by, by)], return_inverse=True)
-        elif by == "kind":
-            numbers, values = numpy.zeros(len(self), "int64"), None
-        else:
-            raise ValueError(f"waits aren't counted by {by!r}; they are by {', '.join(BY)}")
-        found, codes = numpy.unique(numbers * len(KINDS) + kinds, return_inverse=True)
-        known = [divmod(number, len(KINDS)) for number in found.tolist()]
-        texts = None if values is None else values.tolist()
-        keys: List[Key] = [(KINDS[kind],) if texts is None else (texts[at], KINDS[kind]) for at, kind in known]
-        order = sorted(range(len(keys)), key=keys.__getitem__)
-        places = numpy.empty(len(keys), "int64")
-        places[order] = numpy.arange(len(keys))
-        return [keys[at] for at in order], places[codes]
-
-    def _greatest(self, codes: Any, taken: Any, count: int) -> List[Optional[Greatest]]:
-        """The greatest wait of each key among those that are taken; of equal ones, the first that ended."""
-        numpy = needed()
-        chosen = numpy.flatnonzero(taken)
-        order = chosen[numpy.lexsort((-self._column("micros")[chosen], codes[chosen]))]
-        keys, first = numpy.unique(codes[order], return_index=True)
-        waits = order[first]
-        found: List[Optional[Greatest]] = [None] * count
-        columns = [self._column(field)[waits].tolist() for field in ("micros", *ENDED)]
-        rows = zip(*columns, self.names_of(waits), itertools.repeat(""), self._records["pid"][waits].tolist())
-        for key, row in zip(keys.tolist(), rows):
-            found[key] = Greatest(*row)
-        return found
-
-    def names_of(self, waits: Any) -> List[str]:
-        """The names of the tasks of some waits, by an array of indices."""
-        names: List[str] = self._names[self._records["name"][waits]].tolist()
-        return names
-
-    def table(self, by: str = "task", doubtful: bool = False) -> List[Any]:
-        """What is counted, the greatest wait first: named tuples of the key's parts and the kind, `count`, `total`, `mean`,
-        `p50`, `p90`, `p99` and `max` in microseconds, where the greatest wait ended (`end_stamp`, `end_cpu`, `end_line`) and
-        whose it was, and how many more were `doubtful` (or were among them, where they are counted too).
-
-        By `"task"`, the name is that at the greatest wait, since a task may change it. Figures are None where all waits of a
-        row are doubtful. Raises `ValueError` of another word for `by`."""
-        counts = self.counts(by, doubtful)
-        rows = counts.rows()
-        names = self._last_names() if by == "task" and any(row.greatest is None for row in rows) else {}
-        return [self._row(by, row, names) for row in rows]
+        tally = Tally(by, doubtful)
+        for start in range(0, len(self), COUNTED):
+            tally.add(self._records[start : start + COUNTED])
+        return tally.counts(self._names)
 
     def _last_names(self) -> Dict[int, str]:
-        """The last name of each task."""
-        pids, last = needed().unique(self._records["pid"][::-1], return_index=True)
-        return dict(zip(pids.tolist(), self.names_of(len(self) - 1 - last)))
+        last = LastNames()
+        last.add(self._records)
+        return last.named(self._names)
 
-    def _row(self, by: str, row: CountsRow, names: Dict[int, str]) -> Any:
-        """A row of the table."""
-        wait = row.greatest
-        ended = (wait.stamp, wait.cpu, wait.line) if wait else (None, None, None)
-        whose = {"task": wait.name, "pid": wait.pid} if wait else {}
-        key: Sequence[Any] = row.key
-        if by == "task":
-            key = (wait.name if wait else names[key[0]], *key)
-        after = [whose.get(field) for field in BY[by][1]]
-        figures = (getattr(row, name) for name in FIGURES)
-        return ROWS[by](*key, *figures, *ended, *after, row.doubtful)
+    def _by_kind(self, doubtful: bool) -> List[int]:
+        kinds = self._records["kind"] if doubtful else self._records["kind"][~self._column("doubtful")]
+        counts: List[int] = needed().bincount(kinds, minlength=len(KINDS)).tolist()
+        return counts
 
     def to_pandas(self, by: Optional[str] = None, doubtful: bool = False) -> Any:
         """A DataFrame of the waits one by one, with the names of the tasks in a column `task`; with a word for `by`, of that
@@ -367,30 +385,6 @@ class Waits:
         return pandas.DataFrame({"task": self.names, **columns})
 
     # ---- how they are shown
-
-    def lines(self, doubtful: bool = False) -> List[str]:
-        """What they are of, and how many they are of each kind, in lines of text; doubtful ones counted where that is asked
-        for."""
-        counted = self._records["kind"] if doubtful else self._records["kind"][~self._column("doubtful")]
-        counts = needed().bincount(counted, minlength=len(KINDS)).tolist()
-        told = f"{_shown.counted(len(counted), 'wait')}: " + ", ".join(f"{count} {kind}" for count, kind in zip(counts, KINDS))
-        told += "; times in microseconds"
-        lines = [_shown.shown(f"{self.path}: {of(self.held)}" if self.path else of(self.held)), told]
-        if self.doubtful:
-            they, their = ("it", "its") if self.doubtful == 1 else ("they", "their")
-            how = f"counted, though {they}" if doubtful else f"left out: {they}"
-            told = f"{_shown.counted(self.doubtful, 'doubtful wait')} {_shown.are(self.doubtful)} {how}"
-            lines.append(f"{told} may be false, since events were lost in {their} time{self._likely_told()}")
-        return [*lines, *self.remarks()]
-
-    def _likely_told(self) -> str:
-        """How many doubtful waits are likely true; empty if none is."""
-        if not self.likely:
-            return ""
-        if self.doubtful == 1:
-            return "; it is likely true, since the CPUs on which it began and ended lost none"
-        told = f"{self.likely} of them {_shown.are(self.likely)} likely true"
-        return f"; {told}, since the CPUs on which they began and ended lost none"
 
     def _told(self) -> Tuple[List[str], List[_shown.Table], List[str]]:
         """What is shown: lines, the table, and what was lost."""
@@ -455,10 +449,12 @@ def waits(trace: Union[Trace, Recording, Desk], *, lenient: bool = False) -> Wai
     """The waits of a recording: of a trace (a path, its bytes, or an open file, packed by gzip or not), of what `read` has
     read, or of what a desk holds.
 
-    A trace may be of any length: it is read in pieces, and only its waits are kept, 48 bytes of each. With `lenient`, lines
-    that can't be read are left out. Of a trace whose events aren't in the order of time, a desk holds the events: no more than
-    it has room for, which `remarks` of the answer says. A desk of yours is left as it was; events that you have struck are
-    gone, so a wait that they began or ended is another one or none.
+    A trace may be of any length: it is read in pieces, and only its waits are kept, 48 bytes of each. An open file or a pipe,
+    which can't be read again, is kept in a temporary file for `source`. With `lenient`, lines that can't be read are left out.
+    Of a recording that `read` has read, they are those of all that was asked for, also if a desk holds less. Of a trace whose
+    events aren't in the order of time, a desk holds the events: no more than it has room for, which `remarks` of the answer
+    says. A desk of yours is left as it was; events that you have struck are gone, so a wait that they began or ended is
+    another one or none.
 
     If events were lost, it warns with `LossWarning`. Raises `Refused` for a line that can't be read, `OSError` for a file that
     can't be, `ValueError` of a recording that holds only some CPUs, since tasks are woken from any, and `ImportError` if there
@@ -480,79 +476,150 @@ def waits(trace: Union[Trace, Recording, Desk], *, lenient: bool = False) -> Wai
     needed()
     if isinstance(trace, Desk):
         return waits_of(trace, None)
-    if isinstance(trace, Recording) and not is_whole(trace):
-        return waits_of_part(trace)
-    found = waits_of_text(trace, lenient)
-    if found.warning and not isinstance(trace, Recording):
+    if isinstance(trace, Recording):
+        found, is_told = waits_of_recording(trace, lenient), trace.is_told
+        trace.is_told = True
+    else:
+        found, is_told = waits_of_text(trace, lenient), False
+    if found.warning and not is_told:
         warnings.warn(found.warning, LossWarning, stacklevel=2)
     return found
 
 
 def waits_of_text(
-    trace: Union[Trace, Recording],
+    trace: Trace,
     lenient: bool = False,
     watch: Optional[Callable[[Any], None]] = None,
     path: Optional[str] = None,
+    keeps: bool = True,
 ) -> Waits:
     """The waits of a whole text, which is called by that path, or by its own; `watch` is called with each piece of it before
-    it is read."""
-    content = trace.text if isinstance(trace, Recording) else trace
+    it is read. What is gone once it was read is kept in a temporary file meanwhile if it `keeps` that."""
     path = path_of(trace) if path is None else path
+
+    def found(pieces: Iterator[Any], text: Optional[Text]) -> Waits:
+        return streamed_of(path, streamed(pieces, lenient), text, lenient)
+
+    return answer_of(found, trace, lenient, watch, path, keeps)
+
+
+def answer_of(
+    answer: Callable[[Iterator[Any], Optional[Text]], Answer],
+    trace: Trace,
+    lenient: bool,
+    watch: Optional[Callable[[Any], None]],
+    path: Optional[str],
+    keeps: bool,
+) -> Union[Answer, Waits]:
+    """What `answer` makes of the pieces of a whole text, and of the text if it can be read again; the waits that a desk tells
+    of it if it isn't in the order of time. The other words are those of `waits_of_text`."""
+    again: Optional[Text] = None if is_read_once(trace) else text_again(trace)
+    kept = KeptText() if again is None and keeps else None
+    pieces = seen(pieces_of(again or trace), watch, kept)
     try:
-        return streamed_of(path, streamed(content, lenient, watch))
+        return answer(pieces, again or kept)
     except Backwards as error:
-        return waits_in_any_order(trace, lenient, error)
+        if again is None and kept is None:
+            told = f"line {error}: its stamp is before that of the event above it; such a trace must be a file"
+            raise ValueError(told) from None
+        # The rest of what came by a pipe.
+        for _ in pieces if kept else ():
+            pass
+        return waits_in_any_order(path, (again or kept or Text()).read(), Choice(), lenient)
     except Refused as error:
         error.path = path
-        if error.line and hasattr(error, "add_note") and not hasattr(content, "read"):
-            error.add_note(_shown.shown(_layout.decoded(line_at(content, error.line)[:MOST_SHOWN])))
+        if again:
+            show_line(error, again)
         raise
 
 
-def streamed_of(path: Optional[str], found: Streamed) -> Waits:
-    """The waits of a whole text, as a stream has told them; the path of its file, if it has one."""
-    read, unknown = found.read, unknown_kinds(found.records)
+def seen(pieces: Iterator[Any], watch: Optional[Callable[[Any], None]], kept: Optional[KeptText]) -> Iterator[Any]:
+    """Pieces of a text, of which each is seen and kept before it is handed on."""
+    for piece in pieces:
+        if watch:
+            watch(piece)
+        if kept:
+            kept.add(piece)
+        yield piece
+
+
+def show_line(error: Refused, text: Text) -> None:
+    """Shows the line that can't be read."""
+    if error.line and hasattr(error, "add_note"):
+        error.add_note(_shown.shown(_layout.decoded(line_at(text, error.line)[:MOST_SHOWN])))
+
+
+def waits_of_recording(recording: Recording, lenient: bool = False, watch: Optional[Callable[[Any], None]] = None) -> Waits:
+    """The waits of what was asked for of a trace, however many events that are. Raises `ValueError` if it holds only some
+    CPUs."""
+    if recording.choice.cpus is not None:
+        raise ValueError("waits need the events of all CPUs, since tasks are woken from any; waits(..).only(cpus=[..]) chooses")
+    part = recording._slice
+    if part is None or recording.choice.events is not None:
+        return waits_of_part(recording)
+    lenient = lenient or part.lenient
+    try:
+        found = streamed(seen(part.text.pieces(), watch, None), lenient, part.is_whole)
+    except Backwards:
+        return waits_in_any_order(recording.path, part.whole.read(), recording.choice, lenient)
+    except Refused as error:
+        error.path = recording.path
+        show_line(error, part.text)
+        raise moved(error, part.lines_before()) from None
+    if part.is_whole:
+        waits_found = streamed_of(recording.path, found, part.text, lenient)
+        recording.losses = waits_found._about.losses
+        return waits_found
+    if recording._losses is None:
+        recording.losses = part.losses(recording.choice, found.read.losses)
+    judge(found.records, found.besides, recording.holes)
+    bad_line = found.read.first_bad_line
+    first_bad_line = None if bad_line is None else bad_line + part.lines_before()
+    read = found.read._replace(losses=recording.losses, first_bad_line=first_bad_line)
+    return streamed_of(recording.path, found._replace(read=read), part.text, lenient, recording.lines_from)
+
+
+def streamed_of(
+    path: Optional[str], found: Streamed, text: Optional[Text], lenient: bool, lines_from: Optional[int] = None
+) -> Waits:
+    """The waits of a text, as a stream has told them; the path of its file, if it has one, and where its lines are counted
+    from."""
+    about = about_text(path, found.read, unknown_kinds(found.records), lines_from)
+    source = None if text is None else Source(text, path, found.read.losses, lenient, found.checkpoints)
+    return Waits(found.records, found.names, about, source)
+
+
+def about_text(path: Optional[str], read: Read, unknown: Tuple[str, ...], lines_from: Optional[int] = None) -> About:
+    """What else is known of the waits of a text that was read, and the kinds of which no event began a wait."""
     held = Held(sum(read.events.values()), read.first, read.last, tuple(sorted(read.events)))
-    losses = read.losses
-    if found.late:
-        losses = losses._replace(holes=(*found.late, *losses.holes))
-        judge(found.records, found.besides, losses.holes)
-    about = About(path, held, losses, None, unknown, 0, *read[-4:])
-    return Waits(found.records, found.names, about)
+    return About(path, held, read.losses, None, unknown, 0, *read[-4:], lines_from)
 
 
 def unknown_kinds(records: Any) -> Tuple[str, ...]:
     """The kinds of which no event began a wait; of preempted tasks only if there are no waits at all, since they may have had
     none."""
-    kinds = needed().bincount(records["kind"], minlength=len(KINDS)).tolist()
-    return tuple(kind for kind, count in zip(KINDS, kinds) if not count and not (kind == "preempted" and len(records)))
+    return unknown_of(needed().bincount(records["kind"], minlength=len(KINDS)).tolist())
 
 
-def is_whole(recording: Recording) -> bool:
-    """Whether nothing of a recording was left out."""
-    return recording.choice.is_all() and recording.taken is None and not recording.bad_lines
+def unknown_of(counts: Sequence[int]) -> Tuple[str, ...]:
+    """The same, of how many waits there are of each kind."""
+    return tuple(kind for kind, count in zip(KINDS, counts) if not count and not (kind == "preempted" and any(counts)))
 
 
-def waits_in_any_order(trace: Any, lenient: bool, error: Backwards) -> Waits:
-    """The waits of a text that isn't in the order of time, of which a desk holds the events. Raises `ValueError` if it can't be
-    read again."""
-    if not isinstance(trace, Recording) and hasattr(trace, "read"):
-        told = f"line {error}: its stamp is before that of the event above it; such a trace must be a file"
-        raise ValueError(told) from None
-    with warnings.catch_warnings():
-        warnings.simplefilter("ignore", LossWarning)
-        recording = read(trace, spare=SPARE, lenient=lenient)
-    found = waits_of_part(recording)
-    bad = recording.bad_lines
-    return found.with_bad_lines(len(bad), bad[0] if bad else None)
+def waits_in_any_order(path: Optional[str], text: Any, choice: Choice, lenient: bool) -> Waits:
+    """The waits of a text that isn't in the order of time, of which a desk holds the events that are asked for."""
+    recording = read_whole(path, text, choice._replace(spare=SPARE), lenient)
+    # Whoever asked is told of the waits.
+    recording.is_told = True
+    return waits_of_part(recording)
 
 
 def waits_of_part(recording: Recording) -> Waits:
     """The waits of what was read of a trace, of which a desk holds the events."""
-    if recording.choice.cpus is not None:
-        raise ValueError("waits need the events of all CPUs, since tasks are woken from any; waits(..).only(cpus=[..]) chooses")
     with recording.desk() as desk:
-        return waits_of(desk, recording)
+        found = waits_of(desk, recording)
+    bad = recording.bad_lines
+    return found.with_bad_lines(len(bad), bad[0] if bad else None)
 
 
 def waits_of(desk: Desk, recording: Optional[Recording]) -> Waits:
@@ -583,14 +650,6 @@ def take_surer(records: Any, at: Any, waits: Any, holes: Collection[Hole]) -> No
         records[f"begin_{name}"][at[surer]] = waits[f"awoken_{name}"][surer]
 
 
-def records_of(columns: Dict[str, Any]) -> Any:
-    """What is kept of waits, of its columns."""
-    records = needed().zeros(len(columns["kind"]), RECORD_FIELDS)
-    for field, column in columns.items():
-        records[field] = column
-    return records
-
-
 def doubts_of(columns: Dict[str, Any], holes: Collection[Hole]) -> Any:
     """How sure waits are: whether events were lost in their time, and on the CPUs on which they began and ended."""
     numpy = needed()
@@ -606,7 +665,8 @@ def about_held(desk: Desk, recording: Optional[Recording], losses: Losses) -> Ab
     """What else is known of the waits that a desk holds."""
     if recording is None:
         return About(None, held_by(desk), losses)
-    return About(recording.path, held_by(desk), losses, recording.taken.rest if recording.taken else None)
+    rest = recording.taken.rest if recording.taken else None
+    return About(recording.path, held_by(desk), losses, rest, lines_from=recording.lines_from)
 
 
 def held_by(desk: Desk) -> Held:
@@ -622,48 +682,9 @@ def places_of(desk: Desk, cpu: int) -> Any:
     return desk._session.records(library.histdesk_places_copy, PLACES, library.histdesk_lane, cpu, 1)
 
 
-def triggers_of(desk: Desk, kind: str, attach: Callable[[str, str], Trigger]) -> Tuple[Trigger, Trigger]:
-    """The triggers that measure waits of a kind, as `attach` attaches them: one that saves the stamps of what may begin some,
-    and one that reads them at the switches."""
-    event, key, condition = BEGINS[kind]
-    name = free_name(desk)
-    saver = attach(event, f"hist:keys={key}:size={SIZE}:{name}={STAMP} if {condition}")
-    return saver, attach("sched_switch", f"hist:keys=next_pid:waited={STAMP}-${name} if {ENDS}")
-
-
-def free_name(desk: Desk) -> str:
-    """A name for a variable that no trigger of the desk has."""
-    texts = " ".join(trigger.canonical for trigger in desk.triggers())
-    return next(name for name in (f"begin{number}" for number in itertools.count()) if name not in texts)
-
-
 def numbered(cpus: Any, lines: Any) -> Any:
     """One number for each CPU and line."""
     return cpus.astype("i8") << 32 | lines
-
-
-def later(one: Any, other: Any) -> Any:
-    """Where one place is after another in the order in which events go past triggers."""
-    is_later = one.line > other.line
-    for field in ("cpu", "stamp"):
-        is_later = (one[field] > other[field]) | (one[field] == other[field]) & is_later
-    return is_later
-
-
-def chosen(places: Dict[str, Any], ends: Any, holes: Collection[Hole]) -> Tuple[Any, Any]:
-    """Which wait each switch ends: its kind's number, and where it began.
-
-    A task that was preempted waits since then: a waking that came before, while it ran, or after, while it was queued, began
-    nothing. But where its number was given to a new task the later one of both counts, and so of a waking and a new task. And
-    where events were lost since it was preempted, and none since it was woken, it waits at least since it was woken."""
-    numpy, (woken, new, preempted) = needed(), (places[kind] for kind in KINDS)
-    is_new = later(new, woken)
-    found = woken.copy()
-    found[is_new] = new[is_new]
-    is_sure = (found.stamp >= 0) & ~doubts(found.stamp, ends.stamp, holes) & doubts(preempted.stamp, ends.stamp, holes)
-    is_preempted = (preempted.stamp >= 0) & ~later(new, preempted) & ~is_sure
-    found[is_preempted] = preempted[is_preempted]
-    return numpy.where(is_preempted, PREEMPTED, numpy.where(is_new, NEW, WOKEN)), found
 
 
 def doubts(begins: Any, ends: Any, holes: Collection[Hole]) -> Any:

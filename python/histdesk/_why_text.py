@@ -6,7 +6,9 @@ from typing import TYPE_CHECKING, Any, List, Optional, Sequence, Tuple
 
 from . import _shown
 from ._losses import seconds
-from ._scene import FORKED, PREEMPTED, WOKEN, Share, Stretch, shares_of
+from ._layout import needed
+from ._ran import NOTHING, Columns, Share, Stretch, shares_of, stretches_of
+from ._scene import FORKED, PREEMPTED, WOKEN
 from ._values import Event
 
 if TYPE_CHECKING:
@@ -95,7 +97,7 @@ def busy(why: Why, stretches: Sequence[Stretch]) -> List[str]:
     """What a CPU did meanwhile, a line or two."""
     if not stretches:
         return []
-    cpu, shares = stretches[0].cpu, shares_of(tuple(stretches))
+    cpu, shares = stretches[0].cpu, shares_of(stretches)
     others = [share for share in shares if share.pid and share.pid != why.pid and share.micros]
     idle, own, unknown = (sum_of(shares, pid) for pid in (0, why.pid, None))
     told = [several(why, cpu, others)] if others else []
@@ -122,6 +124,8 @@ def idle_told(why: Why, cpu: int) -> str:
 
 def unknown_told(why: Why, stretches: Sequence[Stretch]) -> str:
     """Why it isn't known what ran on a CPU."""
+    if stretches[0].cpu in why.untold:
+        return "the wait has more events of it than a desk holds"
     if any(hole.cpu == stretches[0].cpu for hole in why.holes):
         return "events of it were lost"
     if len(stretches) == 1:
@@ -130,7 +134,7 @@ def unknown_told(why: Why, stretches: Sequence[Stretch]) -> str:
 
 
 def several(why: Why, cpu: int, others: Sequence[Share]) -> str:
-    """Which tasks ran, where they are more than one stretch."""
+    """Which tasks ran, if they are more than one stretch."""
     most, runs = others[0], sum(share.runs for share in others)
     name, part = named(most.task, most.pid), share_told(why, most.micros)
     if len(others) == 1:
@@ -145,7 +149,8 @@ def after(stretch: Stretch) -> str:
 
 def later(why: Why) -> Optional[str]:
     """How long tasks ran that were runnable later, and yet ran before."""
-    micros = sum(stretch.micros for stretch in why.stretches if stretch.runnable is not None and stretch.pid != why.pid)
+    ran = stretches_of(why.stretches)
+    micros = int(ran.micros[(ran.columns.runnable != NOTHING) & (ran.columns.pid != why.pid)].sum())
     return f"Tasks that became runnable later than it had {share_told(why, micros)} of that time." if micros else None
 
 
@@ -153,11 +158,13 @@ def urgent(why: Why) -> Optional[str]:
     """How long tasks ran to which others give way, or that should have given way."""
     if why.prio is None:
         return None
-    ran = [stretch for stretch in why.stretches if stretch.pid and stretch.pid != why.pid and stretch.prio is not None]
+    ran = stretches_of(why.stretches)
+    pids, prios = ran.columns.pid, ran.columns.prio
+    is_other = (pids != 0) & (pids != NOTHING) & (pids != why.pid) & (prios != NOTHING)
     if why.prio >= NORMAL:
-        micros = sum(stretch.micros for stretch in ran if (stretch.prio or 0) < NORMAL)
+        micros = int(ran.micros[is_other & (prios < NORMAL)].sum())
         return f"Tasks of real time (prio below {NORMAL}) had {share_told(why, micros)} of it." if micros else None
-    micros = sum(stretch.micros for stretch in ran if (stretch.prio or 0) > why.prio)
+    micros = int(ran.micros[is_other & (prios > why.prio)].sum())
     return f"Tasks less urgent than it (a greater prio) had {share_told(why, micros)} of it." if micros else None
 
 
@@ -250,26 +257,35 @@ def ran_told(why: Why, end: Event) -> str:
 
 def picture(why: Why, stretches: Sequence[Stretch]) -> List[str]:
     """A row for each task: how long it ran, and when."""
-    shares = shares_of(tuple(stretches))
+    shares, columns = shares_of(stretches), stretches_of(stretches).columns
     begin, until = seconds(why.begin.stamp), seconds(why.until)
     names = ("task", "prio", "us", "%", "runs", f"{begin}{until:>{WIDTH - len(begin) + 2}}")
 
     def row(at: int) -> Sequence[Any]:
         share = shares[at]
-        own = [stretch for stretch in stretches if stretch.pid == share.pid]
-        return (named(share.task, share.pid), share.prio, share.micros, percent(why, share.micros), share.runs, bar(why, own))
+        own = columns.pid == (NOTHING if share.pid is None else share.pid)
+        return (
+            named(share.task, share.pid),
+            share.prio,
+            share.micros,
+            percent(why, share.micros),
+            share.runs,
+            bar(why, columns, own),
+        )
 
     return indented(_shown.in_text(_shown.table_of(names, len(shares), row)))
 
 
-def bar(why: Why, stretches: Sequence[Stretch]) -> str:
-    """When a task ran: `#` where it ran for half of a column's time or more, `-` where for less."""
+def bar(why: Why, ran: Columns, own: Any) -> str:
+    """When a task ran, in some of the stretches: `#` if it ran for half of a column's time or more, `-` if for less."""
+    numpy = needed()
     # In parts of a microsecond, so that a column's ends are whole numbers too.
-    filled = [0] * WIDTH
-    for stretch in stretches:
-        begin, end = ((stamp - why.begin.stamp) * WIDTH for stamp in (stretch.begin, stretch.end))
-        for column in range(begin // why.micros, -(-end // why.micros)) if why.micros else ():
-            filled[column] += min(end, (column + 1) * why.micros) - max(begin, column * why.micros)
+    begins, ends = ((stamps[own] - why.begin.stamp) * WIDTH for stamps in (ran.begin, ran.end))
+    # How long it ran up to each column's end: in the stretches that end before, and in the one that doesn't.
+    edges = numpy.arange(WIDTH + 1) * why.micros
+    before = ends.searchsorted(edges, "right")
+    sums = numpy.concatenate([[0], (ends - begins).cumsum()])[before]
+    filled = numpy.diff(sums + (edges - numpy.append(begins, edges[-1])[before]).clip(0)).tolist()
     signs = (" " if not part else "#" if 2 * part >= why.micros else "-" for part in filled)
     return f"|{''.join(signs)}|"
 

@@ -48,16 +48,23 @@ LOST = ("lost", "pending")
 
 
 def asked(question: Any, path: str, choice: Dict[str, Any]) -> Outcome:
-    """What a recording answers. Whatever goes wrong is told of the recording, and nothing is raised."""
+    """What a recording answers. Whatever goes wrong is told of the recording, and nothing is raised.
+
+    A question that has `ask_path` reads the recording itself."""
     try:
+        if hasattr(question, "ask_path"):
+            outcome: Outcome = question.ask_path(path, **choice)
+            return outcome
         # What is lost is told of all recordings together.
         with READING, warnings.catch_warnings():
             warnings.simplefilter("ignore", LossWarning)
             recording = read(path, **getattr(question, "reading", {}), **choice)
+        recording.is_told = True
         answer = question.ask(recording)
         told = answer if isinstance(answer, Told) else Told(answer)
-        known = Asked(path, recording.warning, told.doubtful, told.dropped, len(recording.bad_lines), recording.taken)
-        return known, told.part
+        # A long one that nobody has read wasn't cut either.
+        bad, taken = (len(recording.bad_lines), recording.taken) if recording.is_read else (0, None)
+        return Asked(path, recording.warning, told.doubtful, told.dropped, bad, taken), told.part
     except Exception as error:
         return failed(path, error), None
 

@@ -28,6 +28,7 @@ PYTHON = os.path.realpath(os.path.join(HERE, "..", "..", "python"))
 TOOL = os.path.realpath(os.path.join(HERE, "..", "..", "tools", "diff"))
 sys.path[:0] = [PYTHON, HERE, os.path.join(HERE, "..", "model")]
 
+import copies
 import histdesk
 import plain_waits
 import recordings
@@ -42,6 +43,8 @@ try:
 except ImportError:
     pandas = None
 
+# So many events are held by a desk.
+DESK = 1048576
 FIGURES = ("count", "mean", "p50", "p90", "p99", "max", "doubtful")
 # Filters, and the lines that they mean.
 FILTERS = {
@@ -241,12 +244,16 @@ class Without(Case):
         (row,) = found.table()
         self.assertEqual((row.key, row.before.max, row.after.max, found.fate), (("c", 12, "woken"), 5, 15, (0, 1, 0)))
 
-    def test_places_are_those_of_the_recording(self):
+    def test_places_in_a_stretch_of_time(self):
         known = recordings.simulated(14, 200)
         path = self.put("a", known.text)
         half = known.waits[len(known.waits) // 2].end.stamp
         found = diff(histdesk.read(path, start=half), without="sched_wakeup_new")
-        places = {tuple(wait.end) for wait in known.waits}
+        # Lines are counted from the first event that is taken.
+        counts = {}
+        for event in plain_waits.events_of(known.text):
+            counts[event.place.cpu] = counts.get(event.place.cpu, 0) + (event.place.stamp < half)
+        places = {wait.end._replace(line=wait.end.line - counts[wait.end.cpu]) for wait in known.waits}
         ends = [(int(wait.end_stamp), int(wait.end_cpu), int(wait.end_line)) for wait in found.after.array]
         self.assertTrue(ends and set(ends) <= places)
 
@@ -277,6 +284,57 @@ class Without(Case):
             self.assertIn("CPU 2", found._repr_html_())
 
 
+class Long(Case):
+    """Recordings of more events than a desk holds: copies of small ones, of which the plain reckoning is asked."""
+
+    def long(self, name, seed):
+        """The path of a long recording, its copies, and how many they are."""
+        made = copies.Copies(recordings.simulated(seed, 400).text)
+        count = DESK // len(made.lines) + 20
+        return self.put(name, made.text(count)), made, count
+
+    def counts(self, waits):
+        """Of each name and kind how many waits there are, how long they are together and the greatest."""
+        found = {}
+        for wait in waits:
+            count, total, most = found.get((wait.name, wait.kind), (0, 0, 0))
+            found[wait.name, wait.kind] = count + 1, total + wait.micros, max(most, wait.micros)
+        return found
+
+    def told(self, waits):
+        return {row[:2]: (row.count, row.total, row.max) for row in waits.table("name")}
+
+    def test_without(self):
+        path, made, count = self.long("a", 15)
+        names = list(FILTERS)[-2:]
+        patterns = [re.compile(FILTERS[name]) for name in names]
+        found = diff(path, without=names)
+        waits, left = (
+            made.waits(lambda text, some=some: plain_waits.waits_of(text, plain_waits.like(some)), count)
+            for some in ([], patterns)
+        )
+        self.assertGreater(found.before.held.events, DESK)
+        self.assertEqual([self.told(side) for side in (found.before, found.after)], [self.counts(waits), self.counts(left)])
+        ends, other = ({wait.end: wait.begin for wait in side} for side in (waits, left))
+        moved = sum(other.get(end, begin) != begin for end, begin in ends.items())
+        self.assertEqual(found.fate, (len(ends.keys() - other.keys()), moved, len(other.keys() - ends.keys())))
+        struck = [count * sum(bool(pattern.search(line)) for line in made.lines) for pattern in patterns]
+        self.assertEqual([one.count for one in found.struck], struck)
+
+    def test_tool(self):
+        (one, *first), (other, *second) = (self.long(name, seed) for name, seed in (("a", 16), ("b", 17)))
+        words = [sys.executable, "-B", TOOL, one, other, "--json"]
+        whole = json.loads(subprocess.run(words, stdout=subprocess.PIPE, check=True).stdout)
+        for side, (made, count) in (("before", first), ("after", second)):
+            self.assertEqual(whole[side]["events"], count * len(made.lines))
+            waits = self.counts(made.waits(plain_waits.waits_of, count))
+            rows = {(row["name"], row["kind"]): (row[f"count_{side}"], row[f"max_{side}"]) for row in whole["rows"]}
+            self.assertEqual(
+                {key: rows[key] for key in waits if key in rows}, {key: waits[key][::2] for key in waits if key in rows}
+            )
+            self.assertEqual(whole["all"][f"count_{side}"], sum(count for count, _, _ in waits.values()))
+
+
 class Tool(Case):
     def run_tool(self, *words, status=0):
         """What the tool prints, on both streams."""
@@ -303,6 +361,18 @@ class Tool(Case):
             "renamed 10 woken 2 -> 0 16.5 -> - 3 -> - 30 -> - 30 -> - 30 -> - 50.000% -> - -41096 (-100%)".split(),
         )
         self.assertEqual(lines[7:], [""])
+
+    def test_stretch_of_time(self):
+        self.put("k.trace", recordings.kinds().text)
+        for words, stretch in ((["--from", "1.0002"], lambda s: s >= 1000200), (["--until", "1.0004"], lambda s: s < 1000400)):
+            told, errors = self.run_tool("k.trace", "--without", "sched_waking if pid == 10", *words)
+            self.assertEqual(errors, "")
+            text = recordings.kinds().text
+            wakings = [
+                event for event in plain_waits.events_of(text) if event.event == "sched_waking" and stretch(event.place.stamp)
+            ]
+            struck = [event for event in wakings if event.pid == 10]
+            self.assertIn(f"without {len(struck)} of {len(wakings)} sched_waking if pid == 10", told.split("\n"))
 
     def test_two_recordings(self):
         for seed in (1, 2):

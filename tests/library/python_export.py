@@ -15,6 +15,7 @@ import subprocess
 import sys
 import tempfile
 import unittest
+from unittest import mock
 
 # Nothing is written beside the sources.
 sys.dont_write_bytecode = True
@@ -25,6 +26,7 @@ TOOL = os.path.realpath(os.path.join(HERE, "..", "..", "tools", "export"))
 sys.path[:0] = [PYTHON, os.path.join(HERE, "..", "model")]
 
 import histdesk
+from histdesk import _aside, _stream
 from python_answers import with_numpy, with_pandas
 from python_runner import main
 from recordings import all_known, text_of
@@ -352,6 +354,42 @@ class Waits(Tool):
             self.written(SMALL, "waits").decode(),
             f"task,kind,pid,prio,{places},micros,doubtful,likely\nw,woken,42,98,1000100,0,1,1000150,1,2,50,false,false\n",
         )
+
+    def test_stretch_of_time(self):
+        """Lines are counted from its first event on, which is said; what began before is no wait."""
+        status, out, told = self.ran(all_known()["kinds"].text, "waits", "--from", "1.0003", "--until", "1.0005", "--json")
+        self.assertEqual((status, told), (0, "export: TRACE: lines are counted from 1.000300 on\n"))
+        rows = [[*json.loads(line).values()] for line in out.splitlines()]
+        places = [[1000300, 0, 1, 1000340, 3, 1], [1000400, 0, 4, 1000407, 3, 3]]
+        self.assertEqual([row[4:10] for row in rows], places)
+        self.assertEqual([(row[0], row[1], row[10]) for row in rows], [("d", "new", 40), ("e", "new", 7)])
+
+    def test_chosen_events(self):
+        """They keep their lines. What began with a creation is no wait then, or another one."""
+        words = ["waits", "--events", "sched_waking,sched_switch", "--json"]
+        expected = [[*wait.begin, *wait.end] for wait in all_known()["kinds"].waits if wait.kind != "new"]
+        rows = [[*row.values()] for row in self.objects(all_known()["kinds"].text, *words)]
+        self.assertEqual([row[4:10] for row in rows if row[1] != "new" and row[2] != 13], expected)
+
+    def test_parts(self):
+        """Waits are written in parts; how sure those of the first part are, shows only at the end."""
+        known = all_known()["lost_in_middle"]
+        whole = histdesk.waits(known.text)
+        for most in (1, 2, 3):
+            with mock.patch.object(_stream, "CHUNK", most):
+                parts = [*_aside.parts_of(_aside.waits_in_parts(known.text))]
+                self.assertEqual([len(part) for part in parts], [min(most, 4 - at) for at in range(0, 4, most)])
+                rows = [row.tolist() for part in parts for row in part.array]
+                self.assertEqual(rows, [row.tolist() for row in whole.array])
+                self.assertEqual([name for part in parts for name in part.names], [wait.name for wait in known.waits])
+        with mock.patch.object(_aside, "PART", 3):
+            self.assertEqual([len(part) for part in _aside.parts_of(whole)], [3, 1])
+
+    def test_any_order(self):
+        """Of a text that isn't in the order of time a desk holds the events."""
+        lines = all_known()["kinds"].text.decode().splitlines(keepends=True)
+        text = "".join([*lines[:11], *lines[12:], lines[11]]).encode()
+        self.assertEqual(self.written(text, "waits").count(b"\n"), 1 + len(histdesk.waits(text)))
 
     def test_cpu(self):
         """Those that ended there, wherever they began."""

@@ -23,12 +23,12 @@ PYTHON = os.path.realpath(os.path.join(HERE, "..", "..", "python"))
 sys.path.insert(0, PYTHON)
 
 import histdesk
-from histdesk import Hole, Lane, LossWarning, Part, _recording
+from histdesk import Hole, Lane, LossWarning, Part, _lines, _recording
 from python_answers import numpy, with_numpy
 from python_runner import main
 
 if numpy:
-    from histdesk import _part, _scan
+    from histdesk import _part
 
 WAKING = "sim-1 [{cpu:03}] d.h.. {stamp}: sched_waking: comm=w pid={pid} prio=120 target_cpu=000\n"
 SWITCH = (
@@ -113,7 +113,8 @@ class Losses(unittest.TestCase):
 
     def test_header_alone(self):
         answer, _ = loaded(TOP.format(3, 9) + waking(1, "1.000000") + waking(0, "1.500000") + waking(1, "2.000000"))
-        self.assertEqual(answer.holes, (Hole(0, None, 1500000),))
+        # The header tells of it.
+        self.assertEqual(answer.holes, (Hole(0, None, 1500000, None, 3),))
 
     def test_many_holes_are_one_line(self):
         text = waking(3, "1.000000") + "".join(f"CPU:3 [LOST 2 EVENTS]\n{waking(3, f'{n}.500000')}" for n in range(1, 9))
@@ -202,10 +203,10 @@ class Parts(unittest.TestCase):
             [(event.cpu, event.line, event.stamp) for event in desk.events()],
             [(1, 1, 5000001), (2, 1, 6250000), (0, 1, 6500000)],
         )
-        # In the whole text the second event of CPU 0 is its second line.
-        self.assertEqual((recording.line(0, 1), recording.desk_line(0, 2), recording.desk_line(0, 1)), (2, 1, None))
-        self.assertEqual((recording.line(2, 1), recording.desk_line(2, 2), recording.desk_line(8, 1)), (1, None, None))
-        self.assertEqual(len(recording.holes), 2)
+        # Lines are counted from the first of them on.
+        self.assertEqual((recording.lines_from, recording.line(0, 1), recording.desk_line(0, 1)), (5000001, 1, 1))
+        # CPU 2 begins in that time, and CPU 1 just when it begins.
+        self.assertEqual(recording.holes, (Hole(2, None, 6250000),))
 
     @with_numpy
     def test_cpus_and_events(self):
@@ -261,57 +262,71 @@ class Parts(unittest.TestCase):
         self.assertEqual(self.part(MIDDLE, lenient=True).bad_lines, ())
 
 
-# Lines, and the CPU, the stamp and the name of each one's event.
-SCANNED = {
-    "  sim-1     [003] d..2.  6012.000100: sched_waking: comm=w": (3, 6012000100, "sched_waking"),
-    "sim-1 [003] 6012.000100: sched_wakeup: comm=w": (3, 6012000100, "sched_wakeup"),
-    "my-app 2-9 [000] d.... 0.000001: sched_wakeup_new: comm=w": (0, 1, "sched_wakeup_new"),
-    "-1 [010] 4294967295.999999: sched_switch: prev_comm=a": (10, 4294967295999999, "sched_switch"),
-    "a-1 [8191] 1.000000: sched_switch: x": (8191, 1000000, "sched_switch"),
-    "a-1 [7] 1.000000:sched_switch: x": (7, 1000000, "sched_switch"),
-    "a-1 (  12) [001] d.... 2.500000: sched_waking: x": (1, 2500000, "sched_waking"),
-    "a-12 [003] x-4711 [002] d..2. 3.000000: sched_waking: x": (2, 3000000, "sched_waking"),
-    "a] b-5 [001] 1.000000:  sched_waking: x": (1, 1000000, "sched_waking"),
+# Lines, and the CPU, the stamp and the name of each one's event; BAD for one that can't be read.
+BAD = "can't be read"
+WAKE = "comm=w pid=42 prio=120 target_cpu=000"
+SWITCHED = "prev_comm=a prev_pid=1 prev_prio=2 prev_state=S ==> next_comm=w next_pid=3 next_prio=4"
+LINES = {
+    f"  sim-1     [003] d..2.  6012.000100: sched_waking: {WAKE}": (3, 6012000100, "sched_waking"),
+    f"sim-1 [003] 6012.000100: sched_wakeup: {WAKE}": (3, 6012000100, "sched_wakeup"),
+    f"my-app 2-9 [000] d.... 0.000001: sched_wakeup_new: {WAKE}": (0, 1, "sched_wakeup_new"),
+    f"-1 [010] 4294967295.999999: sched_switch: {SWITCHED}": (10, 4294967295999999, "sched_switch"),
+    f"a-1 [8191] 1.000000: sched_switch: {SWITCHED}": (8191, 1000000, "sched_switch"),
+    f"a-1 (  12) [001] d.... 2.500000: sched_waking: {WAKE}": (1, 2500000, "sched_waking"),
+    f"a] b-5 [001] 1.000000:  sched_waking: {WAKE}": (1, 1000000, "sched_waking"),
     "a-1 [001] 1.000000: sched_wakeup_newer: x": (1, 1000000, "other"),
-    "a-1 [001] 1.000000: sched_waking x": (1, 1000000, "other"),
     "a-1 [001] 1.000000:": (1, 1000000, "other"),
     "a-1 [001] d..2. 1.000000: irq_handler_entry: irq=1 name=a-2 [003] 4.000000: x": (1, 1000000, "other"),
-    "a-1 [001] a b 1.000000: x": None,
-    "a-1 [001] 1.00000: x": None,
-    "a-1 [001] 12345678901.000000: x": None,
-    "a1 [001] 1.000000: x": None,
-    "a-1[001] 1.000000: x": None,
+    "a-1 [001] 1.000000: sched_waking: comm=w": BAD,
+    f"a-1 [001] 1.000000: sched_waking: {WAKE}\r": BAD,
+    "a-1 [8192] 1.000000: x": BAD,
+    "a-1 [001] a b 1.000000: x": BAD,
+    "a-1 [001] 1.00000: x": BAD,
+    "a-1 [001] 12345678901.000000: x": BAD,
+    "a1 [001] 1.000000: x": BAD,
+    "a-1[001] 1.000000: x": BAD,
     "# a-1": None,
     "CPU:3 [LOST 4 EVENTS]": None,
     "": None,
 }
 
 
-@with_numpy
-class Scanned(unittest.TestCase):
-    """The events of a text as they are found before it is loaded: plain lines at once, others one by one."""
+class Lines(unittest.TestCase):
+    """What the lines of a text are, before it is loaded."""
 
-    def found(self, text):
-        lines = _scan.scanned(text.encode())
+    def told(self, text):
+        lines = _lines.lines_in(text.encode())
         names = [histdesk._layout.EVENT_NAMES[name] for name in lines.names]
-        told = zip(lines.cpus.tolist(), lines.stamps.tolist(), names)
-        return lines.ends.tolist(), [None if event[0] < 0 else event for event in told]
+        events = zip(lines.cpus.tolist(), lines.stamps.tolist(), names, lines.bad.tolist())
+        return lines.ends.tolist(), [BAD if bad else None if event[0] < 0 else tuple(event) for *event, bad in events]
 
+    @with_numpy
     def test_forms(self):
         for end in ("\n", ""):
-            for line, event in SCANNED.items():
+            for line, event in LINES.items():
                 if line + end:
-                    self.assertEqual(self.found(line + end), ([len(line + end)], [event]), line)
+                    self.assertEqual(self.told(line + end), ([len(line + end)], [event]), line)
 
+    @with_numpy
     def test_whole_texts(self):
-        lines, generator = list(SCANNED), random.Random(1)
+        lines, generator = list(LINES), random.Random(1)
         for room in (1, 100, 1 << 20):
             text = [generator.choice(lines) for _ in range(2000)]
-            with mock.patch.object(_scan, "ROOM", room):
-                ends, events = self.found("".join(line + "\n" for line in text))
-            self.assertEqual(events, [SCANNED[line] for line in text])
+            with mock.patch.object(_lines, "ROOM", room):
+                ends, events = self.told("".join(line + "\n" for line in text))
+            self.assertEqual(events, [LINES[line] for line in text])
             self.assertEqual(ends, list(itertools.accumulate(len(line) + 1 for line in text)))
-        self.assertEqual(self.found(""), ([], []))
+        self.assertEqual(self.told(""), ([], []))
+
+    def test_numbers_of_bad_lines(self):
+        lines, generator = list(LINES), random.Random(2)
+        for room in (1, 100, 1 << 20):
+            text = [generator.choice(lines) for _ in range(300)]
+            with mock.patch.object(_lines, "ROOM", room):
+                bad = _lines.bad_lines("".join(line + "\n" for line in text).encode())
+            self.assertEqual(bad, [number for number, line in enumerate(text, 1) if LINES[line] == BAD])
+        for line, event in LINES.items():
+            self.assertEqual(_lines.holds_event(line.encode()), event not in (None, BAD))
 
 
 TOOL = """
@@ -428,7 +443,12 @@ class Tools(unittest.TestCase):
     def test_parts(self):
         path = self.file("my.trace", LATE.encode())
         status, out, told = self.run_tool("--from", "5.000001", "--until", "6.3", "--cpu", "1-2", "--events", "waking", path)
-        self.assertEqual((status, out, told.count("\n")), (0, "0\n", 1))
+        self.assertEqual((status, out), (0, "0\n"))
+        lost = (
+            "events were lost: 7 of 12 events were overwritten before it begins; the events begin late on CPU 2 (at 6.250000)"
+        )
+        remark = f"tool: {path}: lines are counted from 5.000001 on\n"
+        self.assertEqual(told, f"tool: {path}: {lost}; a wait across such a time may be false\n{remark}")
         self.assertIn("no event of it is taken", self.run_tool("--from", "9", path)[2])
 
     def test_closed_pipe(self):

@@ -32,6 +32,7 @@ HERE = os.path.dirname(os.path.realpath(__file__))
 PYTHON = os.path.realpath(os.path.join(HERE, "..", "..", "python"))
 sys.path[:0] = [PYTHON, HERE, os.path.join(HERE, "..", "model")]
 
+import copies
 import histdesk
 import plain_waits
 import recordings
@@ -42,6 +43,8 @@ with_numpy = unittest.skipUnless(importlib.util.find_spec("numpy"), "numpy is mi
 with_dask = unittest.skipUnless(importlib.util.find_spec("distributed"), "distributed is missing")
 
 COUNT = 200
+# So many events are held by a desk.
+DESK = 1048576
 MASK = 2**64 - 1
 TRIGGER = "hist:keys=comm,pid.log2:vals=prio:sort=prio.descending,pid"
 # Of priority -1, which sums modulo 2^64 have to stand.
@@ -93,13 +96,24 @@ class Kills:
         self.question, self.path, self.guards = question, path, [os.path.join(folder, f"killed{at}") for at in range(times)]
         self.adds_up, self.reading = question.adds_up, getattr(question, "reading", {})
 
-    def ask(self, recording):
-        if recording.path == self.path and any(map(is_first, self.guards)):
+    def kill(self, path):
+        if path == self.path and any(map(is_first, self.guards)):
             os.kill(os.getpid(), signal.SIGKILL)
+
+    def ask(self, recording):
+        self.kill(recording.path)
         return self.question.ask(recording)
 
     def merge(self, parts):
         return self.question.merge(parts)
+
+
+class KillsReading(Kills):
+    """The same of a question that reads recordings itself."""
+
+    def ask_path(self, path, **choice):
+        self.kill(path)
+        return self.question.ask_path(path, **choice)
 
 
 def is_first(guard):
@@ -235,7 +249,7 @@ class OnThisMachine(Alike):
 
     @with_numpy
     def test_by_four_processes_one_of_which_is_killed(self):
-        question = Kills(histdesk.AskWaits("name"), self.paths[77], self.folder)
+        question = KillsReading(histdesk.AskWaits("name"), self.paths[77], self.folder)
         self.holds(many(self.paths, question, processes=4))
         self.assertTrue(os.path.exists(question.guards[0]))
 
@@ -352,6 +366,67 @@ class Questions(Case):
             histdesk.AskWaits("colour")
         with self.assertRaises(ValueError):
             histdesk.AskWaits(kinds=["old"])
+
+
+class Long(Case):
+    """A recording of more events than a desk holds, beside a short one."""
+
+    def setUp(self):
+        super().setUp()
+        self.copies = copies.Copies(recordings.simulated(7, 400).text)
+        self.count = DESK // len(self.copies.lines) + 20
+        self.long = self.put("long", self.copies.text(self.count))
+        self.short = self.put("short", recordings.simulated(10, 100, holes=2).text)
+
+    def waits(self):
+        """The waits of both that aren't doubtful, by name and kind."""
+        found = collections.defaultdict(list)
+        short = plain_waits.waits_of(recordings.simulated(10, 100, holes=2).text)
+        for wait in [*self.copies.waits(plain_waits.waits_of, self.count), *short]:
+            if not wait.doubtful:
+                found[wait.name, wait.kind].append(wait.micros)
+        return found
+
+    @with_numpy
+    def test_waits(self):
+        found = many([self.long, self.short], histdesk.AskWaits("name"), processes=1)
+        wanted = self.waits()
+        self.assertEqual({row.key for row in found.answer.rows() if row.count}, set(wanted))
+        for row in found.answer.rows():
+            micros = sorted(wanted[row.key])
+            if micros:
+                ranks = [-(-len(micros) * percent // 100) for percent in (50, 90, 99)]
+                figures = (row.count, row.total, row.max, [row.p50, row.p90, row.p99])
+                self.assertEqual(figures, (len(micros), sum(micros), micros[-1], [micros[rank - 1] for rank in ranks]))
+        # Nothing was cut.
+        self.assertEqual(
+            [(one.path, one.taken, bool(one.warning)) for one in found.asked],
+            [(self.long, None, False), (self.short, None, True)],
+        )
+        self.assertFalse(any("part" in remark for remark in found.remarks))
+
+    @with_numpy
+    def test_words_of_read(self):
+        """A stretch of time, however long; and lines that can't be read."""
+        with open(self.long, "ab") as file:
+            file.write(b"this is no line of a trace\n")
+        stamps, after = self.copies.stamps, self.copies.after
+        start, until = min(stamps) + after, max(stamps) + (self.count - 2) * after + 1
+        words = {"start": start, "until": until, "lenient": True, "processes": 0}
+        counts = many([self.long], histdesk.AskWaits("kind"), **words).answer
+        waits = self.copies.waits(plain_waits.waits_of, self.count - 2)
+        self.assertEqual((counts.count, counts.whole().total), (len(waits), sum(wait.micros for wait in waits)))
+        found = many([self.long], histdesk.AskWaits("kind"), processes=0, lenient=True)
+        self.assertEqual([one.bad_lines for one in found.asked], [1])
+        (failed,) = many([self.long], histdesk.AskWaits("kind"), processes=0).failed
+        self.assertRegex(failed.why, f"^line {self.count * len(self.copies.lines) + 1}: ")
+
+    @with_numpy
+    def test_rows_are_those_of_a_desk(self):
+        found = many([self.long], histdesk.AskRows("sched_waking", "hist:keys=common_cpu"), processes=0)
+        (asked,) = found.asked
+        self.assertEqual(asked.taken.events, DESK)
+        self.assertTrue(any("the first part was taken alone" in remark for remark in found.remarks))
 
 
 # ---- recordings that can't be asked
@@ -535,7 +610,7 @@ class ByDask(Alike):
             self.client.restart(timeout=120)
 
     def test_workers_one_of_which_is_killed(self):
-        question = Kills(histdesk.AskWaits("name"), self.paths[77], self.folder)
+        question = KillsReading(histdesk.AskWaits("name"), self.paths[77], self.folder)
         self.holds(many(self.paths, question, client=self.client))
         self.assertTrue(os.path.exists(question.guards[0]))
 

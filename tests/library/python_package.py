@@ -422,6 +422,11 @@ class Header(unittest.TestCase):
         "report": _layout.Report,
         "refusal": _layout.Refusal,
         "waits_read": _layout.WaitsRead,
+        "hole": _layout.Hole,
+        "losses_read": _layout.LossesRead,
+        "left_out": _layout.LeftOut,
+        "task_sum": _layout.TaskSum,
+        "cpu_sum": _layout.CpuSum,
         "place": _layout.PLACE,
         "row": _layout.ROW,
         "latency": _layout.LATENCY,
@@ -469,7 +474,7 @@ class Header(unittest.TestCase):
     def test_waits_in_numpy(self):
         """A place in a wait begins with its stamp."""
         sizes = dict(re.findall(r"sizeof\(histdesk_(\w+)\) == ([0-9]+)", self.text))
-        for name, kind in [("wait", _layout.wait_type()), ("hole", _layout.hole_type())]:
+        for name, kind in [("wait", _layout.wait_type()), ("text_line", _layout.line_type())]:
             self.assertEqual(kind.itemsize, int(sizes[name]), name)
             for field, offset in re.findall(rf"AT_\(histdesk_{name}, (\w+), ([0-9]+)\)", self.text):
                 told = kind.fields.get(field) or kind.fields[f"{field}_stamp"]

@@ -15,6 +15,7 @@ import re
 import resource
 import signal
 import socket
+import struct
 import subprocess
 import sys
 import tempfile
@@ -33,6 +34,8 @@ PAGE = os.path.join(PYTHON, "histdesk", "page")
 TRACE = os.path.join(EXAMPLES, "recipes.trace")
 sys.path[:0] = [PYTHON, HERE, os.path.join(HERE, "..", "model")]
 
+import copies
+import plain_waits
 import recordings
 from python_answers import with_numpy, without_numpy
 from python_runner import main
@@ -40,6 +43,8 @@ from python_runner import main
 FILTER = {"recording": 0, "event": "sched_waking", "text": "pid > 100"}
 # The longest that something may take.
 LIMIT = 60
+# So many events are held by a desk.
+DESK = 1048576
 
 
 def environment():
@@ -551,7 +556,7 @@ class Saved(unittest.TestCase):
                 cpu, line = map(int, place.split(":"))
                 asked = {"recording": at, "cpu": cpu, "line": line}
                 self.assertEqual(scenes[place], json.loads(running.post("wait", asked)[2]))
-        self.assertEqual((data["packed"], sorted(data["script"])), (True, ["command", "script"]))
+        self.assertEqual((data["packed"], sorted(data["script"])), (True, ["command", "of", "script"]))
         running.end()
 
     def test_same(self):
@@ -606,6 +611,62 @@ class Saved(unittest.TestCase):
         self.assertEqual((ended.returncode, ended.stderr), (0, b""))
         tool(TRACE, "--save", self.path)
         self.assertEqual(ended.stdout.decode(), self.content())
+
+
+@with_numpy
+class Long(unittest.TestCase):
+    """A recording of more events than a desk holds, by the server and as a saved page."""
+
+    @classmethod
+    def setUpClass(cls):
+        cls.folder = tempfile.TemporaryDirectory()
+        cls.addClassCleanup(cls.folder.cleanup)
+        made = copies.Copies(recordings.simulated(6, 400).text)
+        count = DESK // len(made.lines) + 20
+        cls.trace, cls.page = (os.path.join(cls.folder.name, name) for name in ("long.trace", "long.html"))
+        with open(cls.trace, "wb") as file:
+            file.write(made.text(count))
+        cls.waits, cls.left = (
+            made.waits(lambda text, patterns=patterns: plain_waits.waits_of(text, plain_waits.like(patterns)), count)
+            for patterns in ([], [re.compile(rb"sched_waking: .* pid=10[0-9] ")])
+        )
+
+    def lengths(self, content):
+        """The microseconds of waits in the binary form."""
+        count = len(self.waits)
+        return struct.unpack_from(f"<{count}I", content, 8 * count)
+
+    def test_server(self):
+        running = Running(self.trace, "--no-browser")
+        about = json.loads(running.get("about")[2])["recordings"][0]
+        self.assertGreater(about["events"], DESK)
+        self.assertEqual(about["waits"], len(self.waits))
+        content = running.get("waits.bin?recording=0")[2]
+        self.assertTrue(self.lengths(content) == tuple(wait.micros for wait in self.waits))
+        answer = json.loads(running.post("strike", {"strikes": [{"event": "sched_waking", "text": "pid < 110"}]})[2])
+        taken = len(base64.b64decode(answer["changed"]["taken"])) // 4
+        self.assertEqual(len(self.waits) - taken + answer["changed"]["count"], len(self.left))
+        self.assertIn(
+            f"{len({wait.end for wait in self.waits} - {wait.end for wait in self.left})} waits are gone", answer["report"][1]
+        )
+        last = self.waits[-1]
+        told = json.loads(running.post("wait", {"recording": 0, "cpu": last.end.cpu, "line": last.end.line})[2])
+        self.assertEqual((told["begin"], told["end"], told["pid"]), (last.begin.stamp, last.end.stamp, last.pid))
+        self.assertEqual(running.end(), (-signal.SIGINT, b"", b""))
+
+    def test_saved(self):
+        ended = tool(self.trace, "--save", self.page)
+        self.assertEqual((ended.returncode, ended.stdout, ended.stderr), (0, b"", b""))
+        with open(self.page, encoding="utf-8") as file:
+            data = json.loads(re.search("<script>window.SAVED = ([^<]*)</script>", file.read())[1])
+        self.assertEqual(data["about"]["recordings"][0]["waits"], len(self.waits))
+        content = gzip.decompress(base64.b64decode(data["waits"][0]))
+        self.assertTrue(self.lengths(content) == tuple(wait.micros for wait in self.waits))
+        scenes = json.loads(gzip.decompress(base64.b64decode(data["scenes"][0])))
+        worst = sorted(self.waits, key=lambda wait: (-wait.micros, wait.end))[:200]
+        told = {f"{wait.end.cpu}:{wait.end.line}": (wait.begin.stamp, wait.end.stamp, wait.pid) for wait in worst}
+        self.assertEqual({place: (one["begin"], one["end"], one["pid"]) for place, one in scenes.items()}, told)
+        self.assertTrue(all(len(one["cpus"]) == 4 and "lost" not in one["text"] for one in scenes.values()))
 
 
 @without_numpy

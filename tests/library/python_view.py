@@ -32,6 +32,7 @@ EXAMPLES = os.path.realpath(os.path.join(HERE, "..", "..", "examples"))
 sys.path[:0] = [PYTHON, HERE, os.path.join(HERE, "..", "model")]
 HISTDESK = os.path.realpath(sys.argv.pop(1)) if len(sys.argv) > 1 and os.path.isfile(sys.argv[1]) else None
 
+import copies
 import histdesk
 import plain_waits
 import recordings
@@ -56,6 +57,8 @@ COLUMNS = [
     ("doubtful", "B"),
 ]
 KINDS = ["woken", "new", "preempted"]
+# So many events are held by a desk.
+DESK = 1048576
 # Filters, by their event, and the lines that they mean.
 FILTERS = {
     ("sched_waking", "pid < 110"): rb"sched_waking: .* pid=10[0-9] ",
@@ -73,9 +76,16 @@ def recording_of(text, **choice):
         return _recording.read(text, spare=_waits.SPARE, **choice)
 
 
+def waits_quietly(trace):
+    """The waits of a trace, without warnings."""
+    with warnings.catch_warnings():
+        warnings.simplefilter("ignore", histdesk.LossWarning)
+        return histdesk.waits(trace)
+
+
 def view_of(*texts):
     """What a page shows of texts."""
-    return _view.View([_view.Side(recording_of(text)) for text in texts], "tools/view")
+    return _view.View([_view.Side(waits_quietly(text)) for text in texts], "tools/view")
 
 
 def example(name):
@@ -127,46 +137,20 @@ def after(view, answer):
     about = view.about()["recordings"][0]
     taken = base64.b64decode(answer["changed"]["taken"])
     places = struct.unpack(f"<{len(taken) // 4}I", taken)
-    assert list(places) == sorted(set(places))
-    left = [wait for at, wait in enumerate(waits_in(view)) if at not in set(places)]
+    gone = set(places)
+    assert list(places) == sorted(gone)
+    left = [wait for at, wait in enumerate(waits_in(view)) if at not in gone]
     new = told(unpacked(base64.b64decode(answer["changed"]["new"]), answer["changed"]["count"]), about)
     return left, new
 
 
-def without(text, strikes):
-    """A text of which the lines of events are comments that some filters mean, and how many lines each means. So lines keep
-    their order, but not their number on a CPU."""
+def reckoned(text, strikes):
+    """The waits without the events that some filters mean, by the plain reckoning, and how many events each of them means."""
     patterns = [re.compile(FILTERS[one]) for one in strikes]
     lines = text.split(b"\n")
-    counts = [sum(bool(pattern.search(line)) for line in lines) for pattern in patterns]
-    return b"\n".join(b"# " if any(pattern.search(line) for pattern in patterns) else line for line in lines), counts
-
-
-def renumbered(waits, text, stripped):
-    """Waits of a stripped text with the lines of the whole one."""
-    lines, known = {}, {}
-    for whole, left in zip(text.split(b"\n"), stripped.split(b"\n")):
-        event = plain_waits.LINE.fullmatch(whole.decode("utf-8", "surrogateescape"))
-        if event:
-            cpu = int(event["cpu"])
-            lines[cpu] = lines.get(cpu, 0) + 1
-            if left == whole:
-                known.setdefault(cpu, []).append(lines[cpu])
-    return [
-        wait._replace(
-            begin=wait.begin._replace(line=known[wait.begin.cpu][wait.begin.line - 1]),
-            end=wait.end._replace(line=known[wait.end.cpu][wait.end.line - 1]),
-        )
-        for wait in waits
+    return plain_waits.waits_of(text, plain_waits.like(patterns)), [
+        sum(bool(pattern.search(line)) for line in lines) for pattern in patterns
     ]
-
-
-def reckoned(text, strikes):
-    """The waits without the events that some filters mean, by the plain reckoning; where events were lost is known."""
-    stripped, counts = without(text, strikes)
-    gaps = plain_waits.gaps_of(text)
-    with unittest.mock.patch.object(plain_waits, "gaps_of", lambda text: list(gaps)):
-        return renumbered(plain_waits.waits_of(stripped), text, stripped), counts
 
 
 def program(*lines, trace):
@@ -266,9 +250,12 @@ class Shown(unittest.TestCase):
         text = text_of([waking(0, 5, 7)])
         self.assertEqual(
             view_of(text).about()["recordings"][0]["remarks"],
-            ["no sched_switch began a wait, so nothing is known of preempted ones"],
+            [
+                "no sched_waking began a wait, so nothing is known of woken ones",
+                "no sched_switch began a wait, so nothing is known of preempted ones",
+            ],
         )
-        side = _view.Side(recording_of(text, until=7), ["a line"])
+        side = _view.Side(waits_quietly(text), ["a line"])
         self.assertEqual(side.about()["remarks"][0], "a line")
 
     def test_two(self):
@@ -281,45 +268,55 @@ class Shown(unittest.TestCase):
                 with self.assertRaisesRegex(ValueError, f"there is no recording {number}"):
                     ask(number)
 
-    def test_part(self):
-        """Lines are those of the whole recording where a part of it was taken."""
+    def test_stretch_of_time(self):
+        """A stretch of time is shown as a recording of its events alone; lines are counted from its first event on."""
         text = recordings.simulated(3).text
         stamps = sorted(event.place.stamp for event in plain_waits.events_of(text))
         start, until = stamps[len(stamps) // 4], stamps[-20]
-        side = _view.Side(recording_of(text, start=start, until=until))
-        view = _view.View([side])
-        kept = [wait for wait in plain_waits.waits_of(text) if wait.begin.stamp >= start and wait.end.stamp < until]
-        found = [wait for wait in waits_in(view) if wait.begin.stamp >= start]
-        self.assertEqual([wait for wait in found if wait in kept], kept)
-        strikes = [("sched_waking", "pid < 110")]
-        answer = view.strike(strikes)
-        left, new = after(view, answer)
-        lines = [line for line in text.split(b"\n") if b": sched_waking:" in line and re.search(FILTERS[strikes[0]], line)]
-        self.assertEqual(answer["struck"], [sum(start <= stamp_of(line) < until for line in lines)])
-        self.assertGreater(len(waits_in(view)), len(left))
-        answer = view.strike([])
-        self.assertEqual((answer["changed"]["count"], answer["changed"]["taken"]), (0, ""))
+        left = b"\n".join(line for line in text.split(b"\n") if b": sched_" in line and start <= stamp_of(line) < until)
+        view = _view.View([_view.Side(waits_quietly(recording_of(text, start=start, until=until)))])
+        self.assertEqual(waits_in(view), plain_waits.waits_of(left))
+        self.assertIn(f"lines are counted from 1.{start - 1000000:06} on", view.about()["recordings"][0]["remarks"])
+        for strikes in ([("sched_waking", "pid < 110")], []):
+            answer = view.strike(strikes)
+            waits, counts = reckoned(left, strikes)
+            self.assertEqual(sorted(sum(after(view, answer), []), key=lambda wait: wait.end), waits)
+            self.assertEqual(answer["struck"], counts)
+        first = waits_in(view)[0]
+        told = view.wait(0, (first.end.cpu, first.end.line))
+        self.assertEqual((told["begin"], told["end"]), (first.begin.stamp, first.end.stamp))
+        self.assertGreaterEqual(told["from"], start)
         self.assertIn("part of one", view.script(0, _view.Asked("sched_waking", "", "hist:keys=pid"), [])["refused"])
 
-    def test_long_parts(self):
-        """Of a trace with more events than a desk holds those are left out that no wait needs; one wait is told with them."""
-        lines, limit = [], 25
+    def test_chosen_events(self):
+        """Of events of some names a desk holds as many as it has room for; lines are those of the whole recording."""
+        lines = []
         for at in range(1000, 2000, 100):
             lines += [waking(0, at, 7, target=1), waking(0, at + 3, 7, target=1, event="sched_wakeup")]
             lines.append(switch(1, at + 9, "<idle>-0", "w-7", state="R"))
-        with tempfile.TemporaryDirectory() as folder:
-            path = os.path.join(folder, "my.trace")
-            with open(path, "wb") as file:
-                file.write(text_of(lines))
-            with unittest.mock.patch.object(_recording, "LIMIT", limit), unittest.mock.patch("histdesk._part.LIMIT", limit):
-                view = view_of(path)
-                about = view.about()["recordings"][0]
-                answer = view.wait(0, (1, 9))
-        self.assertEqual((about["events"], about["path"], about["waits"]), (20, path, 10))
-        # The lines are those of the whole file.
+        side = _view.Side(recording_of(text_of(lines), events=["sched_waking", "sched_switch"]), ["a line"])
+        view, about = _view.View([side]), side.about()
+        self.assertEqual((about["events"], about["waits"], about["remarks"][0]), (20, 10, "a line"))
         self.assertEqual([wait.begin.line for wait in waits_in(view)], list(range(1, 20, 2)))
-        marks = [(mark["what"], mark["cpu"], mark["stamp"]) for mark in answer["marks"]]
-        self.assertEqual(marks, [("woken", 0, 1800), ("queued", 1, 1803), ("ran", 1, 1809)])
+        answer = view.strike([("sched_waking", "pid == 7")])
+        self.assertEqual((answer["struck"], answer["changed"]["count"]), ([10], 0))
+        marks = [(mark["what"], mark["cpu"], mark["stamp"]) for mark in view.wait(0, (1, 9))["marks"]]
+        self.assertEqual(marks, [("woken", 0, 1800), ("ran", 1, 1809)])
+        self.assertEqual(view.filter(0, "sched_switch", "next_pid == 7")["count"], 10)
+        self.assertIn("part of one", view.script(0, _view.Asked("sched_waking", "", "hist:keys=pid"), [])["refused"])
+
+    def test_any_order(self):
+        """Of a recording that isn't in the order of time a desk holds the events."""
+        known = recordings.simulated(2)
+        lines = known.text.split(b"\n")
+        text = b"\n".join(sorted((line for line in lines if b": sched_" in line), key=lambda line: line.partition(b"[")[2][:3]))
+        side = _view.Side(recording_of(text))
+        view = _view.View([side])
+        self.assertEqual(waits_in(view), plain_waits.waits_of(text))
+        strikes = [("sched_waking", "pid < 110")]
+        waits, counts = reckoned(text, strikes)
+        answer = view.strike(strikes)
+        self.assertEqual((sorted(sum(after(view, answer), []), key=lambda wait: wait.end), answer["struck"]), (waits, counts))
 
 
 def stamp_of(line):
@@ -408,8 +405,8 @@ class Triggers(unittest.TestCase):
                 list(answer["totals"].values()), list(map(int, re.findall("[a-z]+ ([0-9]+)", printed.split("\n")[-2])))
             )
             self.assertEqual(answer["more"], 0)
-        # Nothing stays attached but what measures waits.
-        self.assertEqual(len(view.sides[0].ended.desk.triggers()), 6)
+        # Nothing stays attached.
+        self.assertEqual(view.sides[0].again.held.desk.triggers(), [])
 
     def test_many_rows(self):
         lines = [waking(0, 1000 + at, 100 + at) for at in range(1500)]
@@ -655,15 +652,44 @@ class Strikes(unittest.TestCase):
                 view.strike([(event, "")])
 
     def test_no_memory(self):
-        """Where memory runs out between two strikes, the next one begins from the whole recording."""
+        """Where memory runs out in a strike, what was struck before stays struck."""
         text = recordings.simulated(2).text
         view = view_of(text)
-        self.check(view, text, [("sched_waking", "pid < 110")])
-        with unittest.mock.patch("histdesk._struck.Struck._put_back", side_effect=MemoryError):
+        kept = [("sched_waking", "pid < 110")]
+        self.check(view, text, kept)
+        new = view.filter(0, "sched_switch", "next_pid & 1")["new"]
+        with unittest.mock.patch("histdesk._again.again_without", side_effect=MemoryError):
             with self.assertRaises(MemoryError):
-                view.strike([])
+                view.strike([("sched_switch", "")])
+        self.assertEqual(view.filter(0, "sched_switch", "next_pid & 1")["new"], new)
         self.check(view, text, [("sched_waking", "pid == 104 || pid > 110")])
         self.check(view, text, [])
+
+    def test_tables_of_one_desk_after_the_other(self):
+        """A desk without some events serves for more of them, and a new one is made where some come back."""
+        text = example("recipes.trace")
+        view = view_of(text)
+        for condition, hits in (("pid < 60", 64), ("pid > 0", 0), ("pid < 60", 64), ("common_pid == 24659", 62), ("", 0)):
+            view.strike([("sched_waking", condition)])
+            self.assertEqual(view.trigger(0, "sched_waking", "hist:keys=pid")["totals"]["hits"], hits, condition)
+        for strikes, hits in (([("sched_waking", "pid < 60")], 64), ([("sched_waking", "pid < 60"), ("sched_waking", "")], 0)):
+            view.strike(strikes)
+            self.assertEqual(view.trigger(0, "sched_waking", "hist:keys=pid")["totals"]["hits"], hits)
+
+    def test_new_names(self):
+        """A new wait's task may be called as none was before."""
+        lines = [
+            waking(0, 1000, 1),
+            switch(0, 1100, "<idle>-0", "a-1", state="R"),
+            switch(1, 1200, "<idle>-0", "b-1", state="R"),
+        ]
+        view = view_of(text_of(lines))
+        self.assertEqual([(wait.name, wait.micros) for wait in waits_in(view)], [("a", 100)])
+        # Without the switch that ran it, it waits until the other one, which nobody knows how it came about.
+        answer = view.strike([("sched_switch", "common_cpu == 0")])
+        self.assertEqual(answer["changed"]["tasks"], {1: "b"})
+        self.assertEqual([(wait.name, wait.micros) for wait in after(view, answer)[1]], [("b", 200)])
+        self.assertEqual(view.strike([])["changed"]["tasks"], {})
 
     def test_many(self):
         """After thousands of strikes nothing is lost: the last answers are those of a new desk."""
@@ -703,6 +729,93 @@ def rows_reckoned(before, after):
 def figures_of(waits):
     figures = plain_waits.figures_of(waits, False)
     return tuple(figures[name] for name in ("count", "total", "p50", "p99", "max")) if figures["count"] else None
+
+
+@with_numpy
+class Long(unittest.TestCase):
+    """A recording of more events than a desk holds: copies of a small one, of which the plain reckoning is asked."""
+
+    STRIKES = [("sched_waking", "pid == 104 || pid > 110"), ("sched_switch", "next_pid & 1")]
+
+    @classmethod
+    def setUpClass(cls):
+        cls.copies = copies.Copies(recordings.simulated(4, 400).text)
+        cls.count = DESK // len(cls.copies.lines) + 20
+        cls.folder = tempfile.TemporaryDirectory()
+        cls.addClassCleanup(cls.folder.cleanup)
+        cls.path = os.path.join(cls.folder.name, "long.trace")
+        with open(cls.path, "wb") as file:
+            file.write(cls.copies.text(cls.count))
+        cls.waits = cls.copies.waits(plain_waits.waits_of, cls.count)
+        cls.view = view_of(cls.path)
+
+    def test_waits(self):
+        about = self.view.about()["recordings"][0]
+        self.assertEqual((about["events"], about["waits"]), (self.count * len(self.copies.lines), len(self.waits)))
+        self.assertGreater(about["events"], DESK)
+        self.same(waits_in(self.view), self.waits)
+
+    def same(self, found, wanted):
+        """Two long lists are the same. Of such lists a test would look for what differs all day."""
+        self.assertEqual(len(found), len(wanted))
+        differ = next((pair for pair in zip(found, wanted) if pair[0] != pair[1]), None)
+        self.assertIsNone(differ)
+
+    def test_strikes(self):
+        answer = self.view.strike(self.STRIKES)
+        left, new = after(self.view, answer)
+        counts = [sum(map(bool, map(re.compile(FILTERS[one]).search, self.copies.lines))) for one in self.STRIKES]
+        self.assertEqual(answer["struck"], [count * self.count for count in counts])
+        wanted = self.copies.waits(lambda text: reckoned(text, self.STRIKES)[0], self.count)
+        self.same(sorted([*left, *new], key=lambda wait: wait.end), wanted)
+        self.assertTrue(left and new)
+        # A filter chooses of them too, and of those that were there before.
+        found = self.view.filter(0, "sched_switch", "next_pid == 103")
+        masks = bits_of(found["chosen"], len(self.waits)), bits_of(found["new"], len(new))
+        for waits, mask in zip((self.waits, new), masks):
+            self.same(mask, [wait.pid == 103 for wait in waits])
+        found = self.view.filter(0, "sched_waking", "common_cpu == 1")
+        mask = [wait.kind == "woken" and wait.begin.cpu == 1 for wait in self.waits]
+        self.same(bits_of(found["chosen"], len(self.waits)), mask)
+        self.view.strike([])
+
+    def test_refused(self):
+        answer = self.view.filter(0, "sched_switch", "next_pid ==> 3")
+        self.assertEqual(answer, {"refused": "the filter can't be read: no such thing may stand here", "at": 11})
+
+    def test_one_wait(self):
+        """A wait far behind is told as the same one near the beginning."""
+        # Both are the last one of a copy after which one more comes.
+        far, near = self.copies.later(self.waits[-1], -1), self.copies.later(self.waits[-1], 3 - self.count)
+        short = view_of(self.copies.text(4))
+        told = [view.wait(0, (wait.end.cpu, wait.end.line)) for view, wait in ((self.view, far), (short, near))]
+        moved = (self.count - 4) * self.copies.after
+        self.assertEqual(told[0]["begin"], told[1]["begin"] + moved)
+        self.assertEqual(
+            [(lane["cpu"], [(one["task"], one["begin"]) for one in lane["stretches"]]) for lane in told[0]["cpus"]],
+            [(lane["cpu"], [(one["task"], one["begin"] + moved) for one in lane["stretches"]]) for lane in told[1]["cpus"]],
+        )
+        self.assertEqual((told[0]["from"], told[0]["until"]), tuple(told[1][name] + moved for name in ("from", "until")))
+
+    def test_waits_that_lie_together(self):
+        """Waits that are told from events which are read once are told as each by itself."""
+        side, count = self.view.sides[0], len(self.waits)
+        some = [*range(20), *range(count // 2, count // 2 + 20), *range(0, count, count // 10), *range(count - 20, count)]
+        told = list(side.strips(side.waits[sorted(set(some))], 5000))
+        self.assertEqual(len(told), len(set(some)))
+        for place, strip in told:
+            self.assertEqual(strip, side.wait(place))
+
+    def test_first_events(self):
+        """A trigger's table and the script are of what a desk holds, and say so."""
+        answer = self.view.trigger(0, "sched_waking", "hist:keys=common_cpu")
+        lines = [line for line in self.copies.text(self.count).split(b"\n")[:DESK]]
+        stamp = re.search(rb" ([0-9]+\.[0-9]+): ", lines[-1])[1].decode()
+        self.assertEqual(answer["of"], f"the first {DESK:,} events, to {stamp}")
+        self.assertEqual(answer["totals"]["hits"], sum(b": sched_waking: " in line for line in lines))
+        answer = self.view.script(0, _view.Asked("sched_waking", "", "hist:keys=pid"), [])
+        self.assertEqual(answer["command"], f"./histdesk view.script <(head -n {DESK} {self.path})")
+        self.assertEqual(answer["of"], f"the first {DESK:,} events, to {stamp}")
 
 
 @with_numpy

@@ -33,7 +33,7 @@ sys.path[:0] = [PYTHON, os.path.join(HERE, "..", "model")]
 import histdesk
 import plain_waits
 import recordings
-from histdesk import Counts, LossWarning, Refused, _part, _recording, _stream, _waits
+from histdesk import Counts, LossWarning, Refused, _part, _pieces, _recording, _stream, _waits
 from python_answers import with_numpy, with_pandas, without_numpy
 from python_runner import main
 from recordings import Known, Place, Wait, switch, text_of, waking
@@ -169,8 +169,12 @@ class Parts(unittest.TestCase):
     def test_time(self):
         known = recordings.kinds()
         found = waits_of(histdesk.read(known.text, start=1000300, until=1000500))
-        # What began before isn't known; places are those of the whole text.
-        self.assertEqual(told(found), [wait for wait in known.waits if wait.kind == "new"])
+        # What began before isn't known; lines are counted from the first event on.
+        places = [(wait.begin[1:], wait.end[1:]) for wait in told(found)]
+        self.assertEqual(places, [((0, 1), (3, 1)), ((0, 4), (3, 3))])
+        news = [wait for wait in known.waits if wait.kind == "new"]
+        self.assertEqual([wait.micros for wait in told(found)], [wait.micros for wait in news])
+        self.assertEqual((found.lines_from, found.remarks()[-1]), (1000300, "lines are counted from 1.000300 on"))
         self.assertEqual((found.held.events, found.held.first, found.held.last, found.held.cpus), (7, 1000300, 1000407, (0, 3)))
 
     def test_cpus(self):
@@ -183,12 +187,18 @@ class Parts(unittest.TestCase):
             found = waits_of(known.text)
         # A trace is read as a whole, however many events it has.
         self.assertEqual((found.held.events, told(found)), (26, list(known.waits)))
-        with mock.patch.object(_part, "LIMIT", 25), mock.patch.object(_recording, "LIMIT", 25):
-            found = waits_of(histdesk.read(known.text, spare=_waits.SPARE))
+        with mock.patch.object(_part, "LIMIT", 20), mock.patch.object(_recording, "LIMIT", 20):
+            recording = histdesk.read(known.text, spare=_waits.SPARE)
+            found = waits_of(recording)
+        # And so is a recording of which a desk holds a part.
+        self.assertEqual((recording.taken.events, found.held.events, found.remarks()), (20, 26, []))
+        self.assertEqual(told(found), list(known.waits))
+        names = ["sched_waking", "sched_wakeup_new", "sched_switch"]
+        found = waits_of(histdesk.read(known.text, events=names))
         # The one sched_wakeup is left out, and its line is still counted.
         self.assertEqual((found.held.events, found.remarks(), told(found)), (25, [], list(known.waits)))
         with mock.patch.object(_part, "LIMIT", 20), mock.patch.object(_recording, "LIMIT", 20):
-            found = waits_of(histdesk.read(known.text, spare=_waits.SPARE))
+            found = waits_of(histdesk.read(known.text, events=names))
         self.assertEqual((found.held.events, told(found)), (20, list(known.waits[:7])))
         self.assertEqual(found.remarks(), ["this is a part of the recording; the next one begins at 1.000600"])
 
@@ -234,7 +244,7 @@ class Streams(unittest.TestCase):
         for seed in range(12):
             text = in_time(noise(seed))
             for piece in (1 << 22, 4096, 100, 31):
-                with mock.patch.object(_stream, "PIECE", piece), mock.patch.object(_stream, "CHUNK", 16):
+                with mock.patch.object(_pieces, "PIECE", piece), mock.patch.object(_stream, "CHUNK", 16):
                     self.assertEqual(told(waits_of(text)), plain_waits.waits_of(text), (seed, piece))
 
     def test_sources(self):
@@ -257,12 +267,13 @@ class Streams(unittest.TestCase):
             histdesk.waits(7)
 
     def test_order(self):
-        """A text that isn't in the order of time is read too, if it can be read again."""
+        """A text that isn't in the order of time is read too, if it can be read again, or was kept."""
         text = noise(5)
         self.assertNotEqual(text, in_time(text))
-        self.assertEqual(told(waits_of(text)), plain_waits.waits_of(text))
+        for trace in (text, Dripping(text), gzip.compress(text), Dripping(gzip.compress(text))):
+            self.assertEqual(told(waits_of(trace)), plain_waits.waits_of(text))
         with self.assertRaisesRegex(ValueError, "^line [0-9]+: its stamp is before that of the event above it"):
-            waits_of(Dripping(text))
+            _waits.waits_of_text(Dripping(text), keeps=False)
 
     def test_bad_lines(self):
         known = recordings.kinds()
@@ -285,7 +296,7 @@ class Streams(unittest.TestCase):
         lines = [waking(0, 5, 7), waking(0, 6, 8), waking(1, 20, 9), switch(0, 30, "x-1", "a-7"), switch(0, 40, "a-7", "c-9")]
         text = text_of(lines, in_buffer=5, lost=4)
         for piece in (1 << 22, 64):
-            with mock.patch.object(_stream, "PIECE", piece):
+            with mock.patch.object(_pieces, "PIECE", piece):
                 found = waits_of(text)
             self.assertEqual(found.holes, histdesk.read(text).holes)
             self.assertEqual([(wait.pid, wait.doubtful) for wait in told(found)], [(7, True), (9, False)])
@@ -769,15 +780,14 @@ def tracing():
 class ThisMachine(unittest.TestCase):
     """A recording of the machine that runs the test, whose buffer is too small on purpose."""
 
-    # Two processes that wake each other by turns, until an alarm ends each.
-    BUSY = """import os, signal
+    # Two processes that wake each other by turns, far more often than the buffer has room for.
+    BUSY = """import os
 a, b = os.pipe(), os.pipe()
 is_first = os.fork() > 0
 mine, other = (a, b) if is_first else (b, a)
-signal.setitimer(signal.ITIMER_REAL, 0.8)
 if is_first:
     os.write(mine[1], b"x")
-while True:
+for _ in range(5000):
     os.read(other[0], 1)
     os.write(mine[1], b"x")
 """
@@ -785,9 +795,9 @@ while True:
     def test_losses_are_told(self):
         with tempfile.TemporaryDirectory() as folder:
             path = os.path.join(folder, "my.trace")
-            with subprocess.Popen([sys.executable, "-c", self.BUSY]), open(path, "wb") as file:
-                words = [os.path.join(os.path.dirname(TOOL), "record"), "--buffer", "16", "0.3"]
-                subprocess.run(words, stdout=file, stderr=subprocess.PIPE, check=True)
+            record = os.path.join(os.path.dirname(TOOL), "record")
+            words = [record, "--buffer", "16", "-o", path, "--", sys.executable, "-c", self.BUSY]
+            subprocess.run(words, stdout=subprocess.DEVNULL, stderr=subprocess.PIPE, check=True)
             ran = subprocess.run(
                 [sys.executable, "-B", TOOL, path, "--json"], stdout=subprocess.PIPE, stderr=subprocess.PIPE, check=True
             )

@@ -1,5 +1,6 @@
 #!/usr/bin/env python3
-"""python_why.py: what is told of a wait, by the package and by tools/why (why_command.py). The values are written by hand; of
+"""python_why.py: what is told of a wait, by the package and by tools/why (why_command.py), and from
+slices of a recording (why_slices.py). The values are written by hand; of
 simulated machines, what ran is reckoned microsecond by microsecond. The last line says how many of the tests hold.
 
     python_why.py [TEST]...
@@ -8,6 +9,7 @@ simulated machines, what ran is reckoned microsecond by microsecond. The last li
 import bisect
 import doctest
 import os
+import pickle
 import sys
 import unittest
 import warnings
@@ -21,6 +23,7 @@ sys.path[:0] = [PYTHON, os.path.join(HERE, "..", "model")]
 
 import histdesk
 import why_command
+import why_slices
 from histdesk import Hole, Share, Stretch
 from python_answers import with_numpy
 from python_runner import main
@@ -90,6 +93,11 @@ class Told(unittest.TestCase):
         # A desk, what was read, and an open file.
         self.assertEqual(told(desk_of(trace(*BUSY)), 0, 1), whole._replace(context=None))
         self.assertEqual(told(histdesk.read(trace(*BUSY)), 0, 1), whole)
+        # Waits, of which the events around one are read again; they can't be if they were pickled.
+        waits = histdesk.waits(trace(*BUSY))
+        self.assertEqual(told(waits, 0, 1), whole)
+        with self.assertRaisesRegex(ValueError, "can't be read again"):
+            told(pickle.loads(pickle.dumps(waits)), 0, 1)
         # A struck event is no part of a wait.
         desk = desk_of(trace(*BUSY))
         desk.strike(0, 2)
@@ -325,6 +333,16 @@ class Lost(unittest.TestCase):
         self.assertTrue(why.doubtful)
         self.assertEqual([(stretch.pid, stretch.micros) for stretch in why.stretches], [(None, 600), (10, 0), (11, 100)])
         self.assertIn("Doubtful: CPU 1 lost events between the beginning and 1.000700 (line 2 of the text)", str(why))
+
+    def test_warning(self):
+        """What was lost is told once."""
+        text = trace(waking("x-5", 0, 1000000, "w", 42, 1), "CPU:0 [LOST 3 EVENTS]", switch(0, 1000100, "a-1", "S", "w-42"))
+        with warnings.catch_warnings(record=True) as warned:
+            warnings.simplefilter("always")
+            for whose in (text, histdesk.read(text), histdesk.waits(text)):
+                self.assertTrue(histdesk.why(whose, 0, 1).doubtful)
+        self.assertEqual([one.category for one in warned], [histdesk.LossWarning] * 3)
+        self.assertEqual({one.filename for one in warned}, {__file__})
 
     def test_hole_elsewhere(self):
         """What ran on its own CPU is known, and the wait is doubtful all the same."""
@@ -631,4 +649,4 @@ def told_at_begin(desk, wait):
 
 
 if __name__ == "__main__":
-    sys.exit(main(why_command))
+    sys.exit(main(why_command, why_slices))

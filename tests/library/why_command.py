@@ -1,14 +1,12 @@
-"""Tests of tools/why, and of the parts that it takes of long files; python_why.py runs them."""
+"""Tests of tools/why; python_why.py runs them."""
 
 import os
 import subprocess
 import sys
 import tempfile
 import unittest
-from unittest import mock
 
-import histdesk
-from histdesk import Share, _layout, _part, _recording, _waits, _why
+from histdesk import _layout
 from python_answers import with_numpy
 from recordings import all_known
 from why_traces import BUSY, BUSY_TOLD, switch, trace, waking
@@ -82,16 +80,42 @@ class Places(Command):
         ran = subprocess.run([sys.executable, "-B", TOOL, "--help"], stdout=subprocess.PIPE, check=False)
         self.assertEqual((ran.returncode, ran.stdout[:6]), (0, b"usage:"))
 
-    def test_lines_of_the_whole_trace(self):
-        """Where a part is taken, places are those of the file."""
-        status, out, told = self.ran(trace(*BUSY), "2:4", "--from", "1.000050")
-        self.assertEqual((status, told), (0, ""))
+    def test_stretch_of_time(self):
+        """Lines are counted from its first event on, which is said."""
+        status, out, told = self.ran(trace(*BUSY), "2:3", "--from", "1.000050")
+        self.assertEqual((status, told), (0, "why: TRACE: lines are counted from 1.000100 on\n"))
         self.assertIn("  1.000100  0:1  bash-7 on CPU 0 woke it", out)
         self.assertIn("2:3", out)
-        self.assertEqual(
-            self.ran(trace(*BUSY), "2:1", "--from", "1.000050")[::2],
-            (1, "why: no event of CPU 2 is at line 1: its lines are 2 to 4\n"),
+        status, out, told = self.ran(trace(*BUSY), "2:4", "--from", "1.000050")
+        self.assertEqual((status, told.split("\n")[1]), (1, "why: no event of CPU 2 is at line 4: its lines are 1 to 3"))
+
+    def test_chosen_events(self):
+        """Those that are left out keep their numbers, and a wait that needs them isn't told."""
+        status, out, told = self.ran(trace(*BUSY), "2:4", "--events", "waking,switch")
+        self.assertEqual((status, told), (0, ""))
+        self.assertNotIn("it was queued", out)
+        self.assertIn("  1.000500  2:4  it ran on CPU 2", out)
+
+    def test_any_order(self):
+        """Of a trace that isn't in the order of time a desk holds the events; it must be a file."""
+        text = trace(*reversed(BUSY))
+        status, out, told = self.ran(text)
+        self.assertEqual((status, told, out.split("\n")[0]), (0, "", BUSY_TOLD.split("\n")[0]))
+        ran = subprocess.run(
+            [sys.executable, "-B", TOOL, "-"], input=text, stdout=subprocess.PIPE, stderr=subprocess.PIPE, check=False
         )
+        self.assertEqual((ran.returncode, ran.stdout, ran.stderr.count(b"\n")), (2, b"", 1))
+        self.assertIn(b"such a trace must be a file", ran.stderr)
+
+    def test_standard_input(self):
+        ran = subprocess.run([sys.executable, "-B", TOOL, "-"], input=trace(*BUSY), stdout=subprocess.PIPE, check=False)
+        self.assertEqual((ran.returncode, ran.stdout.decode()), (0, BUSY_TOLD + "\n"))
+
+    def test_lenient(self):
+        """Lines that can't be read are left out, and no event before or after them is another one."""
+        status, out, told = self.ran(trace("torn", *BUSY, "torn too"), "--lenient")
+        self.assertEqual((status, out), (0, BUSY_TOLD + "\n"))
+        self.assertEqual(told, "why: TRACE: 2 lines can't be read and are left out: the first is 1\n")
 
     def test_closed_pipe(self):
         path = os.path.join(self.folder, "long")
@@ -156,87 +180,6 @@ class Chosen(Command):
         status, out, told = self.ran(text, "--doubtful")
         self.assertEqual((status, told.count("\n"), out.split(" ")[0]), (0, 1, "thrown-44"))
         self.assertEqual(out.split("\n")[1][:47], "Doubtful: CPU 2 lost events between the beginni")
-
-
-@with_numpy
-class Parts(unittest.TestCase):
-    """A file of more events than a desk holds: the part is taken in which the event is."""
-
-    def setUp(self):
-        folder = tempfile.TemporaryDirectory()
-        self.addCleanup(folder.cleanup)
-        self.path = os.path.join(folder.name, "long.trace")
-        for module in (_part, _recording):
-            limit = mock.patch.object(module, "LIMIT", 40)
-            limit.start()
-            self.addCleanup(limit.stop)
-
-    def scene(self, lines, cpu, line, **choice):
-        with open(self.path, "wb") as file:
-            file.write(trace(*lines))
-        recording = histdesk.read(self.path, **choice)
-        return _why.scene_with(recording, cpu, line)
-
-    def test_far_event(self):
-        """Sixty waits of 10 us, 100 us apart, each with three events: on CPU 0 the waking, on CPU 1 the rest."""
-        lines = []
-        for number in range(60):
-            now = 1000000 + 100 * number
-            lines += [
-                waking("<idle>-0", 0, now, "w", 42, 1, flags="d.s1."),
-                switch(1, now + 10, "swapper/1-0", "R", "w-42", task="<idle>-0"),
-                switch(1, now + 30, "w-42", "S", "swapper/1-0"),
-            ]
-        for number in (0, 20, 59):
-            for cpu, line in ((0, number + 1), (1, 2 * number + 1)):
-                scene = self.scene(lines, cpu, line)
-                why = _why.told_at(scene, cpu, line)
-                begin = 1000000 + 100 * number
-                self.assertEqual((why.begin[:3], why.end[:3]), ((begin, 0, number + 1), (begin + 10, 1, 2 * number + 1)))
-                self.assertEqual((why.context, why.shares), ("softirq", [Share("<idle>", 0, None, 10, 1)]))
-        # There is no such event, or it wasn't asked for.
-        for line, choice in ((61, {}), (60, {"until": 1004000})):
-            with self.assertRaises(LookupError):
-                _why.told_at(self.scene(lines, 0, line, **choice), 0, line)
-
-    def told_worst(self, lines):
-        """What is told of the greatest wait of a file, of which events are left out first that no wait needs."""
-        with open(self.path, "wb") as file:
-            file.write(trace(*lines))
-        recording = histdesk.read(self.path, spare=_waits.SPARE)
-        desk = recording.desk()
-        waits = _waits.waits_of(desk, recording)
-        (why,) = _why.told_all(recording, desk, waits[[int(waits.array.micros.argmax())]])
-        return why
-
-    def test_events_that_no_wait_needs(self):
-        """Where they were left out to find the wait, they are read again to tell it: the third of 30 waits is the greatest."""
-        lines = []
-        for number in range(30):
-            now = 1000000 + 100 * number
-            lines += [
-                waking("a-1", 0, now, "w", 42, 3),
-                waking("a-1", 0, now + 2, "w", 42, 1, event="sched_wakeup"),
-                switch(1, now + (50 if number == 2 else 10), "swapper/1-0", "R", "w-42", task="<idle>-0"),
-                switch(1, now + 60, "w-42", "S", "swapper/1-0"),
-            ]
-        why = self.told_worst(lines)
-        self.assertEqual((why.micros, why.begin[:3], why.queued[:3]), (50, (1000200, 0, 5), (1000202, 0, 6)))
-
-    def test_wait_that_is_longer_than_a_part(self):
-        """It has more events than a desk holds: where the task was queued isn't told."""
-        wakeups = [waking("a-1", 0, 1000010 + number, "z", 9, 1, event="sched_wakeup") for number in range(60)]
-        end = switch(1, 1000100, "swapper/1-0", "R", "w-42", task="<idle>-0")
-        why = self.told_worst([waking("a-1", 0, 1000000, "w", 42, 1), *wakeups, end])
-        self.assertEqual((why.micros, why.queued, why.end[:3]), (100, None, (1000100, 1, 1)))
-
-    def test_lines_that_are_left_out(self):
-        lines = ["torn"]
-        for number in range(60):
-            lines += [waking("<idle>-0", 0, 1000000 + number, "w", 42, 1)]
-        lines += ["torn too", switch(1, 1000100, "swapper/1-0", "R", "w-42", task="<idle>-0")]
-        scene = self.scene(lines, 1, 1, lenient=True)
-        self.assertEqual((_why.told_at(scene, 1, 1).micros, scene.recording.bad_lines), (41, (1, 62)))
 
 
 class WithoutNumpy(Command):

@@ -2,7 +2,7 @@
 neither the package nor the program; it was written from what the package says that a wait is."""
 
 import re
-from typing import Dict, Iterator, List, NamedTuple, Optional, Tuple
+from typing import Callable, Dict, Iterator, List, NamedTuple, Optional, Pattern, Sequence, Tuple
 
 from recordings import Gap, Place, Wait, spans
 
@@ -37,13 +37,16 @@ def lines_of(text: bytes) -> List[str]:
     return text.decode("utf-8", "surrogateescape").split("\n")
 
 
-def events_of(text: bytes) -> Iterator[Event]:
-    """The events that matter here, in the order of the lines; those of other names count as lines of their CPU alone."""
+def events_of(text: bytes, without: Callable[[str], bool] = lambda line: False) -> Iterator[Event]:
+    """The events that matter here, in the order of the lines; those of other names, and of lines that are left out, count as
+    lines of their CPU alone."""
     counts: Dict[int, int] = {}
     for found in filter(None, map(LINE.fullmatch, lines_of(text))):
         cpu = int(found["cpu"])
         counts[cpu] = counts.get(cpu, 0) + 1
         place = Place(int(found["s"]) * 1000000 + int(found["us"]), cpu, counts[cpu])
+        if without(found[0]):
+            continue
         wake, switch = WAKE.fullmatch(found["rest"]), SWITCH.fullmatch(found["rest"])
         if found["event"] in ("sched_waking", "sched_wakeup_new") and wake:
             yield Event(place, found["event"], int(wake[2]), wake[1], int(wake[3]), 0, "")
@@ -69,12 +72,13 @@ def gaps_of(text: bytes) -> List[Gap]:
     return [gap for gap in gaps if gap.cpu not in kept or gap.after is not None or gap.lost is not None]
 
 
-def waits_of(text: bytes) -> List[Wait]:
-    """The waits that a trace tells of, in the order in which they end."""
+def waits_of(text: bytes, without: Callable[[str], bool] = lambda line: False) -> List[Wait]:
+    """The waits that a trace tells of, in the order in which they end; lines that are left out wake, create and switch
+    nothing."""
     gaps = gaps_of(text)
     open_waits: Dict[str, Dict[int, Place]] = {"woken": {}, "new": {}, "preempted": {}}
     found = []
-    for event in sorted(events_of(text)):
+    for event in sorted(events_of(text, without)):
         if event.event != "sched_switch":
             kind = "woken" if event.event == "sched_waking" else "new"
             open_waits[kind][event.pid] = event.place
@@ -107,6 +111,11 @@ def wait_of(event: Event, begins: Dict[str, Place], gaps: List[Gap]) -> Optional
     if preempted and woken:
         return woken if preempted.doubtful and not woken.doubtful else preempted
     return preempted or woken or waits.get("new")
+
+
+def like(patterns: Sequence[Pattern[bytes]]) -> Callable[[str], bool]:
+    """Whether one of some patterns is found in a line."""
+    return lambda line: any(pattern.search(line.encode("utf-8", "surrogateescape")) for pattern in patterns)
 
 
 # ---- figures

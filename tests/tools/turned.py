@@ -216,12 +216,12 @@ def check_torn(name: str, seed: int) -> int:
 
 
 def check_sure(lines: List[str]) -> None:
-    """Lines that the package takes for sure are read by the documents, too, and those that it skips are skipped."""
-    from turning_lines import desk
+    """Lines that the converters take for sure are read by the documents, too, and those that they skip are skipped."""
+    from line_patterns import SKIPPED, SURE
 
-    sure = [line for line in lines if desk.SURE.fullmatch(line.encode("latin-1"))]
+    sure = [line for line in lines if SURE.fullmatch(line.encode("latin-1"))]
     wrong = [line for line in sure if not isinstance(meaning(line), dict)]
-    wrong += [line for line in lines if desk.SKIPPED.fullmatch(line.encode("latin-1")) and meaning(line) is not None]
+    wrong += [line for line in lines if SKIPPED.fullmatch(line.encode("latin-1")) and meaning(line) is not None]
     check(not wrong, f"{len(wrong)} lines are no sure ones, such as {wrong[:1]}")
 
 

@@ -60,7 +60,8 @@ function show(at) {
 
 // Shows the waits after strikes, as the server tells them: which are taken, and which are new. Of these, too, the filter chooses.
 async function struckBy({ struck, changed }) {
-  const [{ waits }] = state.recordings, { filter: text, event } = state;
+  const [{ waits, about }] = state.recordings, { filter: text, event } = state;
+  Object.assign(about.tasks, changed.tasks);
   const fresh = struck.length ? new Waits(unpacked(changed.new).buffer, changed.count) : null;
   if (fresh && text) fresh.passed = bitsOf((await asked("filter", { recording: 0, event, text })).new, fresh.count);
   waits.struck.fill(0);
@@ -115,18 +116,17 @@ const filtered = latest(async () => {
 });
 
 const triggered = latest(async () => {
-  // Where the table isn't seen, filters and strikes go first.
-  if (byId("table").hidden && byId("script").hidden && !SAVED) await new Promise((done) => setTimeout(done, 300));
-  const event = byId("event").value, trigger = byId("trigger").value.trim(), recording = state.sides[state.shown].recording, { filter } = state;
+  const [isTable, isScript] = ["table", "script"].map((name) => !byId(name).hidden), { filter } = state;
+  const event = byId("event").value, trigger = byId("trigger").value.trim(), { recording } = state.sides[state.shown];
   byId("filter").placeholder = SAVED ? `only with ${SAVED.about.command}` : `a filter of waits, as ${EVENTS[event]}comm == "make"`;
-  if (!byId("script").hidden) {
+  if (isScript) {
     const answer = SAVED ? SAVED.script || SAVED.about : await asked("script", { recording, event, filter, trigger, strikes: state.strikes });
-    byId("script-text").textContent = answer.script || answer.refused || "";
-    byId("script-command").textContent = answer.command || "";
+    const texts = { text: answer.script || answer.refused, command: answer.command, of: answer.of && `, of ${answer.of}` };
+    for (const [name, text] of Object.entries(texts)) byId(`script-${name}`).textContent = text || "";
   }
-  if (SAVED) return;
+  if (SAVED || !isTable) return;
   const text = filter ? `${trigger} if ${filter}` : trigger;
-  const { refused, at, columns, rows, totals, more } = await asked("trigger", { recording, event, text });
+  const { refused, at, columns, rows, totals, more, of } = await asked("trigger", { recording, event, text });
   const what = refused ? "" : `${number(totals.entries)} rows of ${number(totals.hits)} hits, ${number(totals.dropped)} dropped`;
   refuse("trigger", refused, at, what);
   if (refused) return;
@@ -134,7 +134,7 @@ const triggered = latest(async () => {
   const line = (name, row) => made("tr", {}, ...row.map((cell, column) => made(name, { class: kinds[column] }, `${cell}`)));
   table.tHead.replaceChildren(line("th", columns));
   table.tBodies[0].replaceChildren(...rows.map((row) => line("td", row)));
-  byId("table-told").textContent = more ? `${what}; the last ${number(more)} aren't shown` : what;
+  byId("table-told").textContent = [what, of && `of ${of}`, more && `the last ${number(more)} aren't shown`].filter(Boolean).join("; ");
 });
 
 function tab(name) {
