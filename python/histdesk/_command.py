@@ -83,6 +83,19 @@ def add_part(words: argparse.ArgumentParser, cpu: str = "only events of these CP
     group.add_argument("--lenient", action="store_true", help="leave out lines that can't be read, and say which they are")
 
 
+def add_jobs(words: argparse.ArgumentParser) -> None:
+    """The option that says how many processors read a trace."""
+    told = "read N parts of TRACE at once (as many as there are processors if it has more than 200 MB, else 1)"
+    words.add_argument("--jobs", metavar="N", type=job_count, help=told)
+
+
+def job_count(text: str) -> int:
+    """A number of parts."""
+    if not re.fullmatch("[0-9]{1,4}", text) or int(text) == 0:
+        raise argparse.ArgumentTypeError(f"{text} is no number from 1 to 9999")
+    return int(text)
+
+
 def stamp(text: str) -> int:
     """A stamp in microseconds."""
     found = STAMP.fullmatch(text)
@@ -139,11 +152,11 @@ def whole_waits(words: argparse.Namespace, path: str, tool: str, keeps: bool = T
     """The waits of the trace of that path, or of standard input if it is `-`: of the whole of it, or of a stretch of time. What
     is lost or left out is told on standard error; how far the reading is, on a terminal. A whole standard input can be read
     again if it `keeps` that."""
-    from ._waits import waits_of_recording, waits_of_text
+    from ._waits import ReadOptions, waits_of_recording, waits_of_text
 
     def found(watch: Watch) -> Waits:
         if words.start is None and words.until is None:
-            return waits_of_text(opened(path), words.lenient, watch, path, keeps)
+            return waits_of_text(opened(path), ReadOptions(words.lenient, watch, path, keeps, words.jobs))
         part = stretch(words, path)
         watch.size = part.size
         return waits_of_recording(part, words.lenient, watch)
@@ -154,9 +167,12 @@ def whole_waits(words: argparse.Namespace, path: str, tool: str, keeps: bool = T
 def counted_waits(words: argparse.Namespace, path: str, tool: str, choice: Choices) -> Summary:
     """The same waits as they are counted; those of a whole trace are not kept."""
     from ._counted import counted
+    from ._waits import ReadOptions
 
     if words.start is None and words.until is None:
-        return watched(lambda watch: counted(opened(path), choice, words.lenient, watch, path), path, tool)
+        return watched(
+            lambda watch: counted(opened(path), choice, ReadOptions(words.lenient, watch, path, jobs=words.jobs)), path, tool
+        )
     return whole_waits(words, path, tool, keeps=False).only(kinds=choice.kinds, cpus=choice.cpus)
 
 
