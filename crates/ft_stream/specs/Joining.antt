@@ -7,6 +7,7 @@ use Rattle.ft_waits.specs.Choice.{Choice}
 use Rattle.ft_waits.specs.Joining.{CanJoin, CannotJoin}
 use Rattle.ft_waits.specs.declared.fault.WaitsFault.TheVariants.{Memory}
 use Rattle.ft_waits.specs.declared.seam.JoinFault.{JoinFault}
+use Rattle.ft_waits.specs.declared.seam.JoinFault.TheVariants as joins
 use Rattle.ft_waits.specs.declared.stream.Waits.{Waits}
 use Rattle.ft_stream.specs.Telling.{Whole, Apart, Streams, events_at, waits_of}
 use Rattle.ft_stream.specs.declared.apart.Part.{Part}
@@ -33,12 +34,12 @@ CanBeJoined (phases.Part part) here = ⊥
 CanBeJoined (phases.Failed fault) here = ⊥
 CanBeJoined (phases.Finished finished) here = ⊥
 
--- why nothing is joined to a text: no part is there, or it can't be joined
+-- why nothing is joined to a text: no part is there, it is refused, or it can't be joined
 abbrev pub IsUnfit : Waits → Phase → StreamFault → Type 0
 IsUnfit waits phases.Idle why = why ≡ faults.NoStream
 IsUnfit waits (phases.Running other) why = why ≡ faults.NoStream
 IsUnfit waits (phases.Part part) why = (fault : JoinFault) × (why ≡ faults.Part fault) × CannotJoin fault waits part.waits
-IsUnfit waits (phases.Failed fault) why = why ≡ faults.Text fault
+IsUnfit waits (phases.Failed fault) why = why ≡ faults.Part joins.Failed
 IsUnfit waits (phases.Finished finished) why = why ≡ faults.NoStream
 
 -- why nothing is joined: no whole text runs there, or what is here is unfit

@@ -9,7 +9,7 @@ use crate::apart::Part;
 use crate::fault::StreamFault;
 use crate::phase::{Phase, keep_waits};
 use ft_dispatch::{Dispatch, FirstOnes, first_ones_join};
-use ft_waits::{Waits, WaitsFault};
+use ft_waits::{JoinFault, Waits, WaitsFault};
 use std::alloc::AllocError;
 use std::mem;
 
@@ -32,7 +32,7 @@ fn take_part(phase: &mut Phase, running: &Waits) -> Result<Part, StreamFault>
         }
         Phase::Failed(fault) => {
             *phase = Phase::Failed(fault);
-            Err(StreamFault::Text(fault))
+            Err(StreamFault::Part(JoinFault::Failed))
         }
         Phase::Finished(finished) => {
             *phase = Phase::Finished(finished);

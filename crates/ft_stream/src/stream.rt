@@ -107,8 +107,8 @@ impl Stream {
     /// told before only the places move: by how many events each CPU had here before the join. No stream
     /// is where the part was then.
     ///
-    /// Refused if no whole text runs here or no part there, as the one that is refused answers, and for the
-    /// reasons of `Waits::meets`: both are as before then. If memory runs out the stream has failed, and
+    /// Refused if no whole text runs here or no part there, if one of the two is refused, and for the reasons
+    /// of `Waits::meets`: both are as before then. If memory runs out the stream has failed, and
     /// the part is gone.
     #[tactic(auto, unfolding(crate::specs::Calls::Joins))]
     pub fn join(&mut self, part: &mut Stream, count: &mut u64) -> u32
