@@ -37,7 +37,9 @@
  * - No pointer is null, also where its length or room is 0: any other pointer does then. Each points to as much as is
  *   said, and what a call reads and what it writes don't overlap. Lengths are at most PTRDIFF_MAX.
  * - A bool that a call reads is 0 or 1: the has_place of a refusal that is handed to histdesk_refusal_text or
- *   histdesk_refusal_words, and the one of histdesk_waits_new. What a call only writes may hold anything before.
+ *   histdesk_refusal_words, and those of histdesk_waits_new and histdesk_waits_part. What a call only writes may hold anything
+ *   before.
+ * - The two handles of histdesk_waits_join are different ones, and each is used as said here.
  * - One allocator: malloc, realloc and free, which the library takes from the program, belong together and stay the same
  *   while there is a desk, and all calls of one handle come to one copy of the library.
  * - No call is made from a signal handler, nor in a forked child of a process that had several threads.
@@ -80,7 +82,19 @@ enum {
     HISTDESK_NOT_READING = 17,       /* the trigger reads no variable, so it has no latencies */
     HISTDESK_BACKWARDS = 18,         /* of waits: a stamp is before that of the event above: line */
     HISTDESK_NO_STREAM = 19,         /* of waits: no stream takes pieces, none has ended, or it has taken a piece */
+    HISTDESK_NOT_JOINED = 20,        /* of waits: the part doesn't fit behind the text: fault */
     HISTDESK_CLOSED = 255            /* the handle has no desk */
+};
+
+/* Why a part doesn't fit behind the text that another stream has read: the fault of HISTDESK_NOT_JOINED. */
+enum {
+    HISTDESK_PART_REFUSED = 1, /* the part was refused */
+    HISTDESK_UNENDED = 2,      /* the text doesn't end with a line break */
+    HISTDESK_DIFFERS = 3,      /* bad lines are skipped in one of the two, or not as many calls left events out */
+    HISTDESK_SUMMED = 4,       /* the text is summed up */
+    HISTDESK_TOO_LONG = 5,     /* over 4,294,967,295 lines together */
+    HISTDESK_OVERLAPS = 6,     /* the part's first event has the stamp of the text's last one, or an earlier one */
+    HISTDESK_TORN = 7          /* a CPU has lost events and has had none since */
 };
 
 /* Causes of a wait. */
@@ -218,7 +232,8 @@ typedef struct histdesk_report {
 /* Why a call was refused. number is its code, 0 where it was accepted. What the number doesn't have is 0. */
 typedef struct histdesk_refusal {
     uint32_t number;
-    uint32_t fault;        /* of 3: the line's; of 8: the trigger's; both as in REFERENCE.md, Line faults and Trigger faults */
+    uint32_t fault;        /* of 3: the line's; of 8: the trigger's; both as in REFERENCE.md, Line faults and Trigger faults;
+                            * of 20: HISTDESK_PART_REFUSED .. */
     uint32_t filter_fault; /* of 8 with fault 11, and of 9: the filter's, as in Filter faults */
     uint32_t cpu;          /* of 4 and 5 */
     uint32_t trigger;      /* of 11 and 12 */
@@ -453,11 +468,42 @@ void histdesk_forget(histdesk *desk);
  *     histdesk_waits_finish(&desk, &read, &count);
  *
  * Waits come in the order of their ends, by stamp, CPU and line, however the text is cut. Those of the last microsecond
- * come once it is over. */
+ * come once it is over.
+ *
+ * A long text may be read in parts, each by a stream of another desk, side by side in several threads; each part but the
+ * first is begun by histdesk_waits_part, and all are joined in order. They are cut where a line ends after which the stamp
+ * changes. What the first stream and the parts tell, and what each join tells, are together the waits that one stream tells
+ * of the whole text, each once. They don't come in order:
+ *
+ *     histdesk_waits_new(&desk, false), histdesk_waits_part(&part, false);
+ *     ..                                            feed both
+ *     histdesk_waits_events(&desk, 0, before, 8192); by which the places of the part's waits move
+ *     histdesk_waits_join(&desk, &part, &count);     and then histdesk_waits_copy(&desk, ..)
+ *     histdesk_waits_finish(&desk, &read, &count); */
 
 /* Begins a stream, and ends the one that was there. Lines that can't be read are skipped and counted, or the first one
  * refuses the text. HISTDESK_MEMORY: the stream that was there stays. */
 uint32_t histdesk_waits_new(histdesk *desk, bool skips_bad_lines);
+
+/* Begins a stream whose text is a part of a longer one, not its beginning, and ends the one that was there. It takes pieces,
+ * leaves events out and tells the events and the last stamp so far as any stream. A wait that ends with the first switch to
+ * its task is not told: its beginning may stand before the part, so it comes by histdesk_waits_join. The others are told at
+ * places with lines that are counted from the part's own start. histdesk_waits_sum_up and histdesk_waits_finish answer
+ * HISTDESK_NO_STREAM. HISTDESK_MEMORY: the stream that was there stays. */
+uint32_t histdesk_waits_part(histdesk *desk, bool skips_bad_lines);
+
+/* Joins the part that the stream of another desk has read behind the text that this one has read, as if it had been fed here.
+ * `count` is how many waits became known, which are copied from `desk`: first those that end in the last microsecond before
+ * the part, then those that end with a task's first switch in the part, each in the order of their ends, with lines of the
+ * whole text. Of the waits that the part told before only the places move: by as many lines as the CPU had events in this
+ * stream before the join, up to line 4,294,967,295. They may end before or after those that are told now. The other desk has
+ * no stream then; the waits that it told last are still copied. The two must leave out the same events, by the same calls:
+ * only their number is compared.
+ * HISTDESK_NO_STREAM: no stream of a whole text takes pieces here, or none of a part there. HISTDESK_NOT_JOINED: its fault
+ * says why. Of a text that is refused here it is refused as histdesk_waits_feed is. After these both streams go on as before,
+ * and histdesk_waits_refused of `desk` says why. HISTDESK_MEMORY, if the text wasn't refused before: it is refused for that
+ * from then on, and the part is gone. HISTDESK_CLOSED: one of the handles has no desk. */
+uint32_t histdesk_waits_join(histdesk *desk, histdesk *part, uint64_t *count);
 
 /* Leaves events out of the text: those of a name that pass the filter of a text of `length` bytes, or all of the name if that
  * is 0. They wake, create and switch nothing, as if they weren't in the text; but they keep their numbers, and all that is told
@@ -471,7 +517,7 @@ uint32_t histdesk_waits_without(histdesk *desk, uint32_t event, const uint8_t *f
  * or it has taken one. Of a text that is refused it is refused as histdesk_waits_feed is. Never HISTDESK_MEMORY. */
 uint32_t histdesk_waits_sum_up(histdesk *desk);
 
-/* Takes the next piece of the text. `count` is how many waits became known; they are copied until the next feed or finish.
+/* Takes the next piece of the text. `count` is how many waits became known; they are copied until the next feed, finish or join.
  * HISTDESK_NO_STREAM, HISTDESK_BAD_LINE, HISTDESK_BACKWARDS, HISTDESK_FULL (over 4,294,967,295 lines). But for
  * HISTDESK_NO_STREAM, a refusal, HISTDESK_MEMORY too, leaves no waits, and the stream answers the same from then on. */
 uint32_t histdesk_waits_feed(histdesk *desk, const uint8_t *piece, size_t length, uint64_t *count);
@@ -480,7 +526,7 @@ uint32_t histdesk_waits_feed(histdesk *desk, const uint8_t *piece, size_t length
  * text. The stream has ended then. Refused as histdesk_waits_feed is. */
 uint32_t histdesk_waits_finish(histdesk *desk, histdesk_waits_read *read, uint64_t *count);
 
-/* Copies the waits that the last feed, finish or histdesk_waits_held told. */
+/* Copies the waits that the last feed, finish, join or histdesk_waits_held told. */
 size_t histdesk_waits_copy(histdesk *desk, uint64_t from, histdesk_wait *to, size_t room);
 
 /* Once the stream has ended, copies the holes of the text: those of CPUs that begin late, by CPU, if only the header says that
@@ -513,8 +559,8 @@ uint32_t histdesk_waits_held(histdesk *desk, uint64_t *count);
  * latter's. A wait whose cause is none of the three stays as it is. HISTDESK_NO_STREAM; never HISTDESK_MEMORY. */
 uint32_t histdesk_waits_doubt(histdesk *desk, histdesk_wait *waits, size_t count);
 
-/* Why the last of histdesk_waits_new, _without, _sum_up, _feed, _finish, _last, _held and _doubt was refused: number; line and fault; or
- * filter_fault and place. Never HISTDESK_MEMORY. */
+/* Why the last of histdesk_waits_new, _part, _join, _without, _sum_up, _feed, _finish, _last, _held and _doubt was refused:
+ * number; line and fault; or filter_fault and place. Never HISTDESK_MEMORY. */
 uint32_t histdesk_waits_refused(histdesk *desk, histdesk_refusal *refusal);
 
 /* Ends the stream, if there is one, and gives back its memory. histdesk_free does so too, and histdesk_forget doesn't. */

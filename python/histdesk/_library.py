@@ -58,6 +58,8 @@ CALLS: Dict[str, Tuple[Any, List[Any]]] = {
     "histdesk_losses_copy": (Size, ROOM),
     "histdesk_refused": (Code, [ctypes.POINTER(_layout.Refusal)]),
     "histdesk_waits_new": (Code, [ctypes.c_bool]),
+    "histdesk_waits_part": (Code, [ctypes.c_bool]),
+    "histdesk_waits_join": (Code, [Desk, Count]),
     "histdesk_waits_without": (Code, [Number, *TEXT]),
     "histdesk_waits_sum_up": (Code, []),
     "histdesk_waits_feed": (Code, [ctypes.c_void_p, Size, Count]),

@@ -2,9 +2,9 @@
 # c_library.sh [LIBRARY [HISTDESK]]: tests the C library, libhistdesk.so.0, by programs in C: the header, what the object
 # exports and asks for, the rows and random scripts, line by line, with numbers held against texts and with growths of memory
 # refused, a desk that is full, each growth of a session refused in turn, what is held of the heap once all events are struck,
-# buffers of just their size, threads, waits and lines (under valgrind where it is installed), and the example. Where HISTDESK
-# is given, more random scripts are held against that program. Without a word, LIBRARY is the one that the variable LIBHISTDESK
-# names, or the one built here. It prints what went wrong, and a last line with the counts.
+# buffers of just their size, threads, waits, parts and lines (under valgrind where it is installed), and the example. Where
+# HISTDESK is given, more random scripts are held against that program. Without a word, LIBRARY is the one that the variable
+# LIBHISTDESK names, or the one built here. It prints what went wrong, and a last line with the counts.
 # shellcheck disable=SC2154 # what counts.sh assigns
 set -uo pipefail
 
@@ -137,6 +137,8 @@ program threads -pthread "$tests/library/c/threads.c"
 holds "$folder/threads"
 program stream -pthread "$tests"/library/c/{waits,heap}.c
 holds "$folder/stream"
+program parts -pthread "$tests"/library/c/{parts,heap}.c
+holds "$folder/parts"
 program lines "$tests"/library/c/{lines,heap}.c
 holds "$folder/lines"
 if command -v valgrind >/dev/null; then
@@ -144,6 +146,8 @@ if command -v valgrind >/dev/null; then
     gives "exact, under valgrind" 0 "" "${checked[@]}" "$folder/exact"
     program plain_stream -pthread "$tests/library/c/waits.c" -DHEAP_IS_PLAIN
     gives "waits, under valgrind" 0 "" "${checked[@]}" "$folder/plain_stream"
+    program plain_parts -pthread "$tests/library/c/parts.c" -DHEAP_IS_PLAIN
+    gives "parts, under valgrind" 0 "" "${checked[@]}" "$folder/plain_parts"
     program plain_lines "$tests/library/c/lines.c" -DHEAP_IS_PLAIN
     gives "lines, under valgrind" 0 "" "${checked[@]}" "$folder/plain_lines"
     gives "threads, under helgrind" 0 "" valgrind -q --tool=helgrind --error-exitcode=9 "$folder/threads"

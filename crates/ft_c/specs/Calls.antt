@@ -11,6 +11,16 @@ Calls old new code does = MatchOption old ((code ≡ closed) × (new ≡ None)) 
 abbrev pub CallsWriting : {T : Type 0} → Option Held → Option Held → ℕ → T → T → (Held → Held → Type 0) → Type 0
 CallsWriting old new code before after does = MatchOption old ((code ≡ closed) × (new ≡ None) × (after ≡ before)) (λ held. IsSomeAnd new (does held))
 
+-- nothing happened, and nothing is written, but for the code
+abbrev pub StaysClosed : {T : Type 0} → Option Held → Option Held → Option Held → Option Held → ℕ → T → T → Type 0
+StaysClosed old other new other_now code before after = (code ≡ closed) × (new ≡ old) × (other_now ≡ other) × (after ≡ before)
+
+-- the sessions of two handles do this, and are in them again; if one of the two is without one, nothing happens
+abbrev pub CallsBoth : {T : Type 0} → Option Held → Option Held → Option Held → Option Held → ℕ → T → T → (Held → Held → Held → Held → Type 0) → Type 0
+CallsBoth old other new other_now code before after does =
+    MatchOption old (StaysClosed old other new other_now code before after)
+    (λ held. MatchOption other (StaysClosed old other new other_now code before after) (λ held_there. IsSomeAnd new (λ held_now. IsSomeAnd other_now (does held held_there held_now))))
+
 -- only the stream of waits may differ
 abbrev pub OnlyWaits : Held → Held → Type 0
 OnlyWaits before after = after ≡ record before { waits = after.waits }

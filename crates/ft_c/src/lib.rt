@@ -6,7 +6,7 @@
 //!
 //! A caller in C passes no argument for a `Global`, and a pointer and a length for a slice. Nothing
 //! checks what it must keep: it passes a handle that is all zero or that these calls left so, no copy
-//! of one, from one thread at a time; no null pointer, not even for a text of no bytes; and a `bool` of
+//! of one, from one thread at a time, and two handles that are not the same; no null pointer, not even for a text of no bytes; and a `bool` of
 //! 0 or 1 in a refusal that is read.
 //!
 //! ```ignore
@@ -29,7 +29,8 @@
 //! - `histdesk_lines`, `histdesk_losses`: what the session's call says of a text (`ReadsLines`, `ReadsLosses` of
 //!   `ft_session`, over `ft_lines`); the desk holds nothing of it. Their copies are as any other.
 //! - `histdesk_waits_..`: what the call of the session's stream says (`specs/Calls.antt` of `ft_stream`), and
-//!   but for the stream the session is as before (`OnlyWaits`).
+//!   but for the stream the session is as before (`OnlyWaits`). `histdesk_waits_join` has two handles
+//!   (`CallsBoth`): if one of them holds nothing, it answers the code for that, and both stay as they are.
 //! - `Handle::empty`, `take`, `put`: contracts see what a handle holds: a session, or nothing,
 //!   which is null. `take` gives the session and leaves nothing; `put` drops what was there and
 //!   holds the session; exact. `end` drops what is held, and has no clause. `Handle` has no `Drop`,

@@ -4,13 +4,13 @@
 ghost use Rattle.std.specs.Prelude.{◌≡◌, None, IfNone, IsSomeAnd};
 ghost use Rattle.std.specs.Option.{MatchOption};
 ghost use Rattle.ft_layout.specs.Names.{name_numbered};
-ghost use Rattle.ft_stream.specs.Calls.{Begins, LeavesOut, SumsUp, Feeds, Finishes, TellsLast, DoubtsWaits, IsIdle};
+ghost use Rattle.ft_stream.specs.Calls.{Begins, BeginsPart, Joins, LeavesOut, SumsUp, Feeds, Finishes, TellsLast, DoubtsWaits, IsIdle};
 ghost use Rattle.ft_stream.specs.Faults.{refusal_layout};
 ghost use Rattle.ft_stream.specs.Layouts.{wait_layout, hole_layout, left_out_layout, task_sum_layout, cpu_sum_layout};
 ghost use Rattle.ft_stream.specs.Summing.{tasks_at, cpus_at};
 ghost use Rattle.ft_stream.specs.Telling.{holes_at, left_out_at, events_at};
 ghost use Rattle.ft_session.specs.Calls.{HoldsWaits};
-ghost use Rattle.ft_c.specs.Calls.{Calls, CallsWriting, OnlyWaits};
+ghost use Rattle.ft_c.specs.Calls.{Calls, CallsWriting, CallsBoth, OnlyWaits};
 ghost use Rattle.ft_c.specs.Codes.{closed};
 ghost use Rattle.ft_c.specs.Copies.{IsCopied};
 ghost use Rattle.ft_c.specs.Policies.{bad_lines};
@@ -47,6 +47,52 @@ pub extern "C" fn histdesk_waits_new(alloc: Global, desk: &mut Handle, skips: bo
             desk.put(alloc, session);
             code
         }
+        None => CLOSED,
+    }
+}
+
+/// Begins a stream whose text is a part of a longer one, and ends the one that was there.
+#[unsafe(no_mangle)]
+pub extern "C" fn histdesk_waits_part(alloc: Global, desk: &mut Handle, skips: bool) -> u32
+    ensures { Calls desk.old.held desk.new.held result (λ before after.
+        BeginsPart (bad_lines skips) before.waits result after.waits × OnlyWaits before after) }
+{
+    match desk.take(alloc) {
+        Some(mut session) => {
+            let code = session.waits.begin_part(bad_lines(skips));
+            desk.put(alloc, session);
+            code
+        }
+        None => CLOSED,
+    }
+}
+
+/// Joins the part that another handle's stream has read behind the text of this one: how many waits it told.
+#[unsafe(no_mangle)]
+pub extern "C" fn histdesk_waits_join(
+    alloc: Global,
+    desk: &mut Handle,
+    part: &mut Handle,
+    count: &mut u64,
+) -> u32
+    ensures { CallsBoth desk.old.held part.old.held desk.new.held part.new.held result count.old count.new
+        (λ before before_part after after_part.
+        Joins before.waits before_part.waits count.old result count.new after.waits after_part.waits
+        × OnlyWaits before after × OnlyWaits before_part after_part) }
+{
+    match desk.take(alloc) {
+        Some(mut session) => match part.take(alloc) {
+            Some(mut other) => {
+                let code = session.waits.join(&mut other.waits, count);
+                part.put(alloc, other);
+                desk.put(alloc, session);
+                code
+            }
+            None => {
+                desk.put(alloc, session);
+                CLOSED
+            }
+        },
         None => CLOSED,
     }
 }

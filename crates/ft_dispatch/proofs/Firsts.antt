@@ -34,7 +34,7 @@ has-one-completed : (known : ℤ → Since) (has : Bool) (pid : ℤ) (one : Disp
 has-one-completed known true pid one = refl
 has-one-completed known false pid one = refl
 
-has-completed : (known : ℤ → Since) (pid : ℤ) (told : List Dispatch) → has_one pid (all_completed known told) ≡ has_one pid told
+pub has-completed : (known : ℤ → Since) (pid : ℤ) (told : List Dispatch) → has_one pid (all_completed known told) ≡ has_one pid told
 unfolding all_completed
 has-completed known pid [] = refl
 has-completed known pid (one ∷ told) =

@@ -5,3 +5,5 @@ mod Joins
 mod Written
 mod Firsts
 mod Placed
+mod Others
+mod Held

@@ -85,6 +85,15 @@ first_ones (one ∷ earlier) = if has_one one.pid earlier then first_ones earlie
 abbrev pub firsts : List Dispatch → List Dispatch
 firsts told = reverse (first_ones (reverse told))
 
+-- the dispatches that are not the first one of their task
+unfoldable pub other_ones : List Dispatch → List Dispatch
+other_ones [] = []
+other_ones (one ∷ earlier) = if has_one one.pid earlier then one ∷ other_ones earlier else other_ones earlier
+
+-- the same, the oldest first
+abbrev pub others : List Dispatch → List Dispatch
+others told = reverse (other_ones (reverse told))
+
 -- dispatches are of the same tasks as others
 abbrev pub AreOfTasks : List Dispatch → List Dispatch → Type 0
 AreOfTasks told ones = (pid : ℤ) → has_one pid ones ≡ has_one pid told

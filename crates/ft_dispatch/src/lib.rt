@@ -33,7 +33,11 @@
 //!   the first one of each task is enough: the others only get their places behind. Linear in the
 //!   dispatches and tasks of the part, times a look-up. Fails only for memory. Lets through: running out of
 //!   memory at any time; what is known, and which dispatches are completed, then.
-//! - `parts_join`, `first_ones_join`: the laws behind it, on the definitions.
+//! - `parts_join`, `first_ones_join`: the laws behind it, on the definitions; what joining does to the first
+//!   dispatches of tasks, and that of all others only the places move.
+//! - `FirstOnes::new`, `take_all`: of dispatches that came in any number of calls, the first one of each task is
+//!   held, and the others are given on, in their order: `Holds`, `TakesOn` (`specs/Holding.antt`). Takes the
+//!   logarithm of the tasks for each. Fails only for memory. Lets through: what is held and given on then.
 //! - `Since::waiting`: which of the three places a wait counts from, and why; exact, `waiting_since`
 //!   (`specs/Began.antt`).
 //! - `Since::awoken`: the same of only its waking and its creation; exact, `awoken`
@@ -43,6 +47,7 @@
 mod act;
 mod began;
 mod dispatch;
+mod holding;
 mod joining;
 mod laws;
 mod taking;
@@ -53,5 +58,6 @@ mod tests;
 pub use act::{Kind, PlacedAct, PrevState};
 pub use began::{Began, Cause};
 pub use dispatch::{Dispatch, Left, Since};
+pub use holding::FirstOnes;
 pub use laws::{first_ones_join, parts_join};
 pub use tasks::Tasks;

@@ -1,1 +1,3 @@
 mod TellingOn
+mod Leaves
+mod Seams

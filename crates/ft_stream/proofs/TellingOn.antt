@@ -1,12 +1,16 @@
 -- What a part of a text tells comes behind what was told before.
 use Rattle.std.specs.Prelude.{◌≡◌, ℕ, List, [], ◌++◌, None}
-use Rattle.std.proofs.Common.{sym, ap, ◌∙◌, subst, append-nil}
+use Rattle.std.proofs.Common.{refl, sym, ap, ◌∙◌, subst, append-nil}
 use Rattle.std.proofs.lemmas.List.Elements.{filter-append}
 use Rattle.ft_dispatch.specs.declared.dispatch.Dispatch.{Dispatch}
+use Rattle.ft_dispatch.specs.Holding.{Holds}
+use Rattle.ft_dispatch.specs.Joining.{other_ones, others}
 use Rattle.ft_waits.specs.Choice.{Choice}
 use Rattle.ft_waits.specs.Streams.{HasRead, AreDispatches}
 use Rattle.ft_waits.specs.declared.stream.Waits.{Waits}
-use Rattle.ft_stream.specs.Telling.{ends_wait, waits_of, HasTold, AreWaits}
+use Rattle.ft_stream.specs.Telling.{ends_wait, waits_of, HasTold, HoldsBack, AreWaits}
+use Rattle.ft_stream.specs.inner.Parts.{ReadsApart}
+use Rattle.ft_stream.specs.declared.apart.Part.{Part}
 use Rattle.ft_stream.specs.declared.phase.Finished.{Finished}
 
 -- nothing more is told by a list that was cleared
@@ -27,4 +31,19 @@ tells_end choice old text before out waits finished are had answer doubts = reco
   are_waits = both_waits before had.dispatches out waits had.are_waits are ∙ ap waits_of answer.dispatches;
   answer = subst (λ (ds : List Dispatch). AreDispatches choice text ds finished.read) answer.dispatches answer;
   doubts = doubts;
+}
+
+-- a part of which nothing is read
+pub none_held : (choice : Choice) (part : Part) → HasRead choice part.waits [] [] → part.waits.failed ≡ None → Holds part.firsts [] → HoldsBack choice part [] []
+unfolding other_ones
+none_held choice part read well holds = record { dispatches = []; has_read = read; well = well; held = holds; are_waits = refl }
+
+-- a piece of a part was read, and told these dispatches, of which the first ones are held back and the waits of the others are kept
+pub holds_on : (choice : Choice) (old new : Part) (text more : List ℕ) (before given waits : List Dispatch) → waits ≡ waits_of given → (had : HoldsBack choice old text before) → ReadsApart choice new more (others had.dispatches) given → HoldsBack choice new more (before ++ waits)
+holds_on choice old new text more before given waits are had reads = record {
+  dispatches = reads.dispatches;
+  has_read = reads.has_read;
+  well = reads.well;
+  held = reads.held;
+  are_waits = both_waits before (others had.dispatches) given waits had.are_waits are ∙ ap waits_of reads.gave;
 }

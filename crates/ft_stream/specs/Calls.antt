@@ -1,5 +1,5 @@
 -- What each call of a stream does. All of it is our own choice.
-use Rattle.std.specs.Prelude.{◌≡◌, ℕ, List, [], ◌++◌, length, map, Option, Some, None, MatchOption, IsSomeAnd, Bool, is_some, unwrap_or}
+use Rattle.std.specs.Prelude.{◌≡◌, ◌⊎◌, ℕ, List, [], ◌++◌, length, map, Option, Some, None, MatchOption, IsSomeAnd, Bool, is_some, unwrap_or}
 use Rattle.ft_dispatch.specs.declared.dispatch.Dispatch.{Dispatch}
 use Rattle.ft_fields.specs.declared.event.Name.{Name}
 use Rattle.ft_held_waits.specs.Held.{dispatches_held}
@@ -9,10 +9,11 @@ use Rattle.ft_waits.specs.declared.fault.BadLines.{BadLines}
 use Rattle.ft_waits.specs.declared.fault.WaitsFault.TheVariants.{Memory}
 use Rattle.ft_stream.specs.Doubting.{doubted}
 use Rattle.ft_stream.specs.Faults.{fault_code, code_of}
+use Rattle.ft_stream.specs.Joining.{CanBeJoined, IsNotJoined, JoinsTold, RanOut}
 use Rattle.ft_stream.specs.Layouts.{read_layout}
 use Rattle.ft_stream.specs.Leaving.{LeavesThemOut, GoesOn, IsRefused}
 use Rattle.ft_stream.specs.Summing.{SumsThemUp, IsTooLate}
-use Rattle.ft_stream.specs.Telling.{Streams, Ends, refused_at, failed_at, unfinished_at, untold_at, finished_at, holes_at, last_at, waits_of}
+use Rattle.ft_stream.specs.Telling.{Kind, Whole, Apart, Streams, Ends, refused_at, no_whole_at, failed_at, unfinished_at, untold_at, finished_at, holes_at, last_at, waits_of}
 use Rattle.ft_stream.specs.declared.fault.StreamFault.{StreamFault}
 use Rattle.ft_stream.specs.declared.fault.StreamFault.TheVariants.{Text}
 use Rattle.ft_stream.specs.declared.layouts.ReadLayout.{ReadLayout}
@@ -32,7 +33,14 @@ Refuses why old code new = (code ≡ fault_code why) × (new ≡ record old { re
 unfoldable pub Begins : BadLines → Stream → ℕ → Stream → Type 0
 Begins policy old code new =
     MatchOption new.refused
-    ((code ≡ 0) × Streams (all_events policy) new.phase [] [] × (new.waits.items ≡ []) × (new ≡ record old { phase = new.phase; waits = new.waits; refused = None }))
+    ((code ≡ 0) × Streams Whole (all_events policy) new.phase [] [] × (new.waits.items ≡ []) × (new ≡ record old { phase = new.phase; waits = new.waits; refused = None }))
+    (λ why. (why ≡ Text Memory) × Refuses why old code new)
+
+-- the same of a stream whose text is a part of a longer one: it takes pieces, and its first dispatches are held back
+unfoldable pub BeginsPart : BadLines → Stream → ℕ → Stream → Type 0
+BeginsPart policy old code new =
+    MatchOption new.refused
+    ((code ≡ 0) × Streams Apart (all_events policy) new.phase [] [] × (refused_at new.phase ≡ None) × (new.waits.items ≡ []) × (new ≡ record old { phase = new.phase; waits = new.waits; refused = None }))
     (λ why. (why ≡ Text Memory) × Refuses why old code new)
 
 -- events are left out of a stream of which nothing is read; if it is refused, the stream goes on as before
@@ -44,7 +52,7 @@ LeavesOut name filter old code new =
     × (code ≡ code_of new.refused)
     × (new ≡ record old { phase = new.phase; refused = new.refused })
 
--- tasks and CPUs are summed up as well in a stream of which nothing is read; if it is refused, the stream is as before
+-- tasks and CPUs are summed up as well in a stream of which nothing is read, unless its text is a part; if it is refused, the stream is as before
 unfoldable pub SumsUp : Stream → ℕ → Stream → Type 0
 SumsUp old code new =
     MatchOption new.refused
@@ -55,10 +63,10 @@ SumsUp old code new =
 abbrev pub IsCounted : Option StreamFault → ℕ → List Dispatch → ℕ → Type 0
 IsCounted refused before waits count = MatchOption refused (count ≡ length waits) (λ _. (count ≡ before) × (waits ≡ []))
 
--- a stream that runs takes a piece of whatever text it has read: the waits that it tells are there
+-- a stream that runs takes a piece of whatever text it has read, a whole one or a part: the waits that it tells are there
 unfoldable pub FeedsOn : List ℕ → Stream → ℕ → ℕ → ℕ → Stream → Type 0
 FeedsOn piece old before code count new =
-    ((choice : Choice) (text : List ℕ) (told : List Dispatch) → Streams choice old.phase text told → Streams choice new.phase (text ++ piece) (told ++ new.waits.items))
+    ((kind : Kind) (choice : Choice) (text : List ℕ) (told : List Dispatch) → Streams kind choice old.phase text told → Streams kind choice new.phase (text ++ piece) (told ++ new.waits.items))
     × (new.refused ≡ refused_at new.phase)
     × (code ≡ code_of new.refused)
     × IsCounted new.refused before new.waits.items count
@@ -74,19 +82,30 @@ Feeds piece old before code count new =
 -- a stream that runs ends: the waits that are left are there, and what was read is written
 unfoldable pub FinishesOn : Stream → ReadLayout → ℕ → ℕ → ReadLayout → ℕ → Stream → Type 0
 FinishesOn old read_before before code read count new =
-    ((choice : Choice) (text : List ℕ) (told : List Dispatch) → Streams choice old.phase text told → Ends choice new.phase text (told ++ new.waits.items))
+    ((choice : Choice) (text : List ℕ) (told : List Dispatch) → Streams Whole choice old.phase text told → Ends choice new.phase text (told ++ new.waits.items))
     × (new.refused ≡ failed_at new.phase)
     × (code ≡ code_of new.refused)
     × IsCounted new.refused before new.waits.items count
     × MatchOption new.refused (IsSomeAnd (finished_at new.phase) (λ finished. read ≡ read_layout finished)) (λ _. read ≡ read_before)
     × (new ≡ record old { phase = new.phase; waits = new.waits; refused = new.refused })
 
--- the end of a text, by whether a stream runs
+-- the end of a text, by whether a stream runs whose text is no part
 unfoldable pub Finishes : Stream → ReadLayout → ℕ → ℕ → ReadLayout → ℕ → Stream → Type 0
 Finishes old read_before before code read count new =
-    MatchOption (refused_at old.phase)
+    MatchOption (no_whole_at old.phase)
     (FinishesOn old read_before before code read count new)
     (λ why. Refuses why old code new × (read ≡ read_before) × (count ≡ before))
+
+-- a part is joined behind the text that a stream has read: the waits that this tells are there, and no stream is where the part was. If it is refused, both streams are as before, but for the refusal that the first one holds; or memory ran out
+unfoldable pub Joins : Stream → Stream → ℕ → ℕ → ℕ → Stream → Stream → Type 0
+Joins old part before code count new part_now =
+    MatchOption new.refused
+    ((code ≡ 0) × CanBeJoined old.phase part.phase × JoinsTold old.phase part.phase new.phase new.waits.items × (count ≡ length new.waits.items)
+    × (new ≡ record old { phase = new.phase; waits = new.waits; refused = None }) × (part_now ≡ record part { phase = Idle }))
+    (λ why. ((IsNotJoined old.phase part.phase why × Refuses why old code new × (part_now ≡ part))
+    ⊎ (CanBeJoined old.phase part.phase × RanOut why new.phase part_now.phase new.waits.items × (code ≡ fault_code why)
+    × (new ≡ record old { phase = new.phase; waits = new.waits; refused = Some why }) × (part_now ≡ record part { phase = Idle })))
+    × (count ≡ before))
 
 -- the last stamp so far is written, of a stream that runs or whose text has ended
 unfoldable pub TellsLast : Stream → ℕ → Bool → ℕ → ℕ → Bool → Stream → Type 0

@@ -9,7 +9,7 @@ use Rattle.ft_dispatch.specs.declared.dispatch.Dispatch.{Dispatch}
 use Rattle.ft_waits.specs.Choice.{Choice, and_without}
 use Rattle.ft_waits.specs.declared.fault.WaitsFault.TheVariants.{Memory}
 use Rattle.ft_waits.specs.declared.left_out.Without.{Without}
-use Rattle.ft_stream.specs.Telling.{Streams, refused_at}
+use Rattle.ft_stream.specs.Telling.{Kind, Streams, refused_at}
 use Rattle.ft_stream.specs.declared.fault.StreamFault.{StreamFault}
 use Rattle.ft_stream.specs.declared.fault.StreamFault.TheVariants.{Text, NoStream, NoEvent, Filter}
 use Rattle.ft_stream.specs.declared.phase.Phase.{Phase}
@@ -28,15 +28,15 @@ without_for name (byte ∷ bytes) = filtered name (filter_of name (byte ∷ byte
 abbrev pub LeavesThemOut : Name → List ℕ → Phase → Phase → Type 0
 LeavesThemOut name filter old new =
     (without : Without) × (without_for name filter ≡ Ok without)
-    × ((choice : Choice) (text : List ℕ) (told : List Dispatch) → Streams choice old text told → (text ≡ []) × Streams (and_without choice without) new text told)
+    × ((kind : Kind) (choice : Choice) (text : List ℕ) (told : List Dispatch) → Streams kind choice old text told → (text ≡ []) × Streams kind (and_without choice without) new text told)
 
 -- the text goes on as before
 abbrev pub GoesOn : Phase → Phase → Type 0
-GoesOn old new = (choice : Choice) (text : List ℕ) (told : List Dispatch) → Streams choice old text told → Streams choice new text told
+GoesOn old new = (kind : Kind) (choice : Choice) (text : List ℕ) (told : List Dispatch) → Streams kind choice old text told → Streams kind choice new text told
 
 -- a stream that runs has read some of its text
 abbrev pub HasBegun : Phase → Type 0
-HasBegun phase = (choice : Choice) (text : List ℕ) (told : List Dispatch) → Streams choice phase text told → text ≢ []
+HasBegun phase = (kind : Kind) (choice : Choice) (text : List ℕ) (told : List Dispatch) → Streams kind choice phase text told → text ≢ []
 
 -- the text of a filter on events of a name can't be read for this
 abbrev pub IsUnread : Name → List ℕ → StreamFault → Type 0

@@ -1,7 +1,9 @@
 pub mod Calls
 pub mod Doubting
 pub mod Faults
+pub mod Joining
 pub mod Layouts
 pub mod Leaving
 pub mod Summing
 pub mod Telling
+pub mod inner

@@ -6,7 +6,7 @@ use Rattle.ft_summary.specs.declared.sums.Sums.{Sums}
 use Rattle.ft_summary.specs.declared.sums.TaskSum.{TaskSum}
 use Rattle.ft_waits.specs.Choice.{Choice, and_sums}
 use Rattle.ft_stream.specs.Leaving.{HasBegun}
-use Rattle.ft_stream.specs.Telling.{Streams, refused_at}
+use Rattle.ft_stream.specs.Telling.{Kind, Streams, no_whole_at}
 use Rattle.ft_stream.specs.declared.fault.StreamFault.{StreamFault}
 use Rattle.ft_stream.specs.declared.fault.StreamFault.TheVariants.{NoStream}
 use Rattle.ft_stream.specs.declared.phase.Phase.{Phase}
@@ -14,11 +14,11 @@ use Rattle.ft_stream.specs.declared.phase.Phase.TheVariants as phases
 
 -- tasks and CPUs are summed up as well, of a text of which nothing was read
 abbrev pub SumsThemUp : Phase → Phase → Type 0
-SumsThemUp old new = (choice : Choice) (text : List ℕ) (told : List Dispatch) → Streams choice old text told → (text ≡ []) × Streams (and_sums choice) new text told
+SumsThemUp old new = (kind : Kind) (choice : Choice) (text : List ℕ) (told : List Dispatch) → Streams kind choice old text told → (text ≡ []) × Streams kind (and_sums choice) new text told
 
--- why they are not: no stream takes pieces, or it has taken one
+-- why they are not: no whole text runs, or it has taken a piece
 abbrev pub IsTooLate : Phase → StreamFault → Type 0
-IsTooLate phase why = (refused_at phase ≡ Some why) ⊎ ((why ≡ NoStream) × HasBegun phase)
+IsTooLate phase why = (no_whole_at phase ≡ Some why) ⊎ ((why ≡ NoStream) × HasBegun phase)
 
 -- ---- what is copied
 
@@ -34,6 +34,7 @@ cpus_of (Some sums) = sums.cpus.items
 abbrev pub tasks_at : Phase → List TaskSum
 tasks_at phases.Idle = []
 tasks_at (phases.Running waits) = []
+tasks_at (phases.Part part) = []
 tasks_at (phases.Failed fault) = []
 tasks_at (phases.Finished finished) = tasks_of finished.read.sums
 
@@ -41,5 +42,6 @@ tasks_at (phases.Finished finished) = tasks_of finished.read.sums
 abbrev pub cpus_at : Phase → List CpuSum
 cpus_at phases.Idle = []
 cpus_at (phases.Running waits) = []
+cpus_at (phases.Part part) = []
 cpus_at (phases.Failed fault) = []
 cpus_at (phases.Finished finished) = cpus_of finished.read.sums

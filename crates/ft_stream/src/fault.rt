@@ -1,24 +1,26 @@
 //! Why a call of a stream is refused.
 
 ghost use Rattle.std.specs.Prelude.{◌≡◌, Some};
-ghost use Rattle.ft_stream.specs.Faults.{text_code, fault_code, with_text_detail, refusal_layout};
+ghost use Rattle.ft_stream.specs.Faults.{text_code, fault_code, join_number, with_text_detail, refusal_layout};
 
 use ft_base::Refused;
 use ft_filter::FilterFault;
 use ft_layout::RefusalLayout;
-use ft_waits::WaitsFault;
+use ft_waits::{JoinFault, WaitsFault};
 
 /// Why a call of a stream is refused.
 #[derive(Clone, Copy, Debug, PartialEq, Eq)]
 pub enum StreamFault {
     /// The text is refused, or memory ran out.
     Text(WaitsFault),
-    /// No stream runs, none has finished, or the one that runs has taken a piece.
+    /// No stream runs, or none of this kind, none has finished, or the one that runs has taken a piece.
     NoStream,
     /// No event has the name.
     NoEvent,
     /// The text of a filter can't be read.
     Filter(FilterFault),
+    /// The part can't be joined.
+    Part(JoinFault),
 }
 
 /// The code of a text's refusal.
@@ -43,7 +45,24 @@ impl StreamFault {
             StreamFault::NoStream => 19,
             StreamFault::NoEvent => 16,
             StreamFault::Filter(_) => 9,
+            StreamFault::Part(_) => 20,
         }
+    }
+}
+
+/// The number of why a part is not joined.
+fn join_number(fault: JoinFault) -> u32
+    ensures { result ≡ join_number fault }
+{
+    match fault {
+        JoinFault::Failed => 1,
+        JoinFault::Unended => 2,
+        JoinFault::Differs => 3,
+        JoinFault::Summed => 4,
+        JoinFault::TooLong => 5,
+        JoinFault::Overlaps => 6,
+        JoinFault::Torn => 7,
+        JoinFault::Memory => 8,
     }
 }
 
@@ -74,6 +93,10 @@ fn refusal_layout(fault: StreamFault) -> RefusalLayout
     match fault {
         StreamFault::Text(fault) => with_text_detail(numbered, fault),
         StreamFault::Filter(fault) => RefusalLayout::of(Some(Refused::BadFilter(fault))),
+        StreamFault::Part(fault) => RefusalLayout {
+            fault: join_number(fault),
+            ..numbered
+        },
         StreamFault::NoStream | StreamFault::NoEvent => numbered,
     }
 }

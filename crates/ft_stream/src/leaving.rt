@@ -2,7 +2,7 @@
 
 ghost use Rattle.std.specs.Prelude.{◌≡◌, ◌⊎◌, OnOk, OnErr, IfOk, IfErr, Ok};
 ghost use Rattle.ft_stream.specs.Leaving.{without_for, IsUnread, LeavesThemOut, GoesOn, IsRefused};
-ghost use Rattle.ft_stream.specs.declared.phase.Phase.TheVariants.{Running};
+ghost use Rattle.ft_stream.specs.inner.Leaving.{AreLeftOut, AreNotLeftOut, ReadsTheSame};
 
 use crate::fault::StreamFault;
 use crate::phase::Phase;
@@ -29,25 +29,21 @@ fn read_without(alloc: Global, name: Name, filter: &[u8]) -> Result<Without, Str
     }
 }
 
-/// Leaves events out of the text of a stream that runs.
-fn leave_out(
-    running: &mut Waits,
-    alloc: Global,
-    name: Name,
-    filter: &[u8],
-) -> Result<(), StreamFault>
-    ensures leaves { OnOk result (LeavesThemOut name filter.now (Running running.old) (Running running.new)) }
-    ensures refused { IfErr result (λ why. IsRefused name filter.now (Running running.old) why) }
-    ensures stays { OnErr result (GoesOn (Running running.old) (Running running.new)) }
+/// Leaves events out of a text, or of a part.
+fn leave_out(waits: &mut Waits, alloc: Global, name: Name, filter: &[u8]) -> Result<(), StreamFault>
+    ensures leaves { OnOk result (AreLeftOut name filter.now waits.old waits.new) }
+    ensures failed { waits.new.failed ≡ waits.old.failed }
+    ensures refused { IfErr result (λ why. AreNotLeftOut name filter.now waits.old why) }
+    ensures stays { OnErr result (ReadsTheSame waits.old waits.new) }
 {
-    if running.has_begun() {
+    if waits.has_begun() {
         return Err(StreamFault::NoStream);
     }
     if name == Name::Other {
         return Err(StreamFault::NoEvent);
     }
     let without = read_without(alloc, name, filter)?;
-    match running.leave_out(without) {
+    match waits.leave_out(without) {
         Ok(()) => Ok(()),
         Err(WithoutFault::Memory) => Err(StreamFault::Text(WaitsFault::Memory)),
         Err(WithoutFault::Late) => Err(StreamFault::NoStream),
@@ -67,6 +63,7 @@ pub(crate) fn leave_out_phase(
 {
     match phase {
         Phase::Running(running) => leave_out(running, alloc, name, filter),
+        Phase::Part(part) => leave_out(&mut part.waits, alloc, name, filter),
         Phase::Failed(fault) => Err(StreamFault::Text(*fault)),
         Phase::Idle | Phase::Finished(_) => Err(StreamFault::NoStream),
     }

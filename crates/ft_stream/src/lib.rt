@@ -28,6 +28,11 @@
 //!   is written, and what the stream is afterwards. A text is refused as `ft_waits` refuses it; from then on
 //!   each call answers the same, until a stream begins or ends. Lets through: running out of memory at any
 //!   time; how early a wait is told; memory that is kept of waits that were told.
+//! - `Stream::begin_part`, `join`: a text may be read in parts, each by a stream of its own, and joined in
+//!   order. What is told of the parts and by the joins is together what one stream tells of the whole text:
+//!   `IsJoined` (`specs/Joining.antt`), over `JoinsTexts` of `ft_waits`. A part that doesn't fit is refused,
+//!   with both streams as before. Lets through: running out of memory at any time, after which the text has
+//!   failed and the part is gone.
 //! - `Stream::leave_out`: events of a name are left out, by the text of a filter (`specs/Leaving.antt`); in
 //!   which order its refusals are tested is let through. `Stream::last`, `Phase::events`: the last stamp and
 //!   the counts so far, of lines that have ended.
@@ -41,16 +46,19 @@
 //!   part of a list, as the copies of `ft_layout` are.
 #![tactic(auto)]
 
+mod apart;
 mod copying;
 mod doubting;
 mod fault;
 mod held;
+mod joining;
 mod layouts;
 mod leaving;
 mod phase;
 mod stream;
 mod summing;
 
+pub use apart::Part;
 pub use copying::{copy_holes, copy_left_out, copy_numbers, copy_waits};
 pub use fault::{StreamFault, refusal_of};
 pub use ft_waits::BadLines;

@@ -5,10 +5,11 @@ ghost use Rattle.ft_waits.specs.Reading.{history, history_so_far, events_of, las
 ghost use Rattle.ft_waits.specs.Streams.{HasRead, AreDispatches};
 ghost use Rattle.ft_waits.specs.Choice.{Choice};
 ghost use Rattle.ft_dispatch.specs.declared.dispatch.Dispatch.{Dispatch as Told};
-ghost use Rattle.ft_stream.specs.Telling.{HasTold, AreWaits, Streams, Ends, refused_at, failed_at, unfinished_at, untold_at, finished_at, holes_at, left_out_at, events_at, last_at, waits_of};
+ghost use Rattle.ft_stream.specs.Telling.{Kind, Whole, HasTold, AreWaits, Streams, Ends, refused_at, no_whole_at, failed_at, unfinished_at, untold_at, finished_at, holes_at, left_out_at, events_at, last_at, waits_of};
 ghost use Rattle.ft_stream.specs.Doubting.{doubted};
 ghost use Rattle.ft_stream.specs.Layouts.{read_layout};
 
+use crate::apart::Part;
 use crate::doubting::doubt_all;
 use crate::fault::StreamFault;
 use crate::layouts::{ReadLayout, WaitLayout};
@@ -32,8 +33,10 @@ pub struct Finished {
 pub enum Phase {
     /// No stream has begun.
     Idle,
-    /// It takes pieces.
+    /// It takes pieces of a text.
     Running(Waits),
+    /// It takes pieces of a text that is a part of a longer one, not its beginning.
+    Part(Part),
     /// It failed, and takes no more.
     Failed(WaitsFault),
     /// Its text has ended.
@@ -114,9 +117,9 @@ pub(crate) fn feed_phase(
     piece: &[u8],
     told: &mut Vec<Dispatch>,
 ) -> Result<(), StreamFault>
-    ensures reads { IfNone (refused_at phase.old) ((choice : Choice) (text : List ℕ) (before : List Told)
-        → Streams choice phase.old text before
-        → Streams choice phase.new (text ++ piece.now) (before ++ told.new.items)) }
+    ensures reads { IfNone (refused_at phase.old) ((kind : Kind) (choice : Choice) (text : List ℕ) (before : List Told)
+        → Streams kind choice phase.old text before
+        → Streams kind choice phase.new (text ++ piece.now) (before ++ told.new.items)) }
     ensures accepted { OnOk result (refused_at phase.new ≡ None) }
     ensures refused { IfErr result (λ why. refused_at phase.new ≡ Some why) }
     ensures none { IfNone (refused_at phase.old) (OnErr result (told.new.items ≡ [])) }
@@ -125,6 +128,13 @@ pub(crate) fn feed_phase(
 {
     match phase {
         Phase::Running(running) => match take_piece(running, piece, told) {
+            Ok(()) => Ok(()),
+            Err(fault) => {
+                *phase = Phase::Failed(fault);
+                Err(StreamFault::Text(fault))
+            }
+        },
+        Phase::Part(part) => match part.feed(piece, told) {
             Ok(()) => Ok(()),
             Err(fault) => {
                 *phase = Phase::Failed(fault);
@@ -142,14 +152,14 @@ pub(crate) fn finish_phase(
     alloc: Global,
     told: &mut Vec<Dispatch>,
 ) -> Result<ReadLayout, StreamFault>
-    ensures reads { IfNone (refused_at phase.old) ((choice : Choice) (text : List ℕ) (before : List Told)
-        → Streams choice phase.old text before
+    ensures reads { IfNone (no_whole_at phase.old) ((choice : Choice) (text : List ℕ) (before : List Told)
+        → Streams Whole choice phase.old text before
         → Ends choice phase.new text (before ++ told.new.items)) }
     ensures accepted { IfOk result (λ shown. (failed_at phase.new ≡ None)
         × IsSomeAnd (finished_at phase.new) (λ finished. shown ≡ read_layout finished)) }
-    ensures refused { IfNone (refused_at phase.old) (IfErr result (λ why. (failed_at phase.new ≡ Some why)
+    ensures refused { IfNone (no_whole_at phase.old) (IfErr result (λ why. (failed_at phase.new ≡ Some why)
         × (told.new.items ≡ []))) }
-    ensures stays { IfSome (refused_at phase.old) (λ why. (result ≡ Err why)
+    ensures stays { IfSome (no_whole_at phase.old) (λ why. (result ≡ Err why)
         × (phase.new ≡ phase.old) × (told.new ≡ told.old)) }
 {
     match mem::replace(phase, Phase::Idle) {
@@ -164,6 +174,10 @@ pub(crate) fn finish_phase(
                 Err(StreamFault::Text(fault))
             }
         },
+        Phase::Part(part) => {
+            *phase = Phase::Part(part);
+            Err(StreamFault::NoStream)
+        }
         Phase::Failed(fault) => {
             *phase = Phase::Failed(fault);
             Err(StreamFault::Text(fault))
@@ -189,7 +203,7 @@ pub(crate) fn doubt_phase(phase: &Phase, waits: &mut [WaitLayout]) -> Result<(),
             Ok(())
         }
         Phase::Failed(fault) => Err(StreamFault::Text(*fault)),
-        Phase::Idle | Phase::Running(_) => Err(StreamFault::NoStream),
+        Phase::Idle | Phase::Running(_) | Phase::Part(_) => Err(StreamFault::NoStream),
     }
 }
 
@@ -217,12 +231,13 @@ impl Phase {
     /// How many events each CPU had so far, by its number: in lines that have ended, if the text hasn't.
     pub fn events(&self) -> &[u32]
         ensures value { result.now ≡ events_at self.now }
-        ensures meaning { (choice : Choice) (text : List ℕ) (told : List Told)
-            → Streams choice self.now text told → refused_at self.now ≡ None
+        ensures meaning { (kind : Kind) (choice : Choice) (text : List ℕ) (told : List Told)
+            → Streams kind choice self.now text told → refused_at self.now ≡ None
             → CountsEvents result.now (events_of (history_so_far text)) }
     {
         match self {
             Phase::Running(running) => running.events(),
+            Phase::Part(part) => part.waits.events(),
             Phase::Finished(finished) => finished.read.events.as_slice(),
             Phase::Idle | Phase::Failed(_) => &[],
         }
@@ -233,11 +248,12 @@ impl Phase {
     pub(crate) fn last(&self) -> Result<Option<u64>, StreamFault>
         ensures value { IfOk result (λ last. (untold_at self.now ≡ None) × (last ≡ last_at self.now)) }
         ensures refused { IfErr result (λ why. untold_at self.now ≡ Some why) }
-        ensures meaning { IfOk result (λ last. (choice : Choice) (text : List ℕ) (told : List Told)
-            → Streams choice self.now text told → last ≡ last_stamp (events_of (history_so_far text))) }
+        ensures meaning { IfOk result (λ last. (kind : Kind) (choice : Choice) (text : List ℕ) (told : List Told)
+            → Streams kind choice self.now text told → last ≡ last_stamp (events_of (history_so_far text))) }
     {
         match self {
             Phase::Running(running) => Ok(running.last()),
+            Phase::Part(part) => Ok(part.waits.last()),
             Phase::Finished(finished) => Ok(finished.read.last),
             Phase::Failed(fault) => Err(StreamFault::Text(*fault)),
             Phase::Idle => Err(StreamFault::NoStream),

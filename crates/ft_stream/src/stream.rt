@@ -1,11 +1,13 @@
 //! A stream of waits, and its calls.
 
-ghost use Rattle.std.specs.Prelude.{◌≡◌, Some, None};
-ghost use Rattle.ft_stream.specs.Calls.{IsIdle, Begins, LeavesOut, SumsUp, Feeds, Finishes, TellsLast, Holds, DoubtsWaits};
+ghost use Rattle.std.specs.Prelude.{◌≡◌, [], Some, None};
+ghost use Rattle.ft_stream.specs.Calls.{IsIdle, Begins, BeginsPart, Joins, LeavesOut, SumsUp, Feeds, Finishes, TellsLast, Holds, DoubtsWaits};
 ghost use Rattle.ft_stream.specs.Faults.{fault_code};
 
+use crate::apart::Part;
 use crate::fault::StreamFault;
 use crate::held::held_waits;
+use crate::joining::join_phase;
 use crate::layouts::{ReadLayout, WaitLayout};
 use crate::leaving::leave_out_phase;
 use crate::phase::{Phase, doubt_phase, feed_phase, finish_phase};
@@ -61,6 +63,17 @@ impl Stream {
         }
     }
 
+    /// Stands there now, and no wait is told: the code 0.
+    fn stand_at(&mut self, phase: Phase) -> u32
+        ensures code { result ≡ 0 }
+        ensures none { self.new.waits.items ≡ [] }
+        ensures stands { self.new ≡ record self.old { phase = phase; waits = self.new.waits; refused = None } }
+    {
+        self.phase = phase;
+        self.waits.clear();
+        accept(&mut self.refused)
+    }
+
     /// Begins a stream, and ends the one that was there. Refused only for memory: the one that was there
     /// stays then.
     #[tactic(auto, unfolding(crate::specs::Calls::Begins))]
@@ -68,12 +81,45 @@ impl Stream {
         ensures { Begins bad_lines self.old result self.new }
     {
         match Waits::new(self.alloc, bad_lines) {
-            Ok(running) => {
-                self.phase = Phase::Running(running);
-                self.waits.clear();
+            Ok(running) => self.stand_at(Phase::Running(running)),
+            Err(_) => refuse(&mut self.refused, StreamFault::Text(WaitsFault::Memory)),
+        }
+    }
+
+    /// Begins a stream whose text is a part of a longer one, not its beginning, and ends the one that was
+    /// there. What came before the part is not known, so it tells no wait that ends with the first dispatch
+    /// of a task: those are held back until it is joined behind the text before it. Places are counted from
+    /// its own start. It is not ended or summed up by itself. Refused only for memory: the one that was
+    /// there stays then.
+    #[tactic(auto, unfolding(crate::specs::Calls::BeginsPart))]
+    pub fn begin_part(&mut self, bad_lines: BadLines) -> u32
+        ensures { BeginsPart bad_lines self.old result self.new }
+    {
+        match Part::new(self.alloc, bad_lines) {
+            Ok(part) => self.stand_at(Phase::Part(part)),
+            Err(_) => refuse(&mut self.refused, StreamFault::Text(WaitsFault::Memory)),
+        }
+    }
+
+    /// Joins a part behind the text that was read so far, as if its text had been fed here: how many waits
+    /// this told. They are those of the last microsecond before the seam, and after them those of the
+    /// dispatches that the part held back, at their places in the whole text. Of the waits that the part
+    /// told before only the places move: by how many events each CPU had here before the join. No stream
+    /// is where the part was then.
+    ///
+    /// Refused if no whole text runs here or no part there, if one of the two is refused, and for the reasons
+    /// of `Waits::meets`: both are as before then. If memory runs out the stream has failed, and
+    /// the part is gone.
+    #[tactic(auto, unfolding(crate::specs::Calls::Joins))]
+    pub fn join(&mut self, part: &mut Stream, count: &mut u64) -> u32
+        ensures { Joins self.old part.old count.old result count.new self.new part.new }
+    {
+        match join_phase(&mut self.phase, &mut part.phase, &mut self.waits) {
+            Ok(()) => {
+                *count = self.waits.len() as u64;
                 accept(&mut self.refused)
             }
-            Err(_) => refuse(&mut self.refused, StreamFault::Text(WaitsFault::Memory)),
+            Err(why) => refuse(&mut self.refused, why),
         }
     }
 
@@ -92,7 +138,7 @@ impl Stream {
     }
 
     /// Sums up the tasks and CPUs of the text as well. Refused if no stream runs, or the one that runs has
-    /// taken a piece: the stream goes on as before then.
+    /// taken a piece or is a part: the stream goes on as before then.
     #[tactic(auto, unfolding(crate::specs::Calls::SumsUp))]
     pub fn sum_up(&mut self) -> u32
         ensures { SumsUp self.old result self.new }
@@ -119,7 +165,7 @@ impl Stream {
     }
 
     /// Ends the text: how many waits were left, and what was read of it. The stream has ended then. Refused
-    /// as `Waits::finish` is, and if no stream runs.
+    /// as `Waits::finish` is, and if no stream runs, or a part.
     #[tactic(auto, unfolding(crate::specs::Calls::Finishes, crate::specs::Calls::FinishesOn))]
     pub fn finish(&mut self, read: &mut ReadLayout, count: &mut u64) -> u32
         ensures { Finishes self.old read.old count.old result read.new count.new self.new }

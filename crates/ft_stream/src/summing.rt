@@ -169,6 +169,6 @@ pub(crate) fn sum_up_phase(phase: &mut Phase, alloc: Global) -> Result<(), Strea
             Err(_) => Err(StreamFault::NoStream),
         },
         Phase::Failed(fault) => Err(StreamFault::Text(*fault)),
-        Phase::Idle | Phase::Finished(_) => Err(StreamFault::NoStream),
+        Phase::Idle | Phase::Part(_) | Phase::Finished(_) => Err(StreamFault::NoStream),
     }
 }

@@ -41,7 +41,8 @@
 //!   one stream had read both: `JoinsTexts` (`specs/Joining.antt`). Of the part's dispatches the caller keeps the first one
 //!   of each task: they are completed, and of all others only the places move (law `ft_dispatch::first_ones_join`).
 //!   Refused, with all as before, for the reasons of `CannotJoin`: so is a stream that sums up, on either side, since
-//!   who waits at the seam changes the idle time with waiters of the whole part. Lets through: running out of memory at any time,
+//!   who waits at the seam changes the idle time with waiters of the whole part. `meets` is the test alone, and
+//!   `join_met` joins a part that passed it. Lets through: running out of memory at any time,
 //!   after which the stream has failed; joining streams that leave out as many kinds of events, but others.
 //! - `moved_place`: a place of a part that was read apart, behind so many events of each CPU; exact,
 //!   `moved_within` (`specs/Moving.antt`). `places_move`: the law that such places are those of the whole.

@@ -1,6 +1,6 @@
 //! A text and the text after it, which was read apart.
 
-ghost use Rattle.std.specs.Prelude.{◌≡◌, ◌≢◌, ◌+◌, ◌<◌, ◌≤◌, true, false, ℕ, List, Some, Err, option_map, length, OnOk, IfErr};
+ghost use Rattle.std.specs.Prelude.{◌≡◌, ◌≢◌, ◌+◌, ◌<◌, ◌≤◌, true, false, ℕ, List, Some, None, Err, option_map, length, OnOk, OnErr, IfErr};
 ghost use Rattle.ft_waits.specs.Joining.{CanJoin, CannotJoin, JoinsTexts};
 ghost use Rattle.ft_waits.specs.inner.Lines.{bad_behind, lines_with, JoinsReadings};
 
@@ -121,8 +121,8 @@ impl Reading {
 }
 
 impl Waits {
-    /// Whether a part can be joined, or why not.
-    fn meets(&self, part: &Waits) -> Result<(), JoinFault>
+    /// Whether a part can be joined, or why not: each reason but memory for which `join` is refused.
+    pub fn meets(&self, part: &Waits) -> Result<(), JoinFault>
         ensures ok { OnOk result (CanJoin self.now part.now) }
         ensures err { IfErr result (λ fault. CannotJoin fault self.now part.now) }
     {
@@ -156,6 +156,36 @@ impl Waits {
         Ok(())
     }
 
+    /// Joins a part that can be joined (`meets`), as `join` does. Fails only for memory: the stream has
+    /// failed then.
+    pub fn join_met(
+        &mut self,
+        part: Waits,
+        out: &mut Vec<Dispatch>,
+        ones: &mut [Dispatch],
+    ) -> Result<(), AllocError>
+        requires { CanJoin self.old part }
+        ensures joins { OnOk result (JoinsTexts self.old part out.old.items ones.old self.new out.new.items ones.new) }
+        ensures well { OnOk result (self.new.failed ≡ None) }
+        ensures memory { OnErr result (self.new.failed ≡ Some WaitsFault.Memory) }
+    {
+        let Waits {
+            reading,
+            unended,
+            ..
+        } = part;
+        match self.reading.join(reading, out, ones) {
+            Ok(()) => {
+                self.unended = unended;
+                Ok(())
+            }
+            Err(refused) => {
+                self.failed = Some(WaitsFault::Memory);
+                Err(refused)
+            }
+        }
+    }
+
     /// Joins a part, as if its text had followed: `self` has read a text that ends with a line break, and
     /// `part` the text after it, from its own start. `ones` are dispatches that the part told, the first
     /// one of each task at least. Adds the dispatches of the last microsecond before the seam, and moves
@@ -180,20 +210,9 @@ impl Waits {
         ensures memory { result ≡ Err JoinFault.Memory → self.new.failed ≡ Some WaitsFault.Memory }
     {
         self.meets(&part)?;
-        let Waits {
-            reading,
-            unended,
-            ..
-        } = part;
-        match self.reading.join(reading, out, ones) {
-            Ok(()) => {
-                self.unended = unended;
-                Ok(())
-            }
-            Err(_) => {
-                self.failed = Some(WaitsFault::Memory);
-                Err(JoinFault::Memory)
-            }
+        match self.join_met(part, out, ones) {
+            Ok(()) => Ok(()),
+            Err(_) => Err(JoinFault::Memory),
         }
     }
 }
