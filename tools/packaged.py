@@ -6,24 +6,11 @@ import importlib.machinery
 import os
 import sys
 import types
-from typing import Any, Callable, NoReturn, Optional
+from typing import Optional
 
 # The package stands beside this folder.
 SOURCES = os.path.join(os.path.dirname(os.path.dirname(os.path.realpath(__file__))), "python")
 PACKAGE = os.path.join(SOURCES, "histdesk")
-
-
-class Missing:
-    """Stands for the library where only help is asked for. Each call raises the error that says why there is none."""
-
-    def __init__(self, error: ImportError) -> None:
-        self.error = error
-
-    def __getattr__(self, name: str) -> Callable[..., NoReturn]:
-        return self.fail
-
-    def fail(self, *_: Any) -> NoReturn:
-        raise self.error
 
 
 class Loader(importlib.machinery.SourceFileLoader):
@@ -41,8 +28,8 @@ class Loader(importlib.machinery.SourceFileLoader):
 
 
 def check(tool: str) -> None:
-    """Ends the tool, with the reason and status 2, where the package can't be imported. Where the library alone is missing
-    and the words ask for help, which doesn't need it, the package can be imported without it."""
+    """Ends the tool, with the reason and status 2, if the package or its library can't be loaded. If the words ask for help,
+    which doesn't need the library, that isn't looked for."""
     # Nearly all that an import makes stays: looking for garbage so seldom spares a tenth of the time until a tool begins.
     gc.set_threshold(100_000)
     # Where it is installed, it may have been compiled there.
@@ -50,12 +37,9 @@ def check(tool: str) -> None:
         for folder in (SOURCES, PACKAGE):
             sys.path_importer_cache[folder] = importlib.machinery.FileFinder(folder, (Loader, [".py"]))
     try:
-        importlib.import_module("histdesk")
+        package = importlib.import_module("histdesk")
+        if not {"-h", "--help"} & {*sys.argv[1:]}:
+            package._library.library.histdesk_new  # pylint: disable=pointless-statement
     except ImportError as error:
-        is_library = (error.name or "").startswith("libhistdesk")
-        if not is_library or not {"-h", "--help"} & {*sys.argv[1:]}:
-            print(f"{tool}: {error}", file=sys.stderr)
-            sys.exit(2)
-        stand_in: Any = types.ModuleType("histdesk._library")
-        stand_in.library = Missing(error)
-        sys.modules[stand_in.__name__] = stand_in
+        print(f"{tool}: {error}", file=sys.stderr)
+        sys.exit(2)

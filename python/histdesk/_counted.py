@@ -3,13 +3,15 @@
 from __future__ import annotations
 
 import contextlib
-from typing import Any, Collection, Dict, List, NamedTuple, Optional
+import functools
+from typing import Any, Collection, Dict, Iterator, List, NamedTuple, Optional, Tuple
 
 from . import _layout, _stream
 from ._counts import Counts
 from ._desk import Trace
-from ._kept import KINDS, Aside, chosen
+from ._kept import KINDS, Aside, Besides, chosen
 from ._layout import needed
+from ._parallel import at_once
 from ._stream import ReadText
 from ._tally import LastNames, Tally
 from ._waits import About, ReadOptions, Summary, about_text, answer_of, unknown_of
@@ -75,6 +77,12 @@ class Kinds:
         """Counts some records."""
         self.all = added(self.all, records)
 
+    def add(self, other: Kinds) -> None:
+        """Adds other ones."""
+        self.all = [count + more for count, more in zip(self.all, other.all)]
+        self.counted = [count + more for count, more in zip(self.counted, other.counted)]
+        self.likely += other.likely
+
     def add_chosen(self, records: Any) -> None:
         """Counts those of them that are chosen."""
         numpy, doubt = needed(), records["doubt"]
@@ -106,21 +114,37 @@ def put_aside() -> Aside:
     return Aside(_stream.CHUNK)
 
 
+class Portion:
+    """What is counted of some of the waits of a text, in the order in which they ended."""
+
+    def __init__(self, choice: Choice) -> None:
+        self._choice = choice
+        self.tally, self.last, self.kinds = Tally(choice.by, choice.doubtful), LastNames(), Kinds(choice)
+
+    def add(self, parts: Iterator[Tuple[Any, Besides]], text: ReadText) -> None:
+        """Counts the waits of a text that was read."""
+        kinds, cpus = self._choice.kinds, self._choice.cpus
+        for records, besides in parts:
+            if text.read.losses.holes:
+                text.feed.judge(records, besides)
+            self.kinds.add_all(records)
+            if not (kinds is None and cpus is None):
+                records = records[chosen(records, kinds, cpus)]
+            self.kinds.add_chosen(records)
+            self.tally.add(records)
+            if text.read.losses.holes:
+                self.last.add(records)
+
+
 def counted_of(found: ReadText, choice: Choice, path: Optional[str]) -> Counted:
     """The waits of a text that was read, whose stream is closed."""
-    tally, last, kinds = Tally(choice.by, choice.doubtful), LastNames(), Kinds(choice)
-    read = found.read
-    with contextlib.closing(found.feed) as feed:
-        for records, besides in found.waits.parts():
-            if read.losses.holes:
-                feed.judge(records, besides)
-            kinds.add_all(records)
-            if not (choice.kinds is None and choice.cpus is None):
-                records = records[chosen(records, choice.kinds, choice.cpus)]
-            kinds.add_chosen(records)
-            tally.add(records)
-            if read.losses.holes:
-                last.add(records)
-    names = found.waits.names()
-    about = about_text(path, read, unknown_of(kinds.all))
-    return Counted(about, choice, tally.counts(names), kinds, last.named(names))
+    with contextlib.closing(found.feed):
+        names = found.waits.names()
+        portions = [(Portion(choice), parts) for parts in found.waits.portions()]
+        at_once([functools.partial(portion.add, parts, found) for portion, parts in portions])
+    counts = Counts.merged([portion.tally.counts(names) for portion, _ in portions])
+    kinds, last = Kinds(choice), {}
+    for portion, _ in portions:
+        kinds.add(portion.kinds)
+        last.update(portion.last.named(names))
+    return Counted(about_text(path, found.read, unknown_of(kinds.all)), choice, counts, kinds, last)

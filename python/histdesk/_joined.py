@@ -106,9 +106,12 @@ class Joined:
 
     def parts(self) -> Iterator[Tuple[Any, Besides]]:
         """All records by and by, copied, each array with what was besides by the index in it."""
-        yield from self._first.parts()
-        for part in self._parts:
-            yield from part.parts(self._first.numbers)
+        for portion in self.portions():
+            yield from portion
+
+    def portions(self) -> List[Iterator[Tuple[Any, Besides]]]:
+        """The same in several portions that may be gone through at once, in order, after `names` was asked for."""
+        return [self._first.parts(), *(part.parts(self._first.numbers) for part in self._parts)]
 
 
 def renamed(told: Told, names: Any) -> Iterator[Tuple[Any, Besides]]:

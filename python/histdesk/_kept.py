@@ -66,6 +66,10 @@ class Told:
         """All records by and by, copied, each array with what was besides by the index in it."""
         raise NotImplementedError
 
+    def portions(self) -> List[Iterator[Tuple[Any, Besides]]]:
+        """The same in several portions that may be gone through at once, in order, after `names` was asked for."""
+        return [self.parts()]
+
     def __len__(self) -> int:
         """How many waits were taken."""
         raise NotImplementedError

@@ -111,23 +111,38 @@ def where() -> str:
     return "\n  ".join(["It was looked for here:", *candidates(package), "the loader's folders"])
 
 
-def opened(path: str) -> ctypes.PyDLL:
-    """The library at that path. No other thread runs Python code during a call.
+class Library:
+    """The library, which is loaded at its first call. A call is an attribute of its name.
 
-    Raises `ImportError` where it can't be loaded, which says what to do."""
-    try:
-        return ctypes.PyDLL(path)
-    except OSError as error:
-        raise ImportError(
-            f"histdesk needs the library {NAME}, which can't be loaded:\n  {error}\n{where()}\n"
-            "tools/build makes it in a checkout of histdesk, tools/install puts it where it is found, and the\n"
-            f"environment variable {VARIABLE} may name the file.",
-            name=NAME,
-        ) from None
+    Raises `ImportError` at the first call if the library can't be loaded, which says what to do, or lacks a call."""
+
+    def __init__(self, kind: Any) -> None:
+        """How ctypes has it."""
+        self._kind = kind
+
+    def __getattr__(self, name: str) -> Any:
+        if name.startswith("__"):
+            raise AttributeError(name)
+        loaded = bound(self._opened(found()))
+        # They are found here from now on.
+        self.__dict__.update((known, getattr(loaded, known)) for known in ("_name", *CALLS, *REFUSAL_CALLS))
+        return getattr(loaded, name)
+
+    def _opened(self, path: str) -> Any:
+        """The library at that path."""
+        try:
+            return self._kind(path)
+        except OSError as error:
+            raise ImportError(
+                f"histdesk needs the library {NAME}, which can't be loaded:\n  {error}\n{where()}\n"
+                "tools/build makes it in a checkout of histdesk, tools/install puts it where it is found, and the\n"
+                f"environment variable {VARIABLE} may name the file.",
+                name=NAME,
+            ) from None
 
 
-def bound(library: ctypes.PyDLL) -> Any:
-    """The library, with the types of its calls. Raises `ImportError` where it lacks one."""
+def bound(library: Any) -> Any:
+    """The library, with the types of its calls. Raises `ImportError` if it lacks one."""
     calls = {name: (answer, [Desk, *takes]) for name, (answer, takes) in CALLS.items()}
     for name in REFUSAL_CALLS:
         calls[name] = (Size, [ctypes.POINTER(_layout.Refusal), ctypes.c_void_p, Size])
@@ -141,4 +156,7 @@ def bound(library: ctypes.PyDLL) -> Any:
     return library
 
 
-library: Any = bound(opened(found()))
+# No other thread runs Python code during a call.
+library: Any = Library(ctypes.PyDLL)
+# Other threads run meanwhile: for calls that take long, of a desk that no other thread knows.
+unlocked: Any = Library(ctypes.CDLL)

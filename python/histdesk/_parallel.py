@@ -5,7 +5,7 @@ from __future__ import annotations
 import contextlib
 import os
 import threading
-from typing import Any, Callable, Iterator, List, Optional
+from typing import Any, Callable, Iterator, List, Optional, Sequence
 
 from . import _layout
 from ._joined import After, Behind, Joined
@@ -105,6 +105,26 @@ class Part:
             self.is_refused = True
         except BaseException as error:  # pylint: disable=broad-except
             self.error, self._reader.has_stopped = error, True
+
+
+def at_once(calls: Sequence[Callable[[], None]]) -> None:
+    """Makes calls at once, each in a thread of its own but for the last one; raises what one of them raises."""
+    errors: List[BaseException] = []
+
+    def made(call: Callable[[], None]) -> None:
+        try:
+            call()
+        except BaseException as error:  # pylint: disable=broad-except
+            errors.append(error)
+
+    threads = [threading.Thread(target=made, args=(call,), daemon=True) for call in calls[:-1]]
+    for thread in threads:
+        thread.start()
+    made(calls[-1])
+    for thread in threads:
+        thread.join()
+    for error in errors:
+        raise error
 
 
 def read_all(reader: Reader, parts: List[Part]) -> None:

@@ -33,11 +33,10 @@ LATENCIES = Record(_layout.LATENCY, _layout.latency_type, Latency._make)
 class Session:
     """The library's desk, and the thread that made it."""
 
-    # Kept here for the collector, which may come when the modules are gone.
-    _free = staticmethod(library.histdesk_free)
-
     def __init__(self) -> None:
         """Raises `MemoryError` where memory ran out."""
+        # Kept here for the collector, which may come when the modules are gone.
+        self._free = library.histdesk_free
         self.handle = _layout.Handle()
         self._thread = this_thread()
         self._shapes: Dict[int, Shape] = {}

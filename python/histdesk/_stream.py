@@ -9,7 +9,7 @@ from typing import Any, Dict, Iterator, NamedTuple, Optional, Tuple
 from . import _layout, _pieces
 from ._kept import Besides, Kept, Nobody, Told, as_told, take_over, within
 from ._layout import needed
-from ._library import library
+from ._library import library, unlocked
 from ._losses import Losses, losses_copied
 from ._pieces import pieces_of
 from ._refused import exception_of
@@ -200,7 +200,7 @@ class Feed:
     def feed(self, piece: Any) -> None:
         """Takes the next piece of the text, a buffer."""
         with bytes_of(piece) as (address, length):
-            self._call(library.histdesk_waits_feed, ctypes.c_void_p(address), length, ctypes.c_uint64())
+            self._call(unlocked.histdesk_waits_feed, ctypes.c_void_p(address), length, ctypes.c_uint64())
         self.told.add_told(self._session.handle)
 
     def join(self, part: Feed, completed: Told) -> bool:

@@ -151,8 +151,8 @@ class Joined(unittest.TestCase):
             for checkpoint in checkpoints:
                 self.assertEqual(checkpoint, plain_checkpoint(text, checkpoint.at))
             middle = (alone.held.first + alone.held.last) // 2
-            slices = [one.source.between(middle, middle + 100000) for one in (found, alone)]
-            self.assertEqual(*(told(waits_of(one, None)) for one in slices))
+            slices = [one.source.between(middle, middle + 500) for one in (found, alone)]
+            self.assertEqual(*(held_by(one) for one in slices))
 
     def test_counted(self):
         """As tools/waits and export read them."""
@@ -166,6 +166,15 @@ class Joined(unittest.TestCase):
             one, many = (_aside.waits_in_parts(text, _waits.ReadOptions(jobs=jobs)) for jobs in (1, 5))
             for _ in range(2):
                 self.assertEqual(*([wait for part in _aside.parts_of(each) for wait in told(part)] for each in (many, one)))
+
+
+def held_by(recording):
+    """The stamps of the events that a desk holds of a recording, by CPU and line in the whole of it."""
+    with recording.desk() as desk:
+        places = [place for cpu in desk.cpus() for place in desk.matching("sched_switch", f"common_cpu == {cpu}")]
+    assert places
+    cpus, lines = ([int(place[field]) for place in places] for field in ("cpu", "line"))
+    return sorted(zip(cpus, (int(recording.line(*place)) for place in zip(cpus, lines)), (int(p["stamp"]) for p in places)))
 
 
 def plain_checkpoint(text, at):

@@ -391,7 +391,9 @@ class Library(unittest.TestCase):
         self.assertEqual(python(self.PROGRAM, HISTDESK_LIBRARY=place), place + "\n")
 
     def test_missing(self):
-        told = python("import histdesk", HISTDESK_LIBRARY=os.path.join(self.folder, "none"))
+        none = os.path.join(self.folder, "none")
+        self.assertEqual(python("import histdesk; print('there')", HISTDESK_LIBRARY=none), "there\n")
+        told = python("import histdesk; histdesk.Desk()", HISTDESK_LIBRARY=none)
         self.assertIn("ImportError: histdesk needs the library libhistdesk.so.0, which can't be loaded", told)
         self.assertIn(self.folder, told)
         self.assertIn("tools/install", told)
@@ -399,7 +401,8 @@ class Library(unittest.TestCase):
     def test_missing_everywhere(self):
         """It says where it was looked for, in lines."""
         shutil.copytree(os.path.join(PYTHON, "histdesk"), os.path.join(self.folder, "python", "histdesk"))
-        told = python("import histdesk", PYTHONPATH=os.path.join(self.folder, "python"), HISTDESK_LIBRARY="")
+        packages = os.path.join(self.folder, "python")
+        told = python("import histdesk; histdesk.Desk()", PYTHONPATH=packages, HISTDESK_LIBRARY="")
         lines = told[told.index("ImportError: ") :].split("\n")
         self.assertIn("It was looked for here:", lines)
         self.assertIn(f"  {self.folder}/lib/libhistdesk.so.0", lines)
@@ -407,7 +410,7 @@ class Library(unittest.TestCase):
         self.assertLessEqual(max(len(line) for line in lines if self.folder not in line), 100)
 
     def test_of_another_version(self):
-        told = python("import histdesk", HISTDESK_LIBRARY=ctypes.util.find_library("c"))
+        told = python("import histdesk; histdesk.Desk()", HISTDESK_LIBRARY=ctypes.util.find_library("c"))
         self.assertIn("has no call histdesk_new: it is of another version than this package", told)
 
 
