@@ -54,7 +54,7 @@ fi
 for python in "${pythons[@]}"; do
     part "from $python" "$python" "$tests/library/python_package.py"
     part "rows from $python" "$python" "$tests/library/python_rows.py" "$tests"/rows/* "$folder"/rows/*
-    for one in lines losses waits without sums counts slices why export diff many; do
+    for one in lines losses waits jobs without sums counts slices why export diff many; do
         part "$one from $python" "$python" "$tests/library/python_$one.py"
     done
     part "view from $python" "$python" "$tests/library/python_view.py" "$histdesk"

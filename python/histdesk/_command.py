@@ -10,9 +10,10 @@ import shlex
 import signal
 import sys
 import time
-from typing import TYPE_CHECKING, Any, Callable, Iterator, List, NoReturn, Tuple, TypeVar
+from typing import TYPE_CHECKING, Any, Callable, List, NoReturn, TypeVar
 
-from ._lines import holds_event
+from . import _converted
+from ._kinds import FRONT_ROOM, kinds_of
 from ._losses import seconds
 from ._pieces import Text, text_again
 from ._recording import Choice, Recording, counted_from, read_text
@@ -27,19 +28,6 @@ Found = TypeVar("Found", bound="Summary")
 
 EVENTS = ("sched_waking", "sched_wakeup", "sched_wakeup_new", "sched_switch", "other")
 STAMP = re.compile(r"([0-9]{1,10})(?:\.([0-9]{1,6}))?")
-# What another tool's recording begins with, and the first line of what it prints: what that is, and which tool turns it.
-RECORDED = {
-    b"PERFILE2": ("a recording of perf", "from-perf"),
-    b"\x17\x08\x44tracing": ("a recording of trace-cmd", "from-trace-cmd"),
-}
-PRINTED = {
-    re.compile(rb".* [0-9]+ +\[[0-9]+\] +[0-9]+\.[0-9]+: +[^ ]+:"): ("what perf script printed", "from-perf"),
-    re.compile(rb"cpus=[0-9]|version = [0-9]"): ("what trace-cmd report printed", "from-trace-cmd"),
-}
-# So many bytes of a text are looked at for that.
-FRONT_ROOM = 1 << 16
-# What comes before the first line that holds something, and that line, as far as a desk reads one.
-FRONT, LINE = re.compile(rb"(?:#[^\n]*\n|\n)*"), re.compile(rb"[^\n]{0,8192}")
 # So many numbers of lines are told.
 SHOWN = 5
 # After so many seconds a tool says how far it is, and so many seconds later again.
@@ -81,6 +69,19 @@ def add_part(words: argparse.ArgumentParser, cpu: str = "only events of these CP
     group.add_argument("--cpu", dest="cpus", metavar="CPUS", type=numbers, help=cpu)
     group.add_argument("--events", metavar="NAMES", type=names, help=f"only these events, as {EVENTS[0]},{EVENTS[3]}")
     group.add_argument("--lenient", action="store_true", help="leave out lines that can't be read, and say which they are")
+
+
+def add_jobs(words: argparse.ArgumentParser) -> None:
+    """The option that says how many processors read a trace."""
+    told = "read N parts of TRACE at once (as many as there are processors if it has more than 200 MB, else 1)"
+    words.add_argument("--jobs", metavar="N", type=job_count, help=told)
+
+
+def job_count(text: str) -> int:
+    """A number of parts."""
+    if not re.fullmatch("[0-9]{1,4}", text) or int(text) == 0:
+        raise argparse.ArgumentTypeError(f"{text} is no number from 1 to 9999")
+    return int(text)
 
 
 def stamp(text: str) -> int:
@@ -139,11 +140,12 @@ def whole_waits(words: argparse.Namespace, path: str, tool: str, keeps: bool = T
     """The waits of the trace of that path, or of standard input if it is `-`: of the whole of it, or of a stretch of time. What
     is lost or left out is told on standard error; how far the reading is, on a terminal. A whole standard input can be read
     again if it `keeps` that."""
-    from ._waits import waits_of_recording, waits_of_text
+    from ._waits import ReadOptions, waits_of_recording, waits_of_text
 
     def found(watch: Watch) -> Waits:
         if words.start is None and words.until is None:
-            return waits_of_text(opened(path), words.lenient, watch, path, keeps)
+            trace = watch.opened(keeps)
+            return waits_of_text(trace, ReadOptions(words.lenient, watch, path, keeps, words.jobs))
         part = stretch(words, path)
         watch.size = part.size
         return waits_of_recording(part, words.lenient, watch)
@@ -154,9 +156,13 @@ def whole_waits(words: argparse.Namespace, path: str, tool: str, keeps: bool = T
 def counted_waits(words: argparse.Namespace, path: str, tool: str, choice: Choices) -> Summary:
     """The same waits as they are counted; those of a whole trace are not kept."""
     from ._counted import counted
+    from ._waits import ReadOptions
+
+    def found(watch: Watch) -> Summary:
+        return counted(watch.opened(False), choice, ReadOptions(words.lenient, watch, path, jobs=words.jobs))
 
     if words.start is None and words.until is None:
-        return watched(lambda watch: counted(opened(path), choice, words.lenient, watch, path), path, tool)
+        return watched(found, path, tool)
     return whole_waits(words, path, tool, keeps=False).only(kinds=choice.kinds, cpus=choice.cpus)
 
 
@@ -188,8 +194,14 @@ class Watch:
     def __init__(self, path: str, tool: str) -> None:
         self._path, self._tool = path, tool
         # Of how many bytes, or 0.
-        self.size = os.path.getsize(path) if os.path.isfile(path) else 0
+        self.size = 0
         self._read, self._since, self._told = 0, time.monotonic(), 0.0
+
+    def opened(self, is_read_again: bool) -> Any:
+        """What is read for the path, as `opened` has it."""
+        trace = opened(self._path, is_read_again)
+        self.size = os.path.getsize(trace) if isinstance(trace, str) and os.path.isfile(trace) else 0
+        return trace
 
     def __call__(self, piece: Any) -> None:
         if not self._read:
@@ -208,9 +220,15 @@ class Watch:
             print("\r\x1b[K", end="", file=sys.stderr, flush=True)
 
 
-def opened(path: str) -> Any:
-    """What is read for that word."""
-    return sys.stdin.buffer if path == "-" else path
+def opened(path: str, is_read_again: bool = True) -> Any:
+    """What is read for that word: standard input, a trace, or the text of another tool's recording, in memory if it
+    `is_read_again`."""
+    if path == "-":
+        return sys.stdin.buffer
+    converter = _converted.converter_of(path)
+    if converter is None:
+        return path
+    return _converted.text_of(path, converter) if is_read_again else _converted.Piped(path, converter)
 
 
 def check_kind(text: Any, path: str) -> None:
@@ -219,18 +237,6 @@ def check_kind(text: Any, path: str) -> None:
         front = "histdesk-" if os.path.basename(sys.argv[0]).startswith("histdesk-") else "tools/"
         name, given = ("standard input", "") if path == "-" else (path, f" {shlex.quote(path)}")
         raise Stop(f"{name} is {what}; {front}{turner}{given} >my.trace makes a trace of it")
-
-
-def kinds_of(text: Any) -> Iterator[Tuple[str, str]]:
-    """What a text is that is no trace, where that is known, and which tool turns it."""
-    for magic, kind in RECORDED.items():
-        if bytes(text[: len(magic)]) == magic:
-            yield kind
-    start = FRONT.match(text)
-    line = LINE.match(text, start.end() if start else 0)
-    for pattern, kind in PRINTED.items():
-        if line and pattern.match(line[0]) and not holds_event(bytes(line[0])):
-            yield kind
 
 
 def remarks(found: Recording, choice: Choice) -> List[str]:
@@ -287,6 +293,8 @@ def run(tool: str, function: Callable[[], int]) -> NoReturn:
         print(f"{tool}: {error.filename or 'standard output'}: {error.strerror or error}", file=sys.stderr)
     except Refused as error:
         print(f"{tool}: {refused(error)}", file=sys.stderr)
+    except _converted.NotConverted as error:
+        print(f"{tool}: {error} was not converted", file=sys.stderr)
     except (Stop, ImportError, ValueError) as error:
         print(f"{tool}: {error}", file=sys.stderr)
     finish(status)

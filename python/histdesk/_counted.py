@@ -3,16 +3,16 @@
 from __future__ import annotations
 
 import contextlib
-from typing import Any, Callable, Collection, Dict, Iterator, List, NamedTuple, Optional
+from typing import Any, Collection, Dict, List, NamedTuple, Optional
 
 from . import _layout, _stream
 from ._counts import Counts
 from ._desk import Trace
 from ._kept import KINDS, Aside, chosen
 from ._layout import needed
-from ._stream import Feed
+from ._stream import ReadText
 from ._tally import LastNames, Tally
-from ._waits import About, Summary, about_text, answer_of, unknown_of
+from ._waits import About, ReadOptions, Summary, about_text, answer_of, unknown_of
 
 
 class Choice(NamedTuple):
@@ -88,34 +88,30 @@ def added(counts: List[int], records: Any) -> List[int]:
     return [count + more for count, more in zip(counts, found)]
 
 
-def counted(
-    trace: Trace,
-    choice: Choice,
-    lenient: bool = False,
-    watch: Optional[Callable[[Any], None]] = None,
-    path: Optional[str] = None,
-) -> Summary:
-    """The waits of a whole text, which is called by that path, as they are counted; `watch` is called with each piece of it
-    before it is read.
+def counted(trace: Trace, choice: Choice, options: ReadOptions = ReadOptions()) -> Summary:
+    """The waits of a whole text as they are counted.
 
     How sure a wait is shows at the text's end only, so until then 48 bytes of each are put aside, in a temporary file if they
-    are many. With `lenient`, lines that can't be read are left out. Raises what `_waits.waits_of_text` does."""
+    are many. Raises what `_waits.waits_of_text` does."""
 
-    def found(pieces: Iterator[Any], _: Any) -> Counted:
-        return counted_of(pieces, choice, lenient, path)
+    def found(text: ReadText, _: Any) -> Counted:
+        return counted_of(text, choice, options.path)
 
-    answer = answer_of(found, trace, lenient, watch, path, False)
+    answer = answer_of(found, put_aside, trace, options._replace(keeps=False))
     return answer if isinstance(answer, Counted) else answer.only(kinds=choice.kinds, cpus=choice.cpus)
 
 
-def counted_of(pieces: Iterator[Any], choice: Choice, lenient: bool, path: Optional[str]) -> Counted:
-    """The waits of a text that comes in pieces."""
-    aside, tally, last, kinds = Aside(_stream.CHUNK), Tally(choice.by, choice.doubtful), LastNames(), Kinds(choice)
-    with contextlib.closing(Feed(lenient, aside)) as feed:
-        for piece in pieces:
-            feed.feed(piece)
-        read = feed.end()
-        for records, besides in aside.parts():
+def put_aside() -> Aside:
+    """Takes waits that are looked at when all of them are there."""
+    return Aside(_stream.CHUNK)
+
+
+def counted_of(found: ReadText, choice: Choice, path: Optional[str]) -> Counted:
+    """The waits of a text that was read, whose stream is closed."""
+    tally, last, kinds = Tally(choice.by, choice.doubtful), LastNames(), Kinds(choice)
+    read = found.read
+    with contextlib.closing(found.feed) as feed:
+        for records, besides in found.waits.parts():
             if read.losses.holes:
                 feed.judge(records, besides)
             kinds.add_all(records)
@@ -125,6 +121,6 @@ def counted_of(pieces: Iterator[Any], choice: Choice, lenient: bool, path: Optio
             tally.add(records)
             if read.losses.holes:
                 last.add(records)
-    names = aside.names()
+    names = found.waits.names()
     about = about_text(path, read, unknown_of(kinds.all))
     return Counted(about, choice, tally.counts(names), kinds, last.named(names))

@@ -11,8 +11,8 @@ from ._layout import needed
 from ._library import library
 from ._numbers import Numbers
 
-# So many waits are kept at first. Of those put aside, so many bytes are in memory.
-ROOM, ASIDE = 1 << 16, 1 << 22
+# So many waits are kept at first, and given at once. Of those put aside, so many bytes are in memory.
+ROOM, PART, ASIDE = 1 << 16, 1 << 14, 1 << 22
 
 # The kinds of waits, by their numbers.
 KINDS = ("woken", "new", "preempted")
@@ -51,11 +51,24 @@ class Told:
         numpy = needed()
         # For waits as the engine has them.
         self._room = numpy.empty(most, _layout.wait_type())
-        self._names = Numbers(_layout.NAME_WORDS)
+        self.numbers = Numbers(_layout.NAME_WORDS)
+
+    @property
+    def name_rows(self) -> Any:
+        """The names of tasks as 64-bit words, by their numbers."""
+        return self.numbers.rows
 
     def names(self) -> Any:
         """The names of tasks, as an array of texts."""
-        return _layout.texts_of_names(self._names.rows)
+        return _layout.texts_of_names(self.name_rows)
+
+    def parts(self) -> Iterator[Tuple[Any, Besides]]:
+        """All records by and by, copied, each array with what was besides by the index in it."""
+        raise NotImplementedError
+
+    def __len__(self) -> int:
+        """How many waits were taken."""
+        raise NotImplementedError
 
     def add_told(self, handle: Any) -> None:
         """Takes the waits that the last call of a desk told."""
@@ -73,7 +86,7 @@ class Told:
     def write(self, waits: Any, records: Any) -> None:
         """Writes records of as many waits. Nothing says yet how sure they are."""
         copy_alike(waits, records)
-        records["name"] = self._names.of(_layout.words_of_names(waits, "name"))
+        records["name"] = self.numbers.of(_layout.words_of_names(waits, "name"))
         records["kind"] = waits["cause"] - 1
         records["doubt"] = _layout.SURE
 
@@ -84,8 +97,14 @@ class Nobody(Told):
     def __init__(self) -> None:
         super().__init__(1)
 
+    def __len__(self) -> int:
+        return 0
+
     def add_told(self, handle: Any) -> None:
         pass
+
+    def parts(self) -> Iterator[Tuple[Any, Besides]]:
+        return iter(())
 
 
 def copy_alike(source: Any, target: Any) -> None:
@@ -129,6 +148,15 @@ class Kept(Told):
             self._records.resize(max(self._count, len(self._records) * 9 // 8), refcheck=False)
         self.write(waits, self._records[start : self._count])
         self.besides += besides_of(start, waits)
+
+    def all(self) -> Tuple[Any, Besides]:
+        """An array of all records, and what was besides by the index in it."""
+        return self.records(), self.besides
+
+    def parts(self) -> Iterator[Tuple[Any, Besides]]:
+        for start in range(0, self._count, PART):
+            records = self._records[start : min(start + PART, self._count)].copy()
+            yield records, within(self.besides, start, len(records))
 
 
 class Aside(Told):

@@ -13,7 +13,7 @@ EVENT_NAMES = ("sched_waking", "sched_wakeup", "sched_wakeup_new", "sched_switch
 SWITCH, OTHER, NO_EVENT = 3, 5, 255
 # Codes: accepted, out of memory, and no desk.
 OK, MEMORY, CLOSED = 0, 1, 255
-# Codes of a stream of waits: a stamp before that of the event above, no stream, and a part that isn't joined.
+# Codes of a stream of waits: a stamp before that of the event above, no stream, and a part that doesn't fit.
 BACKWARDS, NO_STREAM, NOT_JOINED = 18, 19, 20
 # How many CPUs there can be: so many numbers histdesk_waits_events has.
 CPUS = 8192

@@ -16,7 +16,7 @@ from ._pieces import text_again
 from ._recording import Choice, Recording, read_whole
 from ._refused import Refused
 from ._stream import Backwards, Stream
-from ._waits import SPARE, Waits, judge, numbered, unknown_kinds, waits_of, waits_of_recording, waits_of_text
+from ._waits import SPARE, ReadOptions, Waits, judge, numbered, unknown_kinds, waits_of, waits_of_recording, waits_of_text
 
 # An event, and perhaps which ones of its name.
 WITHOUT = re.compile(r"\s*(\S+)(?:\s+if\s+(.*\S))?\s*", re.DOTALL)
@@ -123,7 +123,7 @@ def waits_without(
         if isinstance(trace, Recording):
             whole = waits_of_recording(trace, lenient, see)
         else:
-            whole = waits_of_text(trace, lenient, see, path, keeps=False)
+            whole = waits_of_text(trace, ReadOptions(lenient, see, path, keeps=False))
         try:
             return whole, less_of(whole, stream)
         except Backwards:

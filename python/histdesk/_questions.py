@@ -10,7 +10,7 @@ from ._desk import Desk
 from ._pieces import text_again
 from ._recording import Choice, Part, Recording, read_text
 from ._rows import Rows
-from ._waits import SPARE, Summary, Waits, waits, waits_of_recording
+from ._waits import SPARE, ReadOptions, Summary, Waits, waits, waits_of_recording
 
 
 class Told(NamedTuple):
@@ -99,7 +99,8 @@ class AskWaits:
 
     A recording may be of any length: it is read in pieces, and its waits are counted, and not kept.
 
-    `by` and `doubtful` are those of `Waits.counts`, `kinds` and `cpus` those of `Waits.only`. A key's greatest wait tells of
+    `by` and `doubtful` are those of `Waits.counts`, `kinds` and `cpus` those of `Waits.only`, and `jobs` that of `waits`: so
+    many parts of each recording are read at once, by threads of the process that reads it. A key's greatest wait tells of
     which recording it is, as `source`. Raises `ValueError` where one of them can't be asked for, and `ImportError` without
     numpy."""
 
@@ -114,8 +115,9 @@ class AskWaits:
         kinds: Optional[Collection[str]] = None,
         cpus: Optional[Collection[int]] = None,
         doubtful: bool = False,
+        jobs: Optional[int] = 1,
     ) -> None:
-        self.by, self.kinds, self.cpus, self.doubtful = by, kinds, cpus, doubtful
+        self.by, self.kinds, self.cpus, self.doubtful, self.jobs = by, kinds, cpus, doubtful, jobs
         self.nothing = self._counts(waits(b""))
 
     def _counts(self, found: Waits) -> Counts:
@@ -131,7 +133,8 @@ class AskWaits:
     def ask_path(self, path: str, *, lenient: bool = False, **choice: Any) -> Tuple[Asked, Counts]:
         """The counts of the recording of that path, of which other words of `read` choose a part; and what has to be known."""
         if all(value is None for value in choice.values()):
-            found = _counted.counted(path, _counted.Choice(self.by, self.doubtful, self.kinds, self.cpus), lenient)
+            counted_by = _counted.Choice(self.by, self.doubtful, self.kinds, self.cpus)
+            found = _counted.counted(path, counted_by, ReadOptions(lenient, jobs=self.jobs))
             return self._asked(path, found, found.counts(self.by, self.doubtful))
         words: Dict[str, Any] = {**self.reading, **choice}
         wanted = Choice(**words)

@@ -39,6 +39,10 @@ class Backwards(Exception):
     """A text isn't in the order of time: the number of the line whose stamp is before that of the event above it."""
 
 
+class NotJoined(Exception):
+    """A part of a text doesn't fit to what was read before it."""
+
+
 class Read(NamedTuple):
     """What was read of a text: how many events each CPU has, the stamps of the first and the last one in microseconds (None if
     there are none), what was lost, how many lines can't be read and the first of these, and how many switches are missing
@@ -66,19 +70,53 @@ class Streamed(NamedTuple):
     checkpoints: Tuple[Checkpoint, ...] = ()
 
 
-def streamed(pieces: Iterator[Any], lenient: bool = False, judges: bool = True) -> Streamed:
-    """The waits of a text that comes in pieces, which are unpacked. How sure they are by what the text tells itself is found
-    out if it `judges`.
+class ReadText(NamedTuple):
+    """What was read of a text that has ended: the stream, which finds out how sure its waits are until it is closed; what was
+    read; what has taken the waits; and checkpoints of the text."""
+
+    feed: Feed
+    read: Read
+    waits: Any
+    checkpoints: Tuple[Checkpoint, ...]
+
+
+def read_pieces(pieces: Iterator[Any], lenient: bool, told: Told) -> ReadText:
+    """Reads a text that comes in pieces, which are unpacked; `told` takes its waits.
 
     With `lenient`, lines that can't be read are counted and skipped. Raises `Refused` for the first one otherwise, `Backwards`
-    if the text isn't in the order of time, `OSError` if it can't be read, and `MemoryError`."""
-    with contextlib.closing(Stream(lenient)) as stream:
-        noted = Noted(stream)
+    if the text isn't in the order of time, `OSError` if it can't be read, and `MemoryError`; the stream is closed then."""
+    with contextlib.ExitStack() as failing:
+        feed = Feed(lenient, told)
+        failing.callback(feed.close)
+        noted = Noted(feed)
         for piece in pieces:
-            stream.feed(piece)
+            feed.feed(piece)
             noted.add(piece)
-        found = stream.finish(judges)
-        return found._replace(checkpoints=noted.finish(found.read))
+        read = feed.end()
+        failing.pop_all()
+    return ReadText(feed, read, told, noted.finish(read))
+
+
+def streamed(pieces: Iterator[Any], lenient: bool = False, judges: bool = True) -> Streamed:
+    """The waits of a text that comes in pieces. How sure they are by what the text tells itself is found out if it `judges`.
+    The other words are those of `read_pieces`, and so is what it raises."""
+    return streamed_from(read_pieces(pieces, lenient, Kept(CHUNK)), judges)
+
+
+def streamed_from(found: ReadText, judges: bool = True) -> Streamed:
+    """The waits of a text that was read, whose stream is closed."""
+    with contextlib.closing(found.feed) as feed:
+        records, besides = found.waits.all()
+        if found.read.losses.holes and judges:
+            judge_all(feed, records, besides)
+        return Streamed(records, found.waits.names(), found.read, besides, found.checkpoints)
+
+
+def judge_all(feed: Feed, records: Any, besides: Besides) -> None:
+    """Finds out how sure all waits of a text are, and with what they began."""
+    for start in range(0, len(records), CHUNK):
+        part = records[start : start + CHUNK]
+        feed.judge(part, within(besides, start, len(part)))
 
 
 def losses_of_pieces(pieces: Iterator[Any]) -> Losses:
@@ -93,24 +131,25 @@ def losses_of_pieces(pieces: Iterator[Any]) -> Losses:
 class Noted:
     """Checkpoints of a text, which are noted while a stream reads it."""
 
-    def __init__(self, feed: Feed) -> None:
+    def __init__(self, feed: Feed, at: int = 0) -> None:
+        """Of the text from a byte on, which the stream reads from now on."""
         self._feed = feed
         # How many bytes were read, and how many until the last line break.
-        self._read = self._ended = 0
-        self._found = [Checkpoint(0, -1, {})]
+        self._read = self._ended = at
+        self.found = [Checkpoint(at, *feed.so_far())]
 
     def add(self, piece: Any) -> None:
         """Notes one after a piece of the text that the stream has taken, if many bytes came since the last one."""
         line = last_break(piece)
         self._ended = self._read + line if line else self._ended
         self._read += len(piece)
-        if line and self._ended >= self._found[-1].at + _pieces.PIECE:
-            self._found.append(Checkpoint(self._ended, *self._feed.so_far()))
+        if line and self._ended >= self.found[-1].at + _pieces.PIECE:
+            self.found.append(Checkpoint(self._ended, *self._feed.so_far()))
 
     def finish(self, read: Read) -> Tuple[Checkpoint, ...]:
         """Notes one at the text's end; all of them."""
         last = -1 if read.last is None else read.last
-        return (*self._found, Checkpoint(self._read, last, read.events))
+        return (*self.found, Checkpoint(self._read, last, read.events))
 
 
 def last_break(piece: Any) -> int:
@@ -148,10 +187,11 @@ def held(session: Session) -> Kept:
 class Feed:
     """A stream of the engine's, and what takes the waits that it tells."""
 
-    def __init__(self, lenient: bool, told: Told) -> None:
+    def __init__(self, lenient: bool, told: Told, is_part: bool = False) -> None:
+        """Of a whole text, or of a part of one that begins later and is to be joined."""
         self._session = Session()
-        self._told = told
-        self._call(library.histdesk_waits_new, lenient)
+        self.told = told
+        self._call(library.histdesk_waits_part if is_part else library.histdesk_waits_new, lenient)
 
     def close(self) -> None:
         """Gives back its memory."""
@@ -161,13 +201,23 @@ class Feed:
         """Takes the next piece of the text, a buffer."""
         with bytes_of(piece) as (address, length):
             self._call(library.histdesk_waits_feed, ctypes.c_void_p(address), length, ctypes.c_uint64())
-        self._told.add_told(self._session.handle)
+        self.told.add_told(self._session.handle)
+
+    def join(self, part: Feed, completed: Told) -> bool:
+        """Takes the text of a part, which another stream has read from its own start; whether the two fit together. The waits
+        that end there with the first switch to each task go to `completed`. The part is closed in either case."""
+        try:
+            self._call(library.histdesk_waits_join, part._session.handle, ctypes.c_uint64())
+        except NotJoined:
+            return False
+        completed.add_told(self._session.handle)
+        return True
 
     def end(self) -> Read:
         """Takes the end of the text: what was read."""
         read = _layout.WaitsRead()
         self._call(library.histdesk_waits_finish, read, ctypes.c_uint64())
-        self._told.add_told(self._session.handle)
+        self.told.add_told(self._session.handle)
         return self._read(read)
 
     def judge(self, records: Any, besides: Besides) -> None:
@@ -194,7 +244,9 @@ class Feed:
         if call(handle, *arguments) != _layout.OK:
             refusal = _layout.Refusal()
             library.histdesk_waits_refused(handle, refusal)
-            raise Backwards(refusal.line) if refusal.number == _layout.BACKWARDS else exception_of(refusal)
+            if refusal.number == _layout.BACKWARDS:
+                raise Backwards(refusal.line)
+            raise NotJoined() if refusal.number == _layout.NOT_JOINED else exception_of(refusal)
 
     def _copied(self, copy: Any, kind: Any, count: int) -> Any:
         """So many items that a call copies."""
@@ -222,9 +274,7 @@ class Stream(Feed):
     def finish(self, judges: bool) -> Streamed:
         """Takes the end of the text: its waits, and what was read. How sure they are is found out if it `judges`."""
         read = self.end()
-        records, besides = self._kept.records(), self._kept.besides
+        records, besides = self._kept.all()
         if read.losses.holes and judges:
-            for start in range(0, len(records), CHUNK):
-                part = records[start : start + CHUNK]
-                self.judge(part, within(besides, start, len(part)))
+            judge_all(self, records, besides)
         return Streamed(records, self._kept.names(), read, besides)

@@ -81,6 +81,31 @@ class Halves:
             last = event
         return True
 
+    def seams(self, count: int) -> List[int]:
+        """The bytes at which the text is cut into so many parts of about one size, or fewer if there are no such places.
+
+        A text that is seen not to be in the order of time is not cut."""
+        if not self.is_in_order():
+            return []
+        found = [0]
+        for number in range(1, count):
+            seam = self.seam_from(max(self._size * number // count, found[-1] + 1))
+            if seam is None:
+                break
+            found.append(seam)
+        return found[1:]
+
+    def seam_from(self, byte: int) -> Optional[int]:
+        """The first byte from one on at which an event's line begins directly after that of an event with an earlier stamp."""
+        for at, lines in self._lines_from(byte):
+            is_event = lines.cpus != NONE
+            # The first line may be the end of one.
+            is_event[:1] = False
+            found = needed().flatnonzero(is_event[1:] & is_event[:-1] & (lines.stamps[1:] > lines.stamps[:-1]))
+            if len(found):
+                return int(at) + start_of(lines, int(found[0]) + 1)
+        return None
+
     def first_from(self, stamp: int, low: int) -> At:
         """The first event with a stamp from this one on, if it isn't before the first byte of some line. If it is the first
         event of all, the lines before it are taken for its own; if there is none, it is at the text's end."""

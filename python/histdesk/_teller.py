@@ -14,7 +14,7 @@ from ._scene import SWITCH, WAKEUP, Scene, Wait, numbers, of_desk
 from ._slices import Source
 from ._stream import held
 from ._values import Event, Place
-from ._waits import KINDS, Waits, judge, waits_of, waits_of_recording, waits_of_text
+from ._waits import KINDS, ReadOptions, Waits, judge, waits_of, waits_of_recording, waits_of_text
 from ._why import Why, scene_of, told, told_in
 
 
@@ -211,7 +211,7 @@ def teller_of(trace: Union[Desk, Trace, Recording, Waits]) -> Teller:
         if trace.choice.cpus is not None:
             return part_teller(trace)
         return teller_with(waits_of_recording(trace), trace)
-    return teller_with(waits_of_text(trace), trace)
+    return teller_with(waits_of_text(trace, ReadOptions(jobs=None)), trace)
 
 
 def part_teller(recording: Recording) -> Teller:

@@ -7,7 +7,7 @@ import warnings
 from collections import namedtuple
 from typing import Any, Callable, Collection, Dict, Iterator, List, NamedTuple, Optional, Sequence, Tuple, TypeVar, Union
 
-from . import _kept, _layout, _shown
+from . import _kept, _layout, _parallel, _shown
 from ._counts import Counts, CountsRow
 from ._desk import Desk, Trace
 from ._library import library
@@ -18,7 +18,7 @@ from ._recording import Choice, Recording, counted_from, path_of, read_whole
 from ._refused import MOST_SHOWN, Refused, moved
 from ._session import PLACES
 from ._slices import Source
-from ._stream import Backwards, Read, Streamed, line_at, streamed
+from ._stream import CHUNK, Backwards, Read, ReadText, Streamed, line_at, read_pieces, streamed, streamed_from
 from ._stream import held as held_waits
 from ._tally import LastNames, Tally
 from ._values import Place
@@ -106,11 +106,20 @@ def remarks_of(about: About) -> List[str]:
         told.append(f"{about.dropped} waits are missing: of more than {SIZE} tasks, only the first ones are told apart")
     for kind in (kind for kind in ("woken", "preempted") if about.held.events and kind in about.unknown):
         told.append(f"no {BEGIN_WITH[kind]} began a wait, so nothing is known of {kind} ones")
+    if about.missing and about.first_missing:
+        told.append(missing_told(about.missing, about.first_missing))
     if about.rest is not None:
         told.append(f"this is a part of the recording; the next one begins at {seconds(about.rest)}")
     if about.lines_from is not None:
         told.append(counted_from(about.lines_from))
     return told
+
+
+def missing_told(count: int, first: Place) -> str:
+    """That so many events show a missing switch, and the first of them."""
+    what = "1 switch is" if count == 1 else f"{count} switches are"
+    told = f"at least {what} missing that no line reports, one of them before {first.cpu}:{first.line}"
+    return f"{told}: waits that began or ended there are missing, or too long"
 
 
 class Summary:
@@ -445,12 +454,14 @@ def shown_row(row: Any, after: Sequence[str], is_doubtful: bool) -> List[Any]:
 # ---- how they are found
 
 
-def waits(trace: Union[Trace, Recording, Desk], *, lenient: bool = False) -> Waits:
+def waits(trace: Union[Trace, Recording, Desk], *, lenient: bool = False, jobs: Optional[int] = None) -> Waits:
     """The waits of a recording: of a trace (a path, its bytes, or an open file, packed by gzip or not), of what `read` has
     read, or of what a desk holds.
 
     A trace may be of any length: it is read in pieces, and only its waits are kept, 48 bytes of each. An open file or a pipe,
     which can't be read again, is kept in a temporary file for `source`. With `lenient`, lines that can't be read are left out.
+    Of a file that isn't packed, `jobs` parts are read at once, each by a thread, and joined exactly; by default 1, or as many
+    as there are processors if it has more than 200 MB.
     Of a recording that `read` has read, they are those of all that was asked for, also if a desk holds less. Of a trace whose
     events aren't in the order of time, a desk holds the events: no more than it has room for, which `remarks` of the answer
     says. A desk of yours is left as it was; events that you have struck are gone, so a wait that they began or ended is
@@ -480,54 +491,63 @@ def waits(trace: Union[Trace, Recording, Desk], *, lenient: bool = False) -> Wai
         found, is_told = waits_of_recording(trace, lenient), trace.is_told
         trace.is_told = True
     else:
-        found, is_told = waits_of_text(trace, lenient), False
+        found, is_told = waits_of_text(trace, ReadOptions(lenient, jobs=jobs)), False
     if found.warning and not is_told:
         warnings.warn(found.warning, LossWarning, stacklevel=2)
     return found
 
 
-def waits_of_text(
-    trace: Trace,
-    lenient: bool = False,
-    watch: Optional[Callable[[Any], None]] = None,
-    path: Optional[str] = None,
-    keeps: bool = True,
-) -> Waits:
-    """The waits of a whole text, which is called by that path, or by its own; `watch` is called with each piece of it before
-    it is read. What is gone once it was read is kept in a temporary file meanwhile if it `keeps` that."""
-    path = path_of(trace) if path is None else path
+class ReadOptions(NamedTuple):
+    """How a whole text is read: whether lines that can't be read are left out; who sees each piece before it is read; the path
+    by which the text is called; whether what is gone once it was read is kept in a temporary file meanwhile; and how many parts
+    of it are read at once (None is as `_parallel.jobs_for` has it)."""
 
-    def found(pieces: Iterator[Any], text: Optional[Text]) -> Waits:
-        return streamed_of(path, streamed(pieces, lenient), text, lenient)
+    lenient: bool = False
+    watch: Optional[Callable[[Any], None]] = None
+    path: Optional[str] = None
+    keeps: bool = True
+    jobs: Optional[int] = 1
 
-    return answer_of(found, trace, lenient, watch, path, keeps)
+
+def waits_of_text(trace: Trace, options: ReadOptions = ReadOptions()) -> Waits:
+    """The waits of a whole text, which is called by its own path if it isn't called by another one."""
+    if options.path is None:
+        options = options._replace(path=path_of(trace))
+
+    def found(text: ReadText, again: Optional[Text]) -> Waits:
+        return streamed_of(options.path, streamed_from(text), again, options.lenient)
+
+    return answer_of(found, keep_all, trace, options)
+
+
+def keep_all() -> _kept.Kept:
+    """Takes waits that are all kept."""
+    return _kept.Kept(CHUNK)
 
 
 def answer_of(
-    answer: Callable[[Iterator[Any], Optional[Text]], Answer],
-    trace: Trace,
-    lenient: bool,
-    watch: Optional[Callable[[Any], None]],
-    path: Optional[str],
-    keeps: bool,
+    answer: Callable[[ReadText, Optional[Text]], Answer], told: Callable[[], _kept.Told], trace: Trace, options: ReadOptions
 ) -> Union[Answer, Waits]:
-    """What `answer` makes of the pieces of a whole text, and of the text if it can be read again; the waits that a desk tells
-    of it if it isn't in the order of time. The other words are those of `waits_of_text`."""
+    """What `answer` makes of a whole text that was read, and of the text if it can be read again; the waits that a desk tells
+    of it if it isn't in the order of time. `told` makes what takes its waits."""
     again: Optional[Text] = None if is_read_once(trace) else text_again(trace)
-    kept = KeptText() if again is None and keeps else None
-    pieces = seen(pieces_of(again or trace), watch, kept)
+    kept = KeptText() if again is None and options.keeps else None
+    pieces = seen(pieces_of(again or trace), options.watch, kept)
+    jobs = _parallel.jobs_for(again, options.jobs)
     try:
-        return answer(pieces, again or kept)
+        if again and jobs > 1:
+            return answer(_parallel.read_in_parts(again, jobs, options.lenient, told, options.watch), again)
+        return answer(read_pieces(pieces, options.lenient, told()), again or kept)
     except Backwards as error:
         if again is None and kept is None:
-            told = f"line {error}: its stamp is before that of the event above it; such a trace must be a file"
-            raise ValueError(told) from None
+            what = f"line {error}: its stamp is before that of the event above it; such a trace must be a file"
+            raise ValueError(what) from None
         # The rest of what came by a pipe.
         for _ in pieces if kept else ():
             pass
-        return waits_in_any_order(path, (again or kept or Text()).read(), Choice(), lenient)
+        return waits_in_any_order(options.path, (again or kept or Text()).read(), Choice(), options.lenient)
     except Refused as error:
-        error.path = path
+        error.path = options.path
         if again:
             show_line(error, again)
         raise

@@ -351,6 +351,7 @@ class Tool(Case):
         # By hand: in 803 us there are waits of 0, 3, 5, 7, 30, 30, 40 and 40 us, 155 together; without 3 and 30, 122.
         lines = told.split("\n")
         self.assertEqual(lines[0], "k.trace: 26 events from 1.000000 to 1.000803 (0.000803 s) on CPUs 0-3")
+        self.assertEqual([lines.pop(1)], plain_waits.missing_told(recordings.kinds().text))
         self.assertEqual(lines[1], "without 4 of 9 sched_waking if pid == 10")
         self.assertEqual(lines[2], "2 waits are gone, 0 begin with another event, and 0 are new")
         self.assertEqual(lines[3], "")
@@ -380,6 +381,9 @@ class Tool(Case):
         told, _ = self.run_tool("1.trace", "2.trace", "--top", "3", "--sort", "max", "--by", "cpu", "--kind", "woken")
         lines = told.rstrip("\n").split("\n")
         self.assertRegex(lines[0], "^before: 1.trace: [0-9]+ events")
+        for seed, side in ((1, "before"), (2, "after")):
+            [missing] = plain_waits.missing_told(recordings.simulated(seed, 200).text)
+            self.assertEqual(lines.pop(seed), f"{side}: {missing}")
         self.assertRegex(lines[1], "^after: 2.trace: [0-9]+ events")
         self.assertEqual(lines[3].split()[:3], ["cpu", "kind", "waits/s"])
         self.assertEqual(lines[4].split()[0], "all")

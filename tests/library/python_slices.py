@@ -533,11 +533,11 @@ class Tool(Folder):
         for path, given in ((self.file(text), None), (self.file(gzip.compress(text), "packed"), None), ("-", text)):
             status, shown, told_of = self.run_tool(path, *words, "--top", "all", input=given)
             self.assertEqual((status, told_of), (0, ""))
-            self.assertEqual((shown.split("\n")[2], shown.count("counted from")), (remark, 1))
+            self.assertEqual((shown.split("\n")[3], shown.count("counted from")), (remark, 1))
             status, shown, told_of = self.run_tool(path, *words, "--csv", input=given)
             rows = csv.DictReader(io.StringIO(shown))
             self.assertEqual([(row["pid"], row["end_cpu"], row["end_line"]) for row in rows], want)
-            self.assertEqual(told_of, f"waits: {path}: {remark}\n")
+            self.assertEqual(told_of.split("\n")[1:], [f"waits: {path}: {remark}", ""])
 
     def test_any_order(self):
         text = noise(5)

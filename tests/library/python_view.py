@@ -198,7 +198,8 @@ class Shown(unittest.TestCase):
         self.assertEqual([about[name] for name in ("events", "first", "last", "cpus")], [12, 1000000, 2620761, [0, 1, 2]])
         self.assertEqual(about["holes"], [{"cpu": 2, "after": None, "before": 2250000}])
         self.assertEqual(about["warning"], recording_of(known.text).warning)
-        self.assertEqual((about["path"], about["remarks"], about["waits"]), (None, [], 5))
+        self.assertEqual((about["path"], about["waits"]), (None, 5))
+        self.assertEqual(about["remarks"], plain_waits.missing_told(known.text))
         first = unpacked(view.waits(0), 5)[0]
         wanted = [100.0, 1130399, 3, 42, about["tasks"].index("victim"), 120, 2, 0, 0, 0, 1]
         self.assertEqual(list(first.values()), wanted)

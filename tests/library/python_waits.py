@@ -191,7 +191,8 @@ class Parts(unittest.TestCase):
             recording = histdesk.read(known.text, spare=_waits.SPARE)
             found = waits_of(recording)
         # And so is a recording of which a desk holds a part.
-        self.assertEqual((recording.taken.events, found.held.events, found.remarks()), (20, 26, []))
+        self.assertEqual((recording.taken.events, found.held.events), (20, 26))
+        self.assertEqual(found.remarks(), plain_waits.missing_told(known.text))
         self.assertEqual(told(found), list(known.waits))
         names = ["sched_waking", "sched_wakeup_new", "sched_switch"]
         found = waits_of(histdesk.read(known.text, events=names))
@@ -204,8 +205,10 @@ class Parts(unittest.TestCase):
 
     def test_no_wakings(self):
         lines = [line for line in recordings.kinds().text.decode().split("\n") if "sched_waking" not in line]
-        found = waits_of("\n".join(lines).encode())
-        self.assertEqual(found.remarks(), ["no sched_waking began a wait, so nothing is known of woken ones"])
+        text = "\n".join(lines).encode()
+        found = waits_of(text)
+        told_first = ["no sched_waking began a wait, so nothing is known of woken ones"]
+        self.assertEqual(found.remarks(), told_first + plain_waits.missing_told(text))
         self.assertEqual({wait.kind for wait in told(found)}, {"new", "preempted"})
         found = waits_of(text_of([waking(0, 5, 7)]))
         self.assertEqual(
@@ -273,7 +276,7 @@ class Streams(unittest.TestCase):
         for trace in (text, Dripping(text), gzip.compress(text), Dripping(gzip.compress(text))):
             self.assertEqual(told(waits_of(trace)), plain_waits.waits_of(text))
         with self.assertRaisesRegex(ValueError, "^line [0-9]+: its stamp is before that of the event above it"):
-            _waits.waits_of_text(Dripping(text), keeps=False)
+            _waits.waits_of_text(Dripping(text), _waits.ReadOptions(keeps=False))
 
     def test_bad_lines(self):
         known = recordings.kinds()
@@ -546,7 +549,8 @@ class OnADesk(unittest.TestCase):
         lines = [waking(0, at, at + 1) for at in range(count)]
         lines += [switch(0, count + pid, "a-0", f"w-{pid}") for pid in (1, count)]
         found = waits_of(text_of(lines))
-        self.assertEqual(([wait.pid for wait in told(found)], found.dropped, found.remarks()), ([1, 131075], 0, []))
+        self.assertEqual(([wait.pid for wait in told(found)], found.dropped), ([1, 131075], 0))
+        self.assertEqual(found.remarks(), plain_waits.missing_told(text_of(lines)))
 
 
 @with_numpy
@@ -561,7 +565,9 @@ class Shown(unittest.TestCase):
         self.assertTrue(lines[1].startswith("1 wait: "))
 
     def test_text(self):
-        text = repr(waits_of(recordings.hole_at_start().text)).split("\n")
+        known = recordings.hole_at_start()
+        text = repr(waits_of(known.text)).split("\n")
+        self.assertEqual([text.pop(3)], plain_waits.missing_told(known.text))
         self.assertEqual(text[0], "histdesk.Waits of 12 events from 1.000000 to 2.620761 (1.620761 s) on CPUs 0-2")
         self.assertEqual(text[1], "2 waits: 2 woken, 0 new, 0 preempted; times in microseconds")
         self.assertEqual(text[2].split()[:2], ["3", "doubtful"])
@@ -582,7 +588,7 @@ class Shown(unittest.TestCase):
     def test_long_table(self):
         lines = [line for pid in range(1, 31) for line in (waking(0, pid * 100, pid), switch(0, pid * 101, "a-1", f"w-{pid}"))]
         text = repr(waits_of(text_of(lines))).split("\n")
-        self.assertEqual((len(text), text[-2].split()[1], text[-1].split()[0]), (2 + 1 + 20 + 1, "11", ".."))
+        self.assertEqual((len(text), text[-2].split()[1], text[-1].split()[0]), (3 + 1 + 20 + 1, "11", ".."))
 
     def test_cpus(self):
         self.assertEqual(_waits.ranges((0, 1, 2, 3, 6, 8, 9)), "0-3,6,8-9")
@@ -680,20 +686,22 @@ class Tool(unittest.TestCase):
         of = "12 events from 1.000000 to 2.620761 (1.620761 s) on CPUs 0-2"
         self.assertEqual(lines[0], f"{self.path('hole_at_start')}: {of}")
         self.assertTrue(lines[2].startswith("3 doubtful waits are left out"))
+        self.assertEqual([lines.pop(3)], plain_waits.missing_told(self.known["hole_at_start"].text))
         self.assertEqual(lines[5].split()[:4], ["true", "46", "woken", "1"])
         self.assertEqual(told_of.count("\n"), 1)
         self.assertIn("events were lost: 474361 of 474373", told_of)
         self.assertIn("CPU 2 (at 2.250000)", told_of)
         text, _ = self.run_tool(self.path("hole_at_start"), "--doubtful")
-        self.assertEqual(text.split("\n")[5].split()[:4], ["thrown", "44", "preempted", "1"])
+        self.assertEqual(text.split("\n")[6].split()[:4], ["thrown", "44", "preempted", "1"])
 
     def test_top(self):
         everything, _ = self.run_tool(self.path("simulated_1"))
-        rows = everything.split("\n")[4:]
+        self.assertEqual(everything.split("\n")[2:3], plain_waits.missing_told(self.known["simulated_1"].text))
+        rows = everything.split("\n")[5:]
         text, _ = self.run_tool(self.path("simulated_1"), "--top", "3")
         count = len(rows) - 1
-        self.assertEqual([line.split() for line in text.split("\n")[4:7]], [line.split() for line in rows[:3]])
-        self.assertEqual(text.split("\n")[7:], [f"{count - 3} more are not shown; --top all shows them", ""])
+        self.assertEqual([line.split() for line in text.split("\n")[5:8]], [line.split() for line in rows[:3]])
+        self.assertEqual(text.split("\n")[8:], [f"{count - 3} more are not shown; --top all shows them", ""])
         self.assertEqual(self.run_tool(self.path("simulated_1"), "--top", "all"), (everything, ""))
         text, _ = self.run_tool(self.path("simulated_1"), "--top", "2", "--csv")
         self.assertEqual(text.count("\n"), 3)
@@ -706,12 +714,12 @@ class Tool(unittest.TestCase):
             os.close(there)
             lines = b"".join(iter(lambda: self.piece_of(screen), b"")).decode().split("\r\n")
         rows = waits_of(self.known["simulated_1"].text).table()
-        self.assertEqual([line.split()[2] for line in lines[4:34]], [str(row.pid) for row in rows[:30]])
+        self.assertEqual([line.split()[2] for line in lines[5:35]], [str(row.pid) for row in rows[:30]])
         told_of = [
             f"{len(rows) - 30} more are not shown; --top all shows them",
             f"tools/why {self.path('simulated_1')} {rows[0].end_cpu}:{rows[0].end_line} tells of the greatest",
         ]
-        self.assertEqual(lines[34:], [*told_of, ""])
+        self.assertEqual(lines[35:], [*told_of, ""])
 
     @staticmethod
     def piece_of(screen):

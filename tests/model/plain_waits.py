@@ -6,7 +6,9 @@ from typing import Callable, Dict, Iterator, List, NamedTuple, Optional, Pattern
 
 from recordings import Gap, Place, Wait, spans
 
-FRONT = r" *(?P<task>.*)-[0-9]+ +(?:\( *[0-9-]+\) +)?\[(?P<cpu>[0-9]+)\] +(?:[^ :]+ +)?(?P<s>[0-9]+)\.(?P<us>[0-9]{6}): "
+FRONT = (
+    r" *(?P<task>.*)-(?P<runs>[0-9]+) +(?:\( *[0-9-]+\) +)?\[(?P<cpu>[0-9]+)\] +(?:[^ :]+ +)?(?P<s>[0-9]+)\.(?P<us>[0-9]{6}): "
+)
 LINE = re.compile(FRONT + r"(?P<event>[^ :]+): *(?P<rest>.*?) *", re.DOTALL)
 WAKE = re.compile(r"comm=(.*) pid=(-?[0-9]+) prio=(-?[0-9]+)(?: success=-?[0-9]+)? target_cpu=[0-9]+", re.DOTALL)
 SWITCH = re.compile(
@@ -70,6 +72,23 @@ def gaps_of(text: bytes) -> List[Gap]:
             gaps = [gap._replace(before=last[cpu]) if gap.cpu == cpu and gap.before is None else gap for gap in gaps]
     kept = {int(found[1]) for found in map(KEPT.fullmatch, lines_of(text)) if found}
     return [gap for gap in gaps if gap.cpu not in kept or gap.after is not None or gap.lost is not None]
+
+
+def missing_told(text: bytes) -> List[str]:
+    """The line about missing switches, if a CPU runs another task than the one that its last switch went to."""
+    running: Dict[int, int] = {}
+    counts: Dict[int, int] = {}
+    count, first = 0, ""
+    for found in filter(None, map(LINE.fullmatch, lines_of(text))):
+        cpu, runs, switch = int(found["cpu"]), int(found["runs"]), SWITCH.fullmatch(found["rest"])
+        counts[cpu] = counts.get(cpu, 0) + 1
+        if running.get(cpu, runs) != runs:
+            count, first = count + 1, first or f"{cpu}:{counts[cpu]}"
+        running[cpu] = int(switch[4]) if found["event"] == "sched_switch" and switch else runs
+    if not count:
+        return []
+    told = f"at least {'1 switch is' if count == 1 else f'{count} switches are'} missing that no line reports"
+    return [f"{told}, one of them before {first}: waits that began or ended there are missing, or too long"]
 
 
 def waits_of(text: bytes, without: Callable[[str], bool] = lambda line: False) -> List[Wait]:

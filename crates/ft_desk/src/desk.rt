@@ -13,9 +13,11 @@ use ft_answers::{
     AttachedTrigger, Board, Done, Edited, Latency, Pair, Place, Refused, Row, TableRow,
     lane_places, matching_places, places,
 };
+use ft_dispatch::Dispatch;
 use ft_event::{Event, Name};
 use ft_fields::Pos;
 use ft_filter::{Filter, FilterFault};
+use ft_held_waits::held_dispatches;
 use ft_lanes::Lanes;
 use ft_table::Totals;
 use ft_trigger::{Key, Trigger, TriggerFault, parse};
@@ -64,6 +66,7 @@ impl<B: Board> Desk<B> {
     ghost use Rattle.ft_desk.specs.Edits.{event_or_refused, events_of};
     ghost use Rattle.ft_desk.specs.Found.{event_found, lane_found, matching_found};
     ghost use Rattle.ft_answers.specs.Places.{places};
+    ghost use Rattle.ft_held_waits.specs.Held.{dispatches_held};
 
     /// A desk over a board, as the board is.
     pub fn new(alloc: Global, board: B) -> Desk<B>
@@ -283,6 +286,14 @@ impl<B: Board> Desk<B> {
         ensures { AnswerIs (λ places. places.items) (Ok (places self.now.base.lanes)) result }
     {
         Ok(places(self.alloc, self.board.content().lanes())?)
+    }
+
+    /// The switches to tasks among all held events, in merged order, each with where its task became
+    /// runnable: one of which `since.waiting()` is something ends a wait. Refused for memory.
+    pub fn waits(&self) -> Result<Vec<Dispatch>, Refused>
+        ensures { AnswerIs (λ told. told.items) (Ok (dispatches_held self.now.base.lanes)) result }
+    {
+        Ok(held_dispatches(self.alloc, self.board.content().lanes())?)
     }
 
     /// The places of a CPU's events from a line on, by line. Refused where the lane is not held, or

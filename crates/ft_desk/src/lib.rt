@@ -24,6 +24,9 @@
 //! - `Desk::event`, `events`, `lane`, `matching`, `attached`, `trigger_text`: functions of the base
 //!   (`specs/Found.antt`, `ft_answers/specs/Places.antt`), which they leave as it is. All except
 //!   `event` let through: running out of memory at any time.
+//! - `Desk::waits`: the switches to tasks among the held events, each with where its task became
+//!   runnable; exact, `dispatches_held` of `ft_held_waits`. Lets through: running out of memory at any
+//!   time.
 //! - `perform`: what one script line prints, whether it is refused, and the base after it:
 //!   `outcome` (`specs/Output.antt`). Lets through: running out of memory at any time, and then
 //!   holding anything; any number of steps; putting the tables off.
@@ -94,6 +97,7 @@ pub use ft_answers::{
     AttachedTrigger, Board, Changed, Done, Edited, Kept, Latency, Pair, Place, PlainBoard, Refused,
     Row, TableRow,
 };
+pub use ft_dispatch::{Began, Cause, Dispatch, Left, Since};
 pub use ft_event::{Event, LineFault, Name};
 pub use ft_fields::Pos;
 pub use ft_filter::FilterFault;

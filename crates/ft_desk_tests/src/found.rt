@@ -2,7 +2,8 @@
 
 use ft_board::KeptBoard;
 use ft_desk::{
-    AttachedTrigger, Board, Desk, FilterFault, Name, Pair, PlainBoard, Pos, Refused, Row,
+    AttachedTrigger, Began, Board, Cause, Desk, FilterFault, Name, Pair, PlainBoard, Pos, Refused,
+    Row,
 };
 use ft_event::Body;
 use ft_hist::{Key, Part};
@@ -99,6 +100,30 @@ fn where_events_stand(rt: HostRuntime) -> Result<(), Fail> {
     assert!(rt; event.pid == 3 && event.body == Body::Other);
     assert!(rt; matches!(desk.event(1, 3), Err(Refused::NoEvent)));
     assert!(rt; matches!(desk.event(65_537, 1), Err(Refused::NoLane(65_537))));
+    Ok(())
+}
+
+/// What the wait of each switch to a task began with.
+fn beginnings<B: Board>(alloc: Global, desk: &Desk<B>) -> Result<Vec<Option<Began>>, Refused> {
+    let mut found = Vec::new(alloc);
+    for dispatch in &desk.waits()? {
+        found.push(dispatch.since.waiting())?;
+    }
+    Ok(found)
+}
+
+#[test]
+fn who_waited(rt: HostRuntime) -> Result<(), Fail> {
+    let alloc = rt.alloc();
+    let mut desk = measuring(alloc, KeptBoard::new(alloc))?;
+    let woken = Began {
+        cause: Cause::Woken,
+        place: WAKING,
+    };
+    // The second switch takes the CPU from the task that it runs.
+    assert!(rt; beginnings(alloc, &desk)?.as_slice() == [Some(woken), None].as_slice());
+    desk.strike(1, 1)?;
+    assert!(rt; beginnings(alloc, &desk)?.as_slice() == [None, None].as_slice());
     Ok(())
 }
 
