@@ -499,10 +499,10 @@ uint32_t histdesk_waits_part(histdesk *desk, bool skips_bad_lines);
  * stream before the join, up to line 4,294,967,295. They may end before or after those that are told now. The other desk has
  * no stream then; the waits that it told last are still copied. The two must leave out the same events, by the same calls:
  * only their number is compared.
- * HISTDESK_NO_STREAM: no stream of a whole text takes pieces here, or none of a part there. HISTDESK_NOT_JOINED: its fault
- * says why. Of a text that is refused here it is refused as histdesk_waits_feed is. After these both streams go on as before,
- * and histdesk_waits_refused of `desk` says why. HISTDESK_MEMORY, if the text wasn't refused before: it is refused for that
- * from then on, and the part is gone. HISTDESK_CLOSED: one of the handles has no desk. */
+ * Of a text that is refused here it is refused as histdesk_waits_feed is. HISTDESK_NO_STREAM: no stream of a whole text takes
+ * pieces here, or none of a part there. HISTDESK_NOT_JOINED: its fault says why. After these both streams go on as before, and
+ * histdesk_waits_refused of `desk` says why. HISTDESK_MEMORY, if the text wasn't refused before: it is refused for that from
+ * then on, and the part is gone. HISTDESK_CLOSED: one of the handles has no desk, and nothing happens. */
 uint32_t histdesk_waits_join(histdesk *desk, histdesk *part, uint64_t *count);
 
 /* Leaves events out of the text: those of a name that pass the filter of a text of `length` bytes, or all of the name if that

@@ -33,7 +33,7 @@ Refuses why old code new = (code ≡ fault_code why) × (new ≡ record old { re
 unfoldable pub Begins : BadLines → Stream → ℕ → Stream → Type 0
 Begins policy old code new =
     MatchOption new.refused
-    ((code ≡ 0) × Streams Whole (all_events policy) new.phase [] [] × (new.waits.items ≡ []) × (new ≡ record old { phase = new.phase; waits = new.waits; refused = None }))
+    ((code ≡ 0) × Streams Whole (all_events policy) new.phase [] [] × (refused_at new.phase ≡ None) × (new.waits.items ≡ []) × (new ≡ record old { phase = new.phase; waits = new.waits; refused = None }))
     (λ why. (why ≡ Text Memory) × Refuses why old code new)
 
 -- the same of a stream whose text is a part of a longer one: it takes pieces, and its first dispatches are held back
@@ -100,7 +100,7 @@ Finishes old read_before before code read count new =
 unfoldable pub Joins : Stream → Stream → ℕ → ℕ → ℕ → Stream → Stream → Type 0
 Joins old part before code count new part_now =
     MatchOption new.refused
-    ((code ≡ 0) × CanBeJoined old.phase part.phase × JoinsTold old.phase part.phase new.phase new.waits.items × (count ≡ length new.waits.items)
+    ((code ≡ 0) × CanBeJoined old.phase part.phase × JoinsTold old.phase part.phase new.phase new.waits.items × (refused_at new.phase ≡ None) × (count ≡ length new.waits.items)
     × (new ≡ record old { phase = new.phase; waits = new.waits; refused = None }) × (part_now ≡ record part { phase = Idle }))
     (λ why. ((IsNotJoined old.phase part.phase why × Refuses why old code new × (part_now ≡ part))
     ⊎ (CanBeJoined old.phase part.phase × RanOut why new.phase part_now.phase new.waits.items × (code ≡ fault_code why)

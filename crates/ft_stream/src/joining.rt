@@ -1,7 +1,8 @@
 //! A part, behind the text of another stream.
 
-ghost use Rattle.std.specs.Prelude.{◌≡◌, ◌⊎◌, [], OnOk, OnErr, IfOk, IfErr};
+ghost use Rattle.std.specs.Prelude.{◌≡◌, ◌⊎◌, [], OnOk, OnErr, IfOk, IfErr, None};
 ghost use Rattle.ft_stream.specs.Joining.{CanBeJoined, IsUnfit, IsNotJoined, JoinsTold, RanOut};
+ghost use Rattle.ft_stream.specs.Telling.{refused_at};
 ghost use Rattle.ft_stream.specs.declared.phase.Phase.TheVariants.{Idle, Running, Part as Apart};
 ghost use Rattle.ft_waits.specs.Joining.{CanJoin};
 
@@ -81,7 +82,8 @@ pub(crate) fn join_phase(
     told: &mut Vec<Dispatch>,
 ) -> Result<(), StreamFault>
     ensures joins { OnOk result (CanBeJoined phase.old part.old
-        × JoinsTold phase.old part.old phase.new told.new.items × (part.new ≡ Idle)) }
+        × JoinsTold phase.old part.old phase.new told.new.items
+        × (refused_at phase.new ≡ None) × (part.new ≡ Idle)) }
     ensures refused { IfErr result (λ why. (IsNotJoined phase.old part.old why
         × (phase.new ≡ phase.old) × (part.new ≡ part.old) × (told.new ≡ told.old))
         ⊎ (CanBeJoined phase.old part.old × RanOut why phase.new part.new told.new.items)) }

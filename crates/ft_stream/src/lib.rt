@@ -20,6 +20,19 @@
 //! assert_eq!(rt; stream.feed(piece, &mut count), 19);
 //! ```
 //!
+//! A text may be read in parts, each by a stream of its own, also in other threads:
+//!
+//! ```ignore
+//! assert_eq!(rt; part.begin_part(BadLines::Refuse), 0);
+//! // Both take pieces; what the part tells has places from its own start. Then, in order:
+//! let before = stream.phase.events();
+//! // The lines of what the part told move by what its CPU had `before`.
+//! assert_eq!(rt; stream.join(&mut part, &mut count), 0);
+//! for wait in stream.waits.as_slice() {
+//!     // A dispatch that ends a wait, and that the part held back, or of the microsecond before the part.
+//! }
+//! ```
+//!
 //! # Contracts
 //!
 //! - `Stream::new`, `begin`, `feed`, `finish`, `end`: the waits that the calls leave, one after the other,
