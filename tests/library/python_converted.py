@@ -1,10 +1,11 @@
 #!/usr/bin/env python3
-"""Holds what the tools say of a recording of perf or trace-cmd against what they say of its text.
+"""Holds what the tools say of a recording of perf or trace-cmd against what they say of the text that its converter makes.
 
     python_converted.py [TEST]...
 
 Programs stand in for perf and trace-cmd, and print a text that is known. The last line says how many of the tests hold."""
 
+import csv
 import os
 import subprocess
 import sys
@@ -46,11 +47,12 @@ class Tools(unittest.TestCase):
         self.addCleanup(folder.cleanup)
         self.folder = folder.name
         self.text = recordings.simulated(4).text
-        self.trace = self.put("my.trace", self.text)
-        self.recordings = {}
+        self.recordings, self.traces = {}, {}
         for name, (front, program, form) in KINDS.items():
             self.recordings[program] = self.put(name, front)
             self.stand_in(program, printed(self.text, form))
+            converted = self.ran(f"from-{program}", self.recordings[program])
+            self.traces[program] = self.put(f"{program}.trace", converted.stdout)
 
     def put(self, name, content):
         path = os.path.join(self.folder, name)
@@ -86,10 +88,21 @@ class Tools(unittest.TestCase):
         for program, path in self.recordings.items():
             for tool, *words in asked:
                 # The name of the trace comes first.
-                want, found = self.ran(tool, self.trace, *words), self.ran(tool, path, *words)
+                trace = self.traces[program]
+                want, found = self.ran(tool, trace, *words), self.ran(tool, path, *words)
                 self.assertEqual((want.returncode, found.returncode), (0, 0), (program, tool, want.stderr, found.stderr))
-                self.assertEqual(found.stdout.replace(path.encode(), self.trace.encode()), want.stdout, (program, tool, words))
+                self.assertEqual(found.stdout.replace(path.encode(), trace.encode()), want.stdout, (program, tool, words))
                 self.assertTrue(want.stdout)
+
+    def test_known(self):
+        """The waits of a recording are those of a plain reckoning."""
+        for path in self.recordings.values():
+            rows = list(csv.DictReader(self.ran("export", path, "waits").stdout.decode().split("\n")))
+            want = plain_waits.waits_of(self.text)
+            self.assertEqual(
+                [(int(row["pid"]), row["kind"], int(row["micros"])) for row in rows],
+                [one[1:2] + one[:1] + (one.micros,) for one in want],
+            )
 
     def test_failing(self):
         """A converter that makes no text ends the tool; one that leaves lines out is believed."""
