@@ -4,8 +4,8 @@
 #
 # First it does so over a synthetic trace of EVENTS events (1,000,000), then over a recording of perf. Without a word it makes
 # that one by perf, as root, of a machine that two benchmarks of perf keep busy. TRACE is what tools/from-perf makes of the
-# recording, which it makes anew if it isn't given. If LONG is set, a synthetic trace of so many events is read by one process
-# and by four, if tools/waits has --jobs.
+# recording, which it makes anew if it isn't given. If LONG is set, a synthetic trace of so many events is read in one part
+# and in four at once.
 #
 # All commands over one trace run in turn, seven times or as often as TIMES says. It prints for each the least time by the
 # clock, the least time of processors, and the most memory that a process of it had.
@@ -118,9 +118,8 @@ if [[ -n ${LONG:-} ]]; then
     make_trace "$LONG" >"$trace"
     tell long
     rows_of_any
-    if "$python" "$tools/waits" --help | grep -q -- --jobs; then
-        row 'tools/waits --jobs 4' "$python" "$tools/waits" --jobs 4 "$trace"
-    fi
+    row 'tools/waits --jobs 1' "$python" "$tools/waits" --jobs 1 "$trace"
+    row 'tools/waits --jobs 4' "$python" "$tools/waits" --jobs 4 "$trace"
     measure
 fi
 

@@ -4,6 +4,7 @@ from __future__ import annotations
 
 import contextlib
 import ctypes
+import threading
 from typing import Any, Dict, Iterator, NamedTuple, Optional, Tuple
 
 from . import _layout, _pieces
@@ -190,6 +191,7 @@ class Feed:
     def __init__(self, lenient: bool, told: Told, is_part: bool = False) -> None:
         """Of a whole text, or of a part of one that begins later and is to be joined."""
         self._session = Session()
+        self._lock = threading.Lock()
         self.told = told
         self._call(library.histdesk_waits_part if is_part else library.histdesk_waits_new, lenient)
 
@@ -223,7 +225,9 @@ class Feed:
     def judge(self, records: Any, besides: Besides) -> None:
         """Finds out how sure waits of the text are, which has ended, and with what they began: writes it to their records."""
         waits = as_told(records, besides)
-        self._call(library.histdesk_waits_doubt, waits.ctypes.data, len(waits))
+        # Several threads may judge.
+        with self._lock:
+            self._call(unlocked.histdesk_waits_doubt, waits.ctypes.data, len(waits))
         take_over(records, waits)
 
     def so_far(self) -> Tuple[int, Dict[int, int]]:
