@@ -1,14 +1,18 @@
 """What from-perf, from-trace-cmd and record have in common: a text is read in pieces of whole lines; the plain lines of a piece
 are turned at once, odd ones one by one. What is printed, the desk loads; what can't be turned is left out and told."""
 
+import ctypes
 import fcntl
 import os
+import queue
 import select
 import shutil
 import signal
+import stat
 import subprocess
 import sys
 import tempfile
+import threading
 import time
 
 from turning_lines import NotTurned, completed
@@ -18,6 +22,8 @@ from turning_told import Stop, Told, shown
 SIZE, PIPE = 1 << 18, 1 << 20
 # So many seconds a pipe is left alone that had less, for as long as more comes.
 PAUSE = 0.002
+# So many pieces of a file are read ahead.
+AHEAD = 8
 # Linux's number of the call that asks for a pipe's room: Python has it since 3.10.
 SET_PIPE_ROOM = 1031
 # The names of a line have no more line breaks than for so many pieces, and with them it is no longer than that.
@@ -46,6 +52,14 @@ class Form:
     def prepared(self, text):
         """Whole lines, before they are turned."""
         return text
+
+    def kept(self, text):
+        """How many lines a text has, if each is plain and stays as it is; else 0, or where that isn't known quickly."""
+        return 0
+
+    def find(self, text):
+        """What the pattern finds in whole lines."""
+        return self.pattern.findall(text)
 
     def plain(self, found):
         """What the pattern has found, as turned lines with line breaks. Odd lines give what empty groups give."""
@@ -95,7 +109,12 @@ class Turner:
 
     def turn(self, text, is_last):
         """Turns whole lines; and what of them has to be seen again with those that follow."""
-        found = self.form.pattern.findall(text)
+        kept = self.form.kept(text)
+        if kept:
+            self.told.has_turned = True
+            self.number += kept
+            return text, b""
+        found = self.form.find(text)
         turned = self.form.plain(found)
         self.turned = turned
         odd = [at for at, line in enumerate(turned) if line == self.odd] if self.odd in turned else []
@@ -162,22 +181,58 @@ class Turner:
 
 
 class Source:
-    """A file that gives many bytes at once, though a tool may write few at a time."""
+    """A file that gives many bytes at once, though a tool may write few at a time into a pipe, and tracefs has 4 KiB a call."""
 
     def __init__(self, file):
         self.file = file
+        self.is_pipe = not stat.S_ISREG(os.fstat(file.fileno()).st_mode)
 
     def read(self, size):
         """So many bytes, or fewer where for a moment none are there; none at the end."""
-        content = self.file.read(size)
-        more = content
-        while more and len(content) < size:
-            time.sleep(PAUSE)
-            if not select.select([self.file], [], [], 0)[0]:
+        parts, count = [], 0
+        while count < size:
+            if parts and self.is_pipe:
+                time.sleep(PAUSE)
+                if not select.select([self.file], [], [], 0)[0]:
+                    break
+            parts.append(self.file.read(size - count))
+            count += len(parts[-1])
+            if not parts[-1]:
                 break
-            more = self.file.read(size - len(content))
-            content += more
-        return content
+        return b"".join(parts)
+
+
+class Ahead:
+    """The rest of a source that is no pipe, which a thread reads ahead. The C library reads whole pieces, without Python
+    between its calls, so that one piece is turned while the kernel makes the next ones."""
+
+    def __init__(self, source):
+        self.library = ctypes.CDLL(None, use_errno=True)
+        self.library.fdopen.restype = ctypes.c_void_p
+        self.library.fread.restype = ctypes.c_size_t
+        self.library.fread.argtypes = ctypes.c_void_p, ctypes.c_size_t, ctypes.c_size_t, ctypes.c_void_p
+        self.stream = self.library.fdopen(os.dup(source.file.fileno()), b"r")
+        if not self.stream:
+            raise OSError(ctypes.get_errno(), os.strerror(ctypes.get_errno()))
+        self.pieces = queue.Queue(AHEAD)
+        threading.Thread(target=self.read_ahead, daemon=True).start()
+
+    def read(self, _):
+        """The next bytes, of which there may be more or fewer than are asked for; none at the end."""
+        piece = self.pieces.get()
+        if isinstance(piece, OSError):
+            raise piece
+        return piece
+
+    def read_ahead(self):
+        """Reads pieces, to the end or the error that ends them."""
+        room = ctypes.create_string_buffer(SIZE)
+        count = SIZE
+        while count:
+            ctypes.set_errno(0)
+            count = self.library.fread(room, 1, SIZE, self.stream)
+            number = 0 if count else ctypes.get_errno()
+            self.pieces.put(OSError(number, os.strerror(number)) if number else ctypes.string_at(room, count))
 
 
 def pieces(first, source):
@@ -279,7 +334,7 @@ def turn_file(form, told, path):
             is_good = turn_recording(form, told, path)
         else:
             is_good = True
-            turn_text(form, told, first, source)
+            turn_text(form, told, first, source if source.is_pipe else Ahead(source))
     sys.stdout.flush()
     return 0 if is_good and not told.left_out else 1
 
