@@ -1,8 +1,8 @@
 """What from-perf, from-trace-cmd and record have in common: a text is read in pieces of whole lines; the plain lines of a piece
 are turned at once, odd ones one by one. What is printed, the desk loads; what can't be turned is left out and told."""
 
+import copy
 import ctypes
-import fcntl
 import os
 import queue
 import select
@@ -15,17 +15,16 @@ import tempfile
 import threading
 import time
 
+from turning_blocks import Sink, Unfit, turned_quickly, widen
 from turning_lines import NotTurned, completed
 from turning_told import Stop, Told, shown
 
-# So many bytes are turned at once, and so many has the pipe from a tool.
-SIZE, PIPE = 1 << 18, 1 << 20
+# So many bytes are turned at once.
+SIZE = 1 << 18
 # So many seconds a pipe is left alone that had less, for as long as more comes.
 PAUSE = 0.002
 # So many pieces of a file are read ahead.
 AHEAD = 8
-# Linux's number of the call that asks for a pipe's room: Python has it since 3.10.
-SET_PIPE_ROOM = 1031
 # The names of a line have no more line breaks than for so many pieces, and with them it is no longer than that.
 PIECES, JOINED_ROOM = 46, 512
 PACKED = {b"\x1f\x8b": "gzip", b"\x28\xb5\x2f\xfd": "zstd", b"\xfd7zXZ": "xz", b"BZh": "bzip2"}
@@ -85,6 +84,10 @@ class Form:
 
     def check_end(self, name):
         """Raises `Stop` where what was read of the file of that name doesn't go together."""
+
+    def quick_command(self, path):
+        """The words of a program that reads the recording of that path and writes blocks; None where there is none."""
+        return None
 
 
 class Waiting(Exception):
@@ -249,17 +252,16 @@ def pieces(first, source):
     yield rest + b"\n" if rest else b"", True
 
 
-def turn_text(form, told, first, source):
+def turn_text(form, told, first, source, sink=None):
     """Turns a text onto standard output."""
     turner, rest, spool = Turner(form, told), b"", None
-    sink = sys.stdout.buffer
+    sink = sink or Sink(sys.stdout.buffer)
     for text, is_last in pieces(first, source):
         turned, rest = turner.turn(rest + form.prepared(text), is_last)
         if form.holds_back and spool is None:
             spool = tempfile.TemporaryFile()
         (spool or sink).write(turned)
         if spool is None:
-            sink.flush()
             told.say_first()
     form.check_end(told.path)
     told.finish()
@@ -269,6 +271,24 @@ def turn_text(form, told, first, source):
 
 
 def turn_recording(form, told, path):
+    """Turns a recording, quickly if that can be done, else by what the tool prints of it; the exit status."""
+    sink = Sink(sys.stdout.buffer)
+    command = form.quick_command(path)
+    if command:
+        again = copy.deepcopy((form, told))
+        try:
+            for text in turned_quickly(Turner(form, told), command, path, sink):
+                told.say(text)
+            return status_of(told)
+        except (Unfit, Stop):
+            (form, told) = again
+            sink.begin_again()
+    is_good = turn_printed(form, told, path, sink)
+    sink.check()
+    return status_of(told, is_good)
+
+
+def turn_printed(form, told, path, sink):
     """Turns what the tool prints of a recording, and passes on what it says. Whether the tool succeeded."""
     with tempfile.TemporaryFile() as said:
         try:
@@ -283,7 +303,7 @@ def turn_recording(form, told, path):
             source = Source(tool.stdout)
             first = source.read(SIZE)
             if first:
-                turn_text(form, told, first, source)
+                turn_text(form, told, first, source, sink)
             status = tool.wait()
         finally:
             tool.kill()
@@ -297,12 +317,9 @@ def turn_recording(form, told, path):
     return status == 0 and bool(first)
 
 
-def widen(pipe):
-    """Gives a pipe more room, where the system lets it have some."""
-    try:
-        fcntl.fcntl(pipe, SET_PIPE_ROOM, PIPE)
-    except OSError:
-        pass
+def status_of(told, is_good=True):
+    """The exit status, once all is turned."""
+    return 0 if is_good and not told.left_out else 1
 
 
 def check_first(form, path, first):
@@ -331,12 +348,9 @@ def turn_file(form, told, path):
         source = Source(file)
         first = source.read(SIZE)
         if check_first(form, path, first):
-            is_good = turn_recording(form, told, path)
-        else:
-            is_good = True
-            turn_text(form, told, first, source if source.is_pipe else Ahead(source))
-    sys.stdout.flush()
-    return 0 if is_good and not told.left_out else 1
+            return turn_recording(form, told, path)
+        turn_text(form, told, first, source if source.is_pipe else Ahead(source))
+    return status_of(told)
 
 
 def run(own, form, path):

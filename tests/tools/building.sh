@@ -78,6 +78,17 @@ builds first 0 "$building, all 5 crates, which takes twenty minutes and more; se
 head -n 2 -- "$folder/proved" >"$folder/out"
 prints "first, the lower ones first" $'ft_low\nft_desk'
 builds nothing 0 ""
+# What is compiled of C, where a compiler and the header are; a fault in it keeps nothing else from being built.
+if echo '#include <perf/perf_dlfilter.h>' | cc -E -o /dev/null -x c - 2>/dev/null; then
+    gives "perf's filter" 0 "" ls -- "$root/tools/out/perf_filter.so"
+    echo 'int' >>"$root/tools/perf_filter.c"
+    builds "a fault in C" 0 "build: tools/perf_filter.c is not compiled, and the tools do without it:"$'\n*'
+    gives "no filter" 2 "*" ls -- "$root/tools/out/perf_filter.so"
+    cp -- "$tests/../tools/perf_filter.c" "$root/tools"
+    builds "the fault is gone" 0 ""
+else
+    echo "not tried: perf's filter: no compiler, or no header of perf"
+fi
 touch -- "$root/crates/ft_desk/src/lib.rt"
 builds "a source" 0 "$building, 4 of 5 crates; see *" "${above[@]}"
 rm -- "$root/crates/histwatch/out/histwatch"
