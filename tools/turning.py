@@ -89,6 +89,13 @@ class Form:
         """The words of a program that reads the recording of that path and writes blocks; None where there is none."""
         return None
 
+    # Whether that program turns events by itself, so that what it writes first is compared with what the tool prints first.
+    is_apart = False
+
+    def head_of(self, text):
+        """The lines before the first event in what the tool prints first, which that program doesn't write."""
+        return b""
+
 
 class Waiting(Exception):
     """More lines are needed."""

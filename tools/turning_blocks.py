@@ -1,9 +1,10 @@
 """The quick way from a recording to its lines. A program that reads the recording, perf with perf_filter.so or trace_cmd_lines,
 turns plain events itself and writes blocks (event_lines.h): turned lines, and what the tool prints of other events, which is
-turned as always. Some events are in both, and are compared. If anything is not as it should be, the recording is turned the
+turned as always. Some lines are made both ways and compared. If anything is not as it should be, the recording is turned the
 slow way, and what was written already is compared with that."""
 
 import collections
+import copy
 import fcntl
 import struct
 import subprocess
@@ -21,6 +22,8 @@ PIPE, SET_PIPE_ROOM = 1 << 20, 1031
 MOST = 1 << 24
 # So many bytes of turned lines are kept, in which the lines before an event are looked for.
 KEPT = 1 << 20
+# So many bytes of what a tool prints first are compared.
+FRONT = 1 << 16
 
 
 def widen(pipe):
@@ -66,6 +69,26 @@ class Sink:
         """Raises `Stop` where what was written is not what was written once more."""
         if self.left or self.again != self.wanted:
             raise Stop("what was written first is not what the tool prints; take it away, and try again")
+
+
+class First:
+    """A sink that is given what it must begin with. Nothing goes on before that is compared."""
+
+    def __init__(self, sink, wanted):
+        self.sink, self.wanted, self.held = sink, wanted, b""
+
+    def write(self, text):
+        """Writes a text. Raises `Unfit` where it begins otherwise."""
+        self.held += text
+        if len(self.held) >= len(self.wanted):
+            self.check()
+            self.sink.write(self.held)
+            self.wanted, self.held = b"", b""
+
+    def check(self):
+        """Raises `Unfit` where it has begun otherwise, or ended too early."""
+        if not self.held.startswith(self.wanted):
+            raise Unfit("the tool prints other lines first")
 
 
 class Before:
@@ -142,8 +165,37 @@ def blocks(file):
     yield END, b"", 0
 
 
+def front_of(command):
+    """What a command prints first, in whole lines. Raises `Unfit` where it says something beside that."""
+    with tempfile.TemporaryFile() as said:
+        try:
+            with subprocess.Popen(command, stdin=subprocess.DEVNULL, stdout=subprocess.PIPE, stderr=said) as tool:
+                text = tool.stdout.read(FRONT)
+                tool.kill()
+        except OSError as error:
+            raise Unfit(f"{command[0]}: {error.strerror}") from None
+        if said.seek(0, 2):
+            raise Unfit(f"{command[0]} says something")
+    return text[: text.rfind(b"\n") + 1]
+
+
+def begin(turner, command, sink):
+    """What takes the blocks after what the tool's own command prints first, with which they are compared. Raises `Unfit`."""
+    text = front_of(command)
+    form, told = copy.deepcopy((turner.form, turner.told))
+    turned, _ = type(turner)(form, told).turn(form.prepared(text), False)
+    # This form knows the columns, too.
+    turner.form.prepared(text)
+    if turner.form.holds_back:
+        raise Unfit("several buffers")
+    taker = Taker(turner, First(sink, turned))
+    taker.take(TOLD, turner.form.head_of(text), 0)
+    return taker
+
+
 def turned_quickly(turner, command, path, sink):
     """Turns a recording by a command that writes blocks; what it said. Raises `Unfit`."""
+    form = turner.form
     with tempfile.TemporaryFile() as said:
         try:
             tool = subprocess.Popen(command, stdin=subprocess.DEVNULL, stdout=subprocess.PIPE, stderr=said, bufsize=1 << 18)
@@ -151,17 +203,18 @@ def turned_quickly(turner, command, path, sink):
             raise Unfit(f"{command[0]}: {error.strerror}") from None
         try:
             widen(tool.stdout)
-            taker = Taker(turner, sink)
+            taker = begin(turner, [*form.command, path], sink) if form.is_apart else Taker(turner, sink)
             for block in blocks(tool.stdout):
                 taker.take(*block)
-            if tool.wait() != 0 or taker.is_empty:
+            taker.sink.check()
+            if tool.wait() != 0 or taker.is_empty or form.is_apart and said.seek(0, 2):
                 raise Unfit(f"{command[0]} failed")
         finally:
             tool.kill()
             tool.stdout.close()
             tool.wait()
         said.seek(0)
-        heard = [turner.form.heard(line.strip(), path) for line in said]
-    turner.form.check_end(turner.told.path)
+        heard = [form.heard(line.strip(), path) for line in said]
+    form.check_end(turner.told.path)
     turner.told.finish()
     return [text for text in heard if text]

@@ -1,13 +1,13 @@
 #!/usr/bin/env python3
-"""Holds what from-perf turns quickly against what it turns the slow way.
+"""Holds what from-perf and from-trace-cmd turn quickly against what they turn the slow way.
 
     quickly.py TOOLS
 
-TOOLS is the folder of the scripts, of which it takes a copy and compiles what tools/build compiles. As root, with perf, it
-records this machine: with lost events, packed, with call chains, a single task, other events, odd names, and tasks that are
-renamed and end. Each recording gives the same bytes, the same words and the same status both ways. Words that tell the filter
-something wrong are noticed; what is written first is not written twice. What isn't here is not tried, and a line says so. The
-last line says how many of how many things hold."""
+TOOLS is the folder of the scripts, of which it takes a copy and compiles what tools/build compiles. As root, it records this
+machine by perf and trace-cmd: with lost events, packed, with call chains, a single task, other events, odd names, and tasks
+that are renamed and end. Each recording gives the same bytes, the same words and the same status both ways. Words that tell
+the filter something wrong are noticed; what is written first is not written twice. What isn't here is not tried, and a line
+says so. The last line says how many of how many things hold."""
 
 import os
 import random
@@ -15,7 +15,7 @@ import shutil
 import subprocess
 import sys
 import tempfile
-from typing import Any, Dict, List, NamedTuple
+from typing import Any, Dict, List, NamedTuple, Tuple
 
 # Nothing is written beside the sources.
 sys.dont_write_bytecode = True
@@ -199,13 +199,17 @@ class Turned(NamedTuple):
     status: int
 
 
-def turned(tools: str, path: str, perf: str = "") -> Turned:
-    """What from-perf of that folder makes of a recording; by the programs in the folder `perf`, where one is named."""
-    environ = {**os.environ, "PATH": f"{perf}:{os.environ['PATH']}" if perf else os.environ["PATH"]}
-    ran = subprocess.run(
-        [sys.executable, os.path.join(tools, "from-perf"), path], capture_output=True, timeout=LIMIT, env=environ
-    )
+def turned(tools: str, path: str, programs: str = "") -> Turned:
+    """What the converter in that folder makes of a recording; by the programs in the folder `programs`, where one is named."""
+    environ = {**os.environ, "PATH": f"{programs}:{os.environ['PATH']}" if programs else os.environ["PATH"]}
+    words = [sys.executable, os.path.join(tools, converter(path)), path]
+    ran = subprocess.run(words, capture_output=True, timeout=LIMIT, env=environ)
     return Turned(ran.stdout, ran.stderr, ran.returncode)
+
+
+def converter(path: str) -> str:
+    """The script that turns a recording of that path."""
+    return "from-perf" if path.endswith(".data") else "from-trace-cmd"
 
 
 # Threads with names that mislead, which wake each other; a few end, and are replaced by others of another name.
@@ -313,6 +317,90 @@ def check_recordings(folder: str, made: Dict[str, str], slow: str, quick: str) -
         check(name != "names" or b"would mislead" in found.said, f"no names are odd: {found.said!r}")
 
 
+# ---- recordings of trace-cmd
+
+# A kernel may lack files that trace-cmd writes to: plain ones stand for them, in a mount namespace of its own.
+STAND_INS = """
+cd -- "$0"
+echo 1 >one
+mount --bind one /proc/sys/kernel/ftrace_enabled
+for name in set_{ftrace_filter,ftrace_notrace,graph_function,graph_notrace,ftrace_pid,ftrace_notrace_pid} set_event_{,no}pid; do
+    file=/sys/kernel/tracing/$name
+    [[ ! -e $file ]] || { : >"$name" && mount --bind "$name" "$file"; }
+done
+exec trace-cmd record "$@"
+"""
+EVENTS = [word for name in event_formats.EVENTS for word in ("-e", name)]
+OTHER_EVENTS = ["-e", "irq", "-e", "timer_start", "-e", "sched_migrate_task"]
+# What each is of, and whether it is turned quickly.
+BY_TRACE_CMD: Dict[str, Tuple[List[str], bool]] = {
+    "plain": (["-b", "8192", *EVENTS, *pipes(20000)], True),
+    "lost": (["-b", "8", *EVENTS, "perf", "bench", "sched", "messaging", "-l", "100"], True),
+    "others": (["-b", "8192", *EVENTS, *OTHER_EVENTS, "bash", "-c", EXEC], True),
+    "names": (["-b", "8192", *EVENTS, sys.executable, "-c", NAMES], True),
+    "few": (["-b", "8192", "-e", "sched_waking", *pipes(1000)], True),
+    "no events": (["-b", "8192", "-e", "block_rq_issue", "/bin/true"], True),
+    "buffers": (["-b", "8192", *EVENTS, "-B", "one", *EVENTS, *pipes(1000)], False),
+}
+
+
+def record_by_trace_cmd(folder: str) -> Dict[str, str]:
+    """The recordings that trace-cmd makes here."""
+    made = {}
+    for name, (what, _) in BY_TRACE_CMD.items():
+        path = os.path.join(folder, name.replace(" ", "-") + ".dat")
+        command = ["unshare", "-m", "bash", "-c", STAND_INS, folder, "-o", path, *what]
+        ran = subprocess.run(command, capture_output=True, timeout=LIMIT)
+        if ran.returncode == 0 and os.path.exists(path):
+            made[name] = path
+        else:
+            print(f"not tried: {name}, by trace-cmd: {ran.stderr.decode(errors='replace').strip()[-200:]}")
+    return made
+
+
+def check_trace_cmd(folder: str, made: Dict[str, str], slow: str, quick: str) -> None:
+    """Both ways give the same, and the quick one is taken where it is to be."""
+    ended = os.path.join(folder, "ended")
+    real = os.path.join(quick, "out", "trace_cmd_lines")
+    watched = copied(folder, "watched-trace-cmd", quick)
+    text = f'#!/bin/bash\n{real} "$@"\nstatus=$?\necho $status >{ended}\nexit $status\n'
+    program(os.path.join(watched, "out"), "trace_cmd_lines", text)
+    for name, path in made.items():
+        wanted, found = turned(slow, path), turned(watched, path)
+        with open(ended, encoding="ascii") as file:
+            is_quick = file.read() == "0\n"
+        is_same = found == wanted and len(wanted.trace + wanted.said) > 0
+        check(is_same, f"{name}.dat: {len(wanted.trace)} bytes the slow way, {len(found.trace)} quickly: {found.said[-300:]!r}")
+        check(is_quick == BY_TRACE_CMD[name][1], f"{name}.dat: {'' if is_quick else 'not '}turned quickly")
+        check(name != "lost" or b" EVENTS]" in found.trace, "no events were lost")
+        check(name != "names" or b"would mislead" in found.said, f"no names are odd: {found.said!r}")
+
+
+def check_false(folder: str, path: str, slow: str, quick: str) -> None:
+    """Programs that stand for trace_cmd_lines, and one for a trace-cmd of other columns."""
+    wanted = turned(slow, path)
+    lines = wanted.trace.split(b"\n")
+    first = b"\n".join(lines[1:2000]) + b"\n"
+    for name, text in {
+        "false": block(b"L", first.replace(b"pid=", b"pid=1"), 1999) + block(b"E"),
+        "too short": block(b"L", first[: first.find(b"\n") + 1], 1) + block(b"E"),
+        "torn": block(b"L", first, 1999) + b"torn",
+        "nothing": b"",
+    }.items():
+        tools = copied(folder, f"false {name}", quick)
+        with open(os.path.join(tools, "text"), "wb") as file:
+            file.write(text)
+        program(os.path.join(tools, "out"), "trace_cmd_lines", f"#!/bin/bash\nexec cat '{tools}/text'\n")
+        found = turned(tools, path)
+        check(found == wanted, f"lines, {name}: {len(found.trace)} of {len(wanted.trace)} bytes: {found.said[:200]!r}")
+    script = f"#!/bin/bash\n{shutil.which('trace-cmd')} \"$@\" | sed -E 's/(\\[[0-9]+\\])/\\1 d..2./'\n"
+    columns = program(os.path.join(folder, "other-columns"), "trace-cmd", script)
+    wanted, found = turned(slow, path, columns), turned(quick, path, columns)
+    check(found == wanted and b" d..2. " in found.trace, f"other columns: {len(found.trace)} bytes, {found.said[:200]!r}")
+
+
+# ---- what is wrong on purpose
+
 # Each changes what the filter is told. The last one is right in all but a text of a state.
 PLANTED = {
     "a field elsewhere": 'old = kind_word\ndef kind_word(*a): return old(*a).replace(":8,24,28,", ":8,28,24,")\n',
@@ -363,7 +451,7 @@ def check_stand_ins(folder: str, path: str, slow: str, quick: str) -> None:
 
 def check_closed(path: str, tools: str) -> None:
     """Where nobody reads on, it ends, and says nothing."""
-    tool = subprocess.Popen([os.path.join(tools, "from-perf"), path], stdout=subprocess.PIPE, stderr=subprocess.PIPE)
+    tool = subprocess.Popen([os.path.join(tools, converter(path)), path], stdout=subprocess.PIPE, stderr=subprocess.PIPE)
     tool.stdout.read(1)
     tool.stdout.close()
     said = tool.stderr.read()
@@ -376,18 +464,26 @@ def main() -> None:
         check_headers(folder)
         check_blocks()
         if os.getuid() != 0 or not shutil.which("perf"):
-            print("not tried: recordings: no perf, or not root")
+            print("not tried: recordings: no perf, whose benchmarks are recorded, or not root")
             return
         slow, quick = copied(folder, "slow"), built(folder)
-        if not os.path.exists(os.path.join(quick, "out", "perf_filter.so")):
-            print("not tried: recordings: perf's filter can't be compiled")
-            return
-        made = record(folder)
-        check_recordings(folder, made, slow, quick)
-        if "plain" in made:
-            check_planted(folder, made["plain"], slow, quick)
-            check_stand_ins(folder, made["plain"], slow, quick)
-            check_closed(made["plain"], quick)
+        if os.path.exists(os.path.join(quick, "out", "perf_filter.so")):
+            made = record(folder)
+            check_recordings(folder, made, slow, quick)
+            if "plain" in made:
+                check_planted(folder, made["plain"], slow, quick)
+                check_stand_ins(folder, made["plain"], slow, quick)
+                check_closed(made["plain"], quick)
+        else:
+            print("not tried: recordings of perf: the filter can't be compiled")
+        if os.path.exists(os.path.join(quick, "out", "trace_cmd_lines")) and shutil.which("trace-cmd"):
+            made = record_by_trace_cmd(folder)
+            check_trace_cmd(folder, made, slow, quick)
+            if "plain" in made:
+                check_false(folder, made["plain"], slow, quick)
+                check_closed(made["plain"], quick)
+        else:
+            print("not tried: recordings of trace-cmd: no trace-cmd, or its libraries' headers are missing")
 
 
 main()
