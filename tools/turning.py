@@ -1,25 +1,30 @@
 """What from-perf, from-trace-cmd and record have in common: a text is read in pieces of whole lines; the plain lines of a piece
 are turned at once, odd ones one by one. What is printed, the desk loads; what can't be turned is left out and told."""
 
-import fcntl
+import copy
+import ctypes
 import os
+import queue
 import select
 import shutil
 import signal
+import stat
 import subprocess
 import sys
 import tempfile
+import threading
 import time
 
+from turning_blocks import Sink, Unfit, turned_quickly, widen
 from turning_lines import NotTurned, completed
 from turning_told import Stop, Told, shown
 
-# So many bytes are turned at once, and so many has the pipe from a tool.
-SIZE, PIPE = 1 << 18, 1 << 20
+# So many bytes are turned at once.
+SIZE = 1 << 18
 # So many seconds a pipe is left alone that had less, for as long as more comes.
 PAUSE = 0.002
-# Linux's number of the call that asks for a pipe's room: Python has it since 3.10.
-SET_PIPE_ROOM = 1031
+# So many pieces of a file are read ahead.
+AHEAD = 8
 # The names of a line have no more line breaks than for so many pieces, and with them it is no longer than that.
 PIECES, JOINED_ROOM = 46, 512
 PACKED = {b"\x1f\x8b": "gzip", b"\x28\xb5\x2f\xfd": "zstd", b"\xfd7zXZ": "xz", b"BZh": "bzip2"}
@@ -47,6 +52,14 @@ class Form:
         """Whole lines, before they are turned."""
         return text
 
+    def kept(self, text):
+        """How many lines a text has, if each is plain and stays as it is; else 0, or where that isn't known quickly."""
+        return 0
+
+    def find(self, text):
+        """What the pattern finds in whole lines."""
+        return self.pattern.findall(text)
+
     def plain(self, found):
         """What the pattern has found, as turned lines with line breaks. Odd lines give what empty groups give."""
         raise NotImplementedError
@@ -72,6 +85,17 @@ class Form:
     def check_end(self, name):
         """Raises `Stop` where what was read of the file of that name doesn't go together."""
 
+    def quick_command(self, path):
+        """The words of a program that reads the recording of that path and writes blocks; None where there is none."""
+        return None
+
+    # Whether that program turns events by itself, so that what it writes first is compared with what the tool prints first.
+    is_apart = False
+
+    def head_of(self, text):
+        """The lines before the first event in what the tool prints first, which that program doesn't write."""
+        return b""
+
 
 class Waiting(Exception):
     """More lines are needed."""
@@ -95,7 +119,12 @@ class Turner:
 
     def turn(self, text, is_last):
         """Turns whole lines; and what of them has to be seen again with those that follow."""
-        found = self.form.pattern.findall(text)
+        kept = self.form.kept(text)
+        if kept:
+            self.told.has_turned = True
+            self.number += kept
+            return text, b""
+        found = self.form.find(text)
         turned = self.form.plain(found)
         self.turned = turned
         odd = [at for at, line in enumerate(turned) if line == self.odd] if self.odd in turned else []
@@ -162,22 +191,58 @@ class Turner:
 
 
 class Source:
-    """A file that gives many bytes at once, though a tool may write few at a time."""
+    """A file that gives many bytes at once, though a tool may write few at a time into a pipe, and tracefs has 4 KiB a call."""
 
     def __init__(self, file):
         self.file = file
+        self.is_pipe = not stat.S_ISREG(os.fstat(file.fileno()).st_mode)
 
     def read(self, size):
         """So many bytes, or fewer where for a moment none are there; none at the end."""
-        content = self.file.read(size)
-        more = content
-        while more and len(content) < size:
-            time.sleep(PAUSE)
-            if not select.select([self.file], [], [], 0)[0]:
+        parts, count = [], 0
+        while count < size:
+            if parts and self.is_pipe:
+                time.sleep(PAUSE)
+                if not select.select([self.file], [], [], 0)[0]:
+                    break
+            parts.append(self.file.read(size - count))
+            count += len(parts[-1])
+            if not parts[-1]:
                 break
-            more = self.file.read(size - len(content))
-            content += more
-        return content
+        return b"".join(parts)
+
+
+class Ahead:
+    """The rest of a source that is no pipe, which a thread reads ahead. The C library reads whole pieces, without Python
+    between its calls, so that one piece is turned while the kernel makes the next ones."""
+
+    def __init__(self, source):
+        self.library = ctypes.CDLL(None, use_errno=True)
+        self.library.fdopen.restype = ctypes.c_void_p
+        self.library.fread.restype = ctypes.c_size_t
+        self.library.fread.argtypes = ctypes.c_void_p, ctypes.c_size_t, ctypes.c_size_t, ctypes.c_void_p
+        self.stream = self.library.fdopen(os.dup(source.file.fileno()), b"r")
+        if not self.stream:
+            raise OSError(ctypes.get_errno(), os.strerror(ctypes.get_errno()))
+        self.pieces = queue.Queue(AHEAD)
+        threading.Thread(target=self.read_ahead, daemon=True).start()
+
+    def read(self, _):
+        """The next bytes, of which there may be more or fewer than are asked for; none at the end."""
+        piece = self.pieces.get()
+        if isinstance(piece, OSError):
+            raise piece
+        return piece
+
+    def read_ahead(self):
+        """Reads pieces, to the end or the error that ends them."""
+        room = ctypes.create_string_buffer(SIZE)
+        count = SIZE
+        while count:
+            ctypes.set_errno(0)
+            count = self.library.fread(room, 1, SIZE, self.stream)
+            number = 0 if count else ctypes.get_errno()
+            self.pieces.put(OSError(number, os.strerror(number)) if number else ctypes.string_at(room, count))
 
 
 def pieces(first, source):
@@ -194,17 +259,16 @@ def pieces(first, source):
     yield rest + b"\n" if rest else b"", True
 
 
-def turn_text(form, told, first, source):
+def turn_text(form, told, first, source, sink=None):
     """Turns a text onto standard output."""
     turner, rest, spool = Turner(form, told), b"", None
-    sink = sys.stdout.buffer
+    sink = sink or Sink(sys.stdout.buffer)
     for text, is_last in pieces(first, source):
         turned, rest = turner.turn(rest + form.prepared(text), is_last)
         if form.holds_back and spool is None:
             spool = tempfile.TemporaryFile()
         (spool or sink).write(turned)
         if spool is None:
-            sink.flush()
             told.say_first()
     form.check_end(told.path)
     told.finish()
@@ -214,6 +278,24 @@ def turn_text(form, told, first, source):
 
 
 def turn_recording(form, told, path):
+    """Turns a recording, quickly if that can be done, else by what the tool prints of it; the exit status."""
+    sink = Sink(sys.stdout.buffer)
+    command = form.quick_command(path)
+    if command:
+        again = copy.deepcopy((form, told))
+        try:
+            for text in turned_quickly(Turner(form, told), command, path, sink):
+                told.say(text)
+            return status_of(told)
+        except (Unfit, Stop):
+            (form, told) = again
+            sink.begin_again()
+    is_good = turn_printed(form, told, path, sink)
+    sink.check()
+    return status_of(told, is_good)
+
+
+def turn_printed(form, told, path, sink):
     """Turns what the tool prints of a recording, and passes on what it says. Whether the tool succeeded."""
     with tempfile.TemporaryFile() as said:
         try:
@@ -228,7 +310,7 @@ def turn_recording(form, told, path):
             source = Source(tool.stdout)
             first = source.read(SIZE)
             if first:
-                turn_text(form, told, first, source)
+                turn_text(form, told, first, source, sink)
             status = tool.wait()
         finally:
             tool.kill()
@@ -242,12 +324,9 @@ def turn_recording(form, told, path):
     return status == 0 and bool(first)
 
 
-def widen(pipe):
-    """Gives a pipe more room, where the system lets it have some."""
-    try:
-        fcntl.fcntl(pipe, SET_PIPE_ROOM, PIPE)
-    except OSError:
-        pass
+def status_of(told, is_good=True):
+    """The exit status, once all is turned."""
+    return 0 if is_good and not told.left_out else 1
 
 
 def check_first(form, path, first):
@@ -276,12 +355,9 @@ def turn_file(form, told, path):
         source = Source(file)
         first = source.read(SIZE)
         if check_first(form, path, first):
-            is_good = turn_recording(form, told, path)
-        else:
-            is_good = True
-            turn_text(form, told, first, source)
-    sys.stdout.flush()
-    return 0 if is_good and not told.left_out else 1
+            return turn_recording(form, told, path)
+        turn_text(form, told, first, source if source.is_pipe else Ahead(source))
+    return status_of(told)
 
 
 def run(own, form, path):

@@ -78,6 +78,25 @@ builds first 0 "$building, all 5 crates, which takes twenty minutes and more; se
 head -n 2 -- "$folder/proved" >"$folder/out"
 prints "first, the lower ones first" $'ft_low\nft_desk'
 builds nothing 0 ""
+# What is compiled of C, where a compiler and the headers are; a fault in it keeps nothing else from being built.
+compiled() {
+    gives "$1" 0 "" ls -- "$root/tools/out/$1"
+    echo int >>"$root/tools/$2"
+    builds "$1, a fault" 0 "build: tools/$2 is not compiled, and the tools do without it:"$'\n*'
+    gives "$1, gone" 2 "*" ls -- "$root/tools/out/$1"
+    cp -- "$tests/../tools/$2" "$root/tools"
+    builds "$1, no fault" 0 ""
+}
+if echo '#include <perf/perf_dlfilter.h>' | cc -E -o /dev/null -x c - 2>/dev/null; then
+    compiled perf_filter.so perf_filter.c
+else
+    echo "not tried: perf's filter: no compiler, or no header of perf"
+fi
+if command -v cc >/dev/null && pkg-config libtracecmd 2>/dev/null; then
+    compiled trace_cmd_lines trace_cmd_lines.c
+else
+    echo "not tried: the program for trace-cmd: no compiler, or no headers of its libraries"
+fi
 touch -- "$root/crates/ft_desk/src/lib.rt"
 builds "a source" 0 "$building, 4 of 5 crates; see *" "${above[@]}"
 rm -- "$root/crates/histwatch/out/histwatch"

@@ -136,6 +136,7 @@ used() {
     work=$(mktemp -d -- "$folder/work.XXXXXX")
     cd -- "$work" || exit
     used_programs "$1"
+    has_helpers "$1"
     used_reports "$1"
     used_library "$1"
     used_pages "$1"
@@ -149,6 +150,15 @@ used() {
 installed() {
     gives "$1" 0 "" "$tools/install" "${@:2}"
     prints "$1" ""
+}
+
+# What tools/build has compiled for the converters, if anything, stands beside them.
+has_helpers() {
+    local name
+    for name in perf_filter.so trace_cmd_lines; do
+        same "$1, $name" "$(test -x "$prefix/lib/histdesk/tools/out/$name" && echo there)" \
+            "$(test -e "$tools/out/$name" && echo there)"
+    done
 }
 
 # ---- A prefix of its own.

@@ -17,6 +17,7 @@ import re
 import subprocess
 import sys
 import tempfile
+import types
 from typing import Any, Callable, Dict, List, NamedTuple, Tuple
 
 # Nothing is written beside the sources.
@@ -291,6 +292,60 @@ def check_pieces(seed: int) -> None:
     check(traces[0] == traces[1] and traces[0].count(b"\n") == 300, "a text in small pieces is turned otherwise")
 
 
+def check_kept(seed: int) -> None:
+    """record's script looks once at lines that differ in digits alone, and finds what its pattern finds in each."""
+    from kernel_text import Kernel
+
+    draw = random.Random(seed)
+    events = some_events(draw, 2000, lambda: draw.choice(PLAIN) if draw.random() < 0.99 else odd_name(draw))
+    # Numbers near their limits, where digits decide.
+    limits = ["[7999]", "[8000]", "[99999]", " 3999999999.000001:", " 4000000000.000001:", "pid=999999999", "pid=1000000000"]
+    lines = [kernel_text(event) for event in events]
+    for at in range(0, len(lines), 7):
+        pattern = draw.choice([r"\[[0-9]+\]", r" [0-9]+\.[0-9]+:", r"pid=[0-9]+"])
+        lines[at] = re.sub(pattern, draw.choice(limits), lines[at], count=1)
+    lines += [torn(draw, line, draw.choice(lines)) for line in lines] + ["", "# a comment", "CPU:1 [LOST 7 EVENTS]"]
+    form, wrong, kept = Kernel(), [], 0
+    for _ in range(2000):
+        # Most pieces of a text have plain lines alone.
+        some = draw.sample(lines[: 2000 if draw.random() < 0.8 else None], draw.randint(0, 3))
+        text = "".join(line + "\n" for line in some).encode("latin-1")
+        found, count = form.pattern.findall(text), form.kept(text)
+        kept += count > 0
+        is_plain = bool(found) and not any(odd for _, odd in found) and all(line for line, _ in found)
+        if count != (len(found) if is_plain and not is_limit(text) else 0) or form.find(text) != found:
+            wrong.append(text)
+    check(not wrong and kept > 300, f"record: {kept} pieces are kept, {len(wrong)} are found otherwise, such as {wrong[:1]}")
+
+
+def is_limit(text: bytes) -> bool:
+    """Whether so many digits stand in a CPU or in seconds that they decide: such a piece is not kept at once."""
+    return bool(re.search(rb"\[[0-9]{4}\]| [0-9]{10}\.", text))
+
+
+def check_ahead(seed: int) -> None:
+    """A file is read ahead in pieces that are its bytes; where it can't be read, that is raised."""
+    from turning import SIZE, Ahead, Source
+
+    for size in (0, 1, SIZE, SIZE + 1, 9 * SIZE + 7):
+        content = random.Random(seed).randbytes(size)
+        with tempfile.TemporaryFile(buffering=0) as file:
+            file.write(content)
+            file.seek(0)
+            source = Source(file)
+            parts = [source.read(SIZE)]
+            ahead = Ahead(source)
+            while parts[-1]:
+                parts.append(ahead.read(SIZE))
+        check(not source.is_pipe and b"".join(parts) == content, f"a file of {size} bytes is read otherwise")
+    folder = os.open(tempfile.gettempdir(), os.O_RDONLY)
+    try:
+        said = Ahead(Source(types.SimpleNamespace(fileno=lambda: folder))).read(SIZE)
+    except OSError as error:
+        said = error.strerror
+    check(said == "Is a directory", f"a folder is read ahead: {said}")
+
+
 # ---- buffers
 
 
@@ -349,6 +404,8 @@ for seed, name in enumerate(FORMS, first):
     check_names(name, seed)
     check_foreign(name, seed)
 check_pieces(first)
+check_kept(first)
+check_ahead(first)
 for seed, names in enumerate([["", "one"], ["one", "two", ""], ["a", "longer name: "], ["one"]], first):
     check_buffers(seed, names)
 print(f"{passed} of {passed + failed} things hold")

@@ -1,0 +1,491 @@
+#!/usr/bin/env python3
+"""Holds what from-perf and from-trace-cmd turn quickly against what they turn the slow way.
+
+    quickly.py TOOLS
+
+TOOLS is the folder of the scripts, of which it takes a copy and compiles what tools/build compiles. As root, it records this
+machine by perf and trace-cmd: with lost events, packed, with call chains, a single task, other events, odd names, and tasks
+that are renamed and end. Each recording gives the same bytes, the same words and the same status both ways. Words that tell
+the filter something wrong are noticed; what is written first is not written twice. What isn't here is not tried, and a line
+says so. The last line says how many of how many things hold."""
+
+import os
+import random
+import shutil
+import subprocess
+import sys
+import tempfile
+from typing import Any, Dict, List, NamedTuple, Tuple
+
+# Nothing is written beside the sources.
+sys.dont_write_bytecode = True
+
+TOOLS = os.path.realpath(sys.argv[1])
+sys.path.insert(0, TOOLS)
+
+import event_formats
+import turning_blocks
+from turning_told import Stop
+
+SCHED = [f"-esched:{name}" for name in event_formats.EVENTS]
+ROUNDS, LIMIT = 300, 100
+passed, failed = 0, 0
+
+
+def check(is_good: Any, what: str) -> None:
+    """Counts a thing that has to hold."""
+    global passed, failed
+    if is_good:
+        passed += 1
+    else:
+        failed += 1
+        print(what)
+
+
+# ---- formats
+
+STATES = '{ 0x0001, "S" }, { 0x0002, "D" }, { 0x0080, "I" }'
+OLD_STATES = '{ 1, "S"} , { 2, "D" }, { 64, "x" }'
+
+
+def field(words: str, at: int, size: int) -> str:
+    return f"\tfield:{words};\toffset:{at};\tsize:{size};\tsigned:1;\n"
+
+
+COMMON = field("unsigned short common_type", 0, 2) + field("int common_pid", 4, 4)
+
+
+def switch_format(state_size: int = 8, mask: str = "((0x1 | 0x2) << 1)", states: str = STATES) -> str:
+    """The format of a switch, as a kernel has it."""
+    at = 32 + state_size
+    fields = field("char prev_comm[16]", 8, 16) + field("pid_t prev_pid", 24, 4) + field("int prev_prio", 28, 4)
+    fields += field("long prev_state", 32, state_size) + field("char next_comm[16]", at, 16)
+    fields += field("pid_t next_pid", at + 16, 4) + field("int next_prio", at + 20, 4)
+    return (
+        f"name: sched_switch\nID: 300\nformat:\n{COMMON}\n{fields}\n"
+        'print fmt: "prev_comm=%s prev_pid=%d prev_prio=%d prev_state=%s%s ==> next_comm=%s next_pid=%d next_prio=%d", '
+        f"REC->prev_comm, REC->prev_pid, REC->prev_prio, REC->prev_state & {mask} ? __print_flags(REC->prev_state & {mask}, "
+        f'"|", {states}) : "R", REC->prev_state & 0x100 ? "+" : "", REC->next_comm, REC->next_pid, REC->next_prio\n'
+    )
+
+
+def waking_format(has_success: bool) -> str:
+    """The format of a waking; older kernels tell of success."""
+    fields = field("char comm[16]", 8, 16) + field("pid_t pid", 24, 4) + field("int prio", 28, 4) + field("int success", 32, 4)
+    text = event_formats.WAKING_TEXTS[has_success]
+    return f"name: sched_waking\nID: 301\nformat:\n{COMMON}\n{fields}{field('int target_cpu', 36, 4)}\nprint fmt: {text}\n"
+
+
+def tracing_data(*texts: str) -> bytes:
+    """A header of formats, as perf writes it."""
+
+    def sized(text: bytes) -> bytes:
+        return len(text).to_bytes(8, "little") + text
+
+    head = b"\x17\x08\x44tracing0.6\0\0\x08" + (4096).to_bytes(4, "little")
+    pages = b"header_page\0" + sized(b"page") + b"header_event\0" + sized(b"event")
+    events = b"".join(sized(text.encode()) for text in texts)
+    return head + pages + bytes(4) + (1).to_bytes(4, "little") + b"sched\0" + len(texts).to_bytes(4, "little") + events
+
+
+def words(*texts: str) -> List[str]:
+    return event_formats.words_of(event_formats.formats(tracing_data(*texts)))
+
+
+def is_unknown(*texts: str) -> bool:
+    try:
+        words(*texts)
+    except event_formats.Unknown:
+        return True
+    return False
+
+
+def check_formats() -> None:
+    """The formats of kernels old and new, and what is refused."""
+    told = words(switch_format(), waking_format(False))
+    wanted = ["sched_waking:301:40:0:8,24,28,36,-1", "sched_switch:300:64:8:8,24,28,32,40,56,60", "states:6:256:1=S,2=D,128=I"]
+    check(told == wanted, f"the words are {told}")
+    told = words(switch_format(4, "(128-1)", OLD_STATES), waking_format(True))
+    wanted = ["sched_waking:301:40:0:8,24,28,36,32", "sched_switch:300:60:4:8,24,28,32,36,52,56", "states:127:256:1=S,2=D,64=x"]
+    check(told == wanted, f"the words of an old kernel are {told}")
+    for mask in ("1 << 99", "1 << -1", "(1", "x1", "1 | REC->x", "0", "(" * 600 + "1" + ")" * 600, "-9"):
+        check(is_unknown(switch_format(8, mask)), f"a mask of {mask} is taken")
+    for states in ("", '{ 0x01, "SS" ', '{ 08, "S" }', '{ 0x1, "toolongname" }', '{ 0x1, "S=D" }'):
+        check(is_unknown(switch_format(8, "3", states)), f"states of {states} are taken")
+    check(is_unknown(switch_format(2)), "a state of two bytes is taken")
+    check(is_unknown(waking_format(False).replace("%03d", "%d")), "another text of a waking is taken")
+    check(
+        is_unknown(waking_format(False).replace("char comm[16]", "char comm[8]").replace("size:16", "size:8")), "a short name"
+    )
+    check(is_unknown("name: sched_process_exec\nID: 1\n"), "no event of the scheduler is taken")
+    content, torn = tracing_data(switch_format(), waking_format(False)), 0
+    for end in range(len(content)):
+        try:
+            event_formats.formats(content[:end])
+        except event_formats.Unknown:
+            torn += 1
+    check(torn == len(content), f"{len(content) - torn} of {len(content)} torn headers are taken")
+
+
+def check_headers(folder: str) -> None:
+    """Recordings whose header leads elsewhere."""
+    draw, path = random.Random(1), os.path.join(folder, "hostile.data")
+    head = [b"PERFILE2", (104).to_bytes(8, "little")] + [bytes(8)] * 11
+    told = 0
+    for _ in range(ROUNDS):
+        parts = [*head]
+        for _ in range(draw.randint(1, 6)):
+            parts[draw.randint(1, 12)] = draw.choice([0, 2, 3, 104, 1 << 31, 1 << 63, (1 << 64) - 1]).to_bytes(8, "little")
+        with open(path, "wb") as file:
+            file.write(b"".join(parts)[: draw.choice([8, 100, 104])] + draw.randbytes(draw.choice([0, 15, 400])))
+        try:
+            event_formats.formats(event_formats.tracing_data(path))
+        except event_formats.Unknown:
+            told += 1
+    check(told == ROUNDS, f"{ROUNDS - told} of {ROUNDS} false headers have formats")
+
+
+# ---- blocks
+
+
+def block(what: bytes, text: bytes = b"", lines: int = 0) -> bytes:
+    return turning_blocks.HEAD.pack(turning_blocks.MARK, what, len(text), lines, 0) + text
+
+
+def check_blocks() -> None:
+    """Blocks are whole, and there is a last one."""
+    import io
+
+    good = block(b"L", b"one\n", 1) + block(b"T", b"two\n") + block(b"E")
+    found = list(turning_blocks.blocks(io.BytesIO(good + b"three\n")))
+    check(
+        found == [(b"L", b"one\n", 1), (b"T", b"two\n", 0), (b"E", b"", 0), (b"T", b"three\n", 0), (b"E", b"", 0)], f"{found}"
+    )
+    bad = [good[:end] for end in range(len(good))] + [
+        b"a text of perf\n" * 9,
+        turning_blocks.HEAD.pack(b"\0hd", b"L", 1 << 31, 0, 0),
+    ]
+    refused = 0
+    for text in bad:
+        try:
+            list(turning_blocks.blocks(io.BytesIO(text)))
+        except turning_blocks.Unfit:
+            refused += 1
+    check(refused == len(bad), f"{len(bad) - refused} of {len(bad)} torn blocks are taken")
+    for text, is_same in ((b"abcdef", True), (b"abcXef", False), (b"ab", False)):
+        file = io.BytesIO()
+        sink = turning_blocks.Sink(file)
+        sink.write(b"ab")
+        sink.write(b"cd")
+        sink.begin_again()
+        try:
+            for at in range(len(text)):
+                sink.write(text[at : at + 1])
+            sink.check()
+            is_taken = True
+        except Stop:
+            is_taken = False
+        check(is_taken == is_same and (not is_same or file.getvalue() == text), f"{text} after abcd: {file.getvalue()}")
+
+
+# ---- recordings
+
+
+class Turned(NamedTuple):
+    """What a tool prints, says, and answers."""
+
+    trace: bytes
+    said: bytes
+    status: int
+
+
+def turned(tools: str, path: str, programs: str = "") -> Turned:
+    """What the converter in that folder makes of a recording; by the programs in the folder `programs`, where one is named."""
+    environ = {**os.environ, "PATH": f"{programs}:{os.environ['PATH']}" if programs else os.environ["PATH"]}
+    words = [sys.executable, os.path.join(tools, converter(path)), path]
+    ran = subprocess.run(words, capture_output=True, timeout=LIMIT, env=environ)
+    return Turned(ran.stdout, ran.stderr, ran.returncode)
+
+
+def converter(path: str) -> str:
+    """The script that turns a recording of that path."""
+    return "from-perf" if path.endswith(".data") else "from-trace-cmd"
+
+
+# Threads with names that mislead, which wake each other; a few end, and are replaced by others of another name.
+NAMES = r"""
+import os, threading
+names = [b"a\nb", b"x[3]", b"a ==> b", b"# no", b" lead", b"tail ", b"pid=7", b"\xe9\xff", b"q\"\\"]
+names += [b"fifteen bytes-1", b"-12 [003] x"]
+def work(name, mine, other):
+    open("/proc/thread-self/comm", "wb").write(name)
+    for _ in range(30):
+        os.read(mine, 1)
+        os.write(other, b"x")
+for _ in range(3):
+    pipes = [os.pipe() for _ in names]
+    ends = [(name, pipes[at][0], pipes[(at + 1) % len(names)][1]) for at, name in enumerate(names)]
+    threads = [threading.Thread(target=work, args=end) for end in ends]
+    for thread in threads:
+        thread.start()
+    os.write(pipes[0][1], b"x")
+    for thread in threads:
+        thread.join()
+"""
+EXEC = "for i in $(seq 60); do /bin/true & /bin/echo x >/dev/null; done; wait; exec /bin/true"
+
+
+def pipes(count: int) -> List[str]:
+    return ["perf", "bench", "sched", "pipe", "-l", str(count)]
+
+
+OTHERS = [
+    "-esched:sched_migrate_task",
+    "-eirq:irq_handler_entry",
+    "-ecycles",
+    "-etimer:timer_start",
+    "-esched:sched_process_exec",
+]
+RECORDINGS: Dict[str, List[str]] = {
+    "plain": ["-a", "-m", "4M", *SCHED, *pipes(20000)],
+    "lost": ["-a", "-m", "16", *SCHED, "perf", "bench", "sched", "messaging", "-l", "100"],
+    "packed": ["-a", "-z", "-m", "4M", *SCHED, *pipes(3000)],
+    "chains": ["-a", "-g", "-m", "4M", *SCHED, *pipes(2000)],
+    "one task": [*SCHED, *pipes(2000)],
+    "others": ["-a", "-m", "4M", *SCHED, *OTHERS, "bash", "-c", EXEC],
+    "few": ["-a", "-m", "4M", SCHED[0], *OTHERS[:2], *pipes(1000)],
+    "names": ["-a", "-m", "4M", *SCHED, sys.executable, "-c", NAMES],
+    "exec": ["-a", "-m", "4M", *SCHED, "bash", "-c", EXEC],
+}
+
+
+def record(folder: str) -> Dict[str, str]:
+    """The recordings that perf makes here, by what they are of."""
+    made = {}
+    for name, what in RECORDINGS.items():
+        path = os.path.join(folder, name.replace(" ", "-") + ".data")
+        ran = subprocess.run(["perf", "record", "-q", "-o", path, *what], capture_output=True, timeout=LIMIT)
+        if ran.returncode == 0:
+            made[name] = path
+        else:
+            print(f"not tried: {name}: {ran.stderr.decode(errors='replace').strip()[-200:]}")
+    return made
+
+
+def program(folder: str, name: str, text: str) -> str:
+    """A folder with a program of that name."""
+    os.makedirs(folder, exist_ok=True)
+    path = os.path.join(folder, name)
+    with open(path, "w", encoding="ascii") as file:
+        file.write(text)
+    os.chmod(path, 0o755)
+    return folder
+
+
+def copied(folder: str, name: str, tools: str = TOOLS, more: str = "") -> str:
+    """The tools once more, with what is compiled of them if these have it, and with more at the end of event_formats.py."""
+    copy = os.path.join(folder, name, "tools")
+    shutil.copytree(tools, copy, ignore=shutil.ignore_patterns("__pycache__", *(["out"] if tools == TOOLS else [])))
+    with open(os.path.join(copy, "event_formats.py"), "a", encoding="ascii") as file:
+        file.write(more)
+    return copy
+
+
+def built(folder: str) -> str:
+    """The tools once more, with what is compiled of them."""
+    tools = copied(folder, "quick")
+    script = f"root={os.path.dirname(tools)}; . {tools}/build_helpers.sh; build_helpers"
+    ran = subprocess.run(["bash", "-euc", script], capture_output=True, timeout=LIMIT)
+    check(ran.returncode == 0 and not ran.stderr, f"compiling: status {ran.returncode}, {ran.stderr.decode()}")
+    return tools
+
+
+def check_recordings(folder: str, made: Dict[str, str], slow: str, quick: str) -> None:
+    """Both ways give the same, and the quick one is taken."""
+    calls = os.path.join(folder, "calls")
+    watch = f'#!/bin/bash\necho "$*" >>{calls}\nexec {shutil.which("perf")} "$@"\n'
+    watched = program(os.path.join(folder, "watched"), "perf", watch)
+    for name, path in made.items():
+        wanted, found = turned(slow, path), turned(quick, path, watched)
+        with open(calls, encoding="ascii") as file:
+            told = file.read().splitlines()
+        os.remove(calls)
+        is_same = found == wanted and len(wanted.trace) > 0
+        check(is_same, f"{name}: {len(wanted.trace)} bytes the slow way, {len(found.trace)} quickly: {found.said[-300:]!r}")
+        check(len(told) == 1 and "--dlfilter" in told[0], f"{name}: not turned quickly: {told}")
+        check(name != "lost" or b" EVENTS]" in found.trace, "no events were lost")
+        check(name != "names" or b"would mislead" in found.said, f"no names are odd: {found.said!r}")
+
+
+# ---- recordings of trace-cmd
+
+# A kernel may lack files that trace-cmd writes to: plain ones stand for them, in a mount namespace of its own.
+STAND_INS = """
+cd -- "$0"
+echo 1 >one
+mount --bind one /proc/sys/kernel/ftrace_enabled
+for name in set_{ftrace_filter,ftrace_notrace,graph_function,graph_notrace,ftrace_pid,ftrace_notrace_pid} set_event_{,no}pid; do
+    file=/sys/kernel/tracing/$name
+    [[ ! -e $file ]] || { : >"$name" && mount --bind "$name" "$file"; }
+done
+exec trace-cmd record "$@"
+"""
+EVENTS = [word for name in event_formats.EVENTS for word in ("-e", name)]
+OTHER_EVENTS = ["-e", "irq", "-e", "timer_start", "-e", "sched_migrate_task"]
+# What each is of, and whether it is turned quickly.
+BY_TRACE_CMD: Dict[str, Tuple[List[str], bool]] = {
+    "plain": (["-b", "8192", *EVENTS, *pipes(20000)], True),
+    "lost": (["-b", "8", *EVENTS, "perf", "bench", "sched", "messaging", "-l", "100"], True),
+    "others": (["-b", "8192", *EVENTS, *OTHER_EVENTS, "bash", "-c", EXEC], True),
+    "names": (["-b", "8192", *EVENTS, sys.executable, "-c", NAMES], True),
+    "few": (["-b", "8192", "-e", "sched_waking", *pipes(1000)], True),
+    "no events": (["-b", "8192", "-e", "block_rq_issue", "/bin/true"], True),
+    "buffers": (["-b", "8192", *EVENTS, "-B", "one", *EVENTS, *pipes(1000)], False),
+}
+
+
+def record_by_trace_cmd(folder: str) -> Dict[str, str]:
+    """The recordings that trace-cmd makes here."""
+    made = {}
+    for name, (what, _) in BY_TRACE_CMD.items():
+        path = os.path.join(folder, name.replace(" ", "-") + ".dat")
+        command = ["unshare", "-m", "bash", "-c", STAND_INS, folder, "-o", path, *what]
+        ran = subprocess.run(command, capture_output=True, timeout=LIMIT)
+        if ran.returncode == 0 and os.path.exists(path):
+            made[name] = path
+        else:
+            print(f"not tried: {name}, by trace-cmd: {ran.stderr.decode(errors='replace').strip()[-200:]}")
+    return made
+
+
+def check_trace_cmd(folder: str, made: Dict[str, str], slow: str, quick: str) -> None:
+    """Both ways give the same, and the quick one is taken where it is to be."""
+    ended = os.path.join(folder, "ended")
+    real = os.path.join(quick, "out", "trace_cmd_lines")
+    watched = copied(folder, "watched-trace-cmd", quick)
+    text = f'#!/bin/bash\n{real} "$@"\nstatus=$?\necho $status >{ended}\nexit $status\n'
+    program(os.path.join(watched, "out"), "trace_cmd_lines", text)
+    for name, path in made.items():
+        wanted, found = turned(slow, path), turned(watched, path)
+        with open(ended, encoding="ascii") as file:
+            is_quick = file.read() == "0\n"
+        is_same = found == wanted and len(wanted.trace + wanted.said) > 0
+        check(is_same, f"{name}.dat: {len(wanted.trace)} bytes the slow way, {len(found.trace)} quickly: {found.said[-300:]!r}")
+        check(is_quick == BY_TRACE_CMD[name][1], f"{name}.dat: {'' if is_quick else 'not '}turned quickly")
+        check(name != "lost" or b" EVENTS]" in found.trace, "no events were lost")
+        check(name != "names" or b"would mislead" in found.said, f"no names are odd: {found.said!r}")
+
+
+def check_false(folder: str, path: str, slow: str, quick: str) -> None:
+    """Programs that stand for trace_cmd_lines, and one for a trace-cmd of other columns."""
+    wanted = turned(slow, path)
+    lines = wanted.trace.split(b"\n")
+    first = b"\n".join(lines[1:2000]) + b"\n"
+    for name, text in {
+        "false": block(b"L", first.replace(b"pid=", b"pid=1"), 1999) + block(b"E"),
+        "too short": block(b"L", first[: first.find(b"\n") + 1], 1) + block(b"E"),
+        "torn": block(b"L", first, 1999) + b"torn",
+        "nothing": b"",
+    }.items():
+        tools = copied(folder, f"false {name}", quick)
+        with open(os.path.join(tools, "text"), "wb") as file:
+            file.write(text)
+        program(os.path.join(tools, "out"), "trace_cmd_lines", f"#!/bin/bash\nexec cat '{tools}/text'\n")
+        found = turned(tools, path)
+        check(found == wanted, f"lines, {name}: {len(found.trace)} of {len(wanted.trace)} bytes: {found.said[:200]!r}")
+    script = f"#!/bin/bash\n{shutil.which('trace-cmd')} \"$@\" | sed -E 's/(\\[[0-9]+\\])/\\1 d..2./'\n"
+    columns = program(os.path.join(folder, "other-columns"), "trace-cmd", script)
+    wanted, found = turned(slow, path, columns), turned(quick, path, columns)
+    check(found == wanted and b" d..2. " in found.trace, f"other columns: {len(found.trace)} bytes, {found.said[:200]!r}")
+
+
+# ---- what is wrong on purpose
+
+# Each changes what the filter is told. The last one is right in all but a text of a state.
+PLANTED = {
+    "a field elsewhere": 'old = kind_word\ndef kind_word(*a): return old(*a).replace(":8,24,28,", ":8,28,24,")\n',
+    "a field outside": 'old = kind_word\ndef kind_word(*a): return old(*a).replace(":8,24,", ":8,4000,")\n',
+    "another number": 'old = kind_word\ndef kind_word(*a): return old(*a).replace(":36:", ":40:")\n',
+    "another state": 'old = states_word\ndef states_word(*a): return old(*a).replace("1=S", "1=D")\n',
+    "no plus": 'old = states_word\ndef states_word(*a): return old(*a).replace(":256:", ":4096:")\n',
+    "no word": 'old = kind_word\ndef kind_word(*a): return "x"\n',
+    "many bits": 'old = states_word\ndef states_word(*a): return old(*a) + ",1=S" * 99\n',
+    "a long text": 'old = states_word\ndef states_word(*a): return old(*a) + ",512=" + "S" * 99\n',
+    "an error": "def kind_word(*a): raise Unknown\n",
+}
+
+
+def check_planted(folder: str, path: str, slow: str, quick: str) -> None:
+    """What the filter is told wrongly is noticed."""
+    wanted = turned(slow, path)
+    for name, more in PLANTED.items():
+        found = turned(copied(folder, f"planted {name}", quick, more), path)
+        check(
+            found == wanted,
+            f"{name}: {len(found.trace)} of {len(wanted.trace)} bytes, status {found.status}: {found.said[:200]!r}",
+        )
+
+
+def check_stand_ins(folder: str, path: str, slow: str, quick: str) -> None:
+    """A perf without filters, one that prints a text all the same, one that fails late, and one that writes what isn't so."""
+    wanted, real = turned(slow, path), shutil.which("perf")
+    lines = wanted.trace.split(b"\n")
+    first = b"\n".join(lines[:100]) + b"\n"
+    with open(os.path.join(folder, "late"), "wb") as file:
+        file.write(block(b"L", first, 100) + b"torn")
+    with open(os.path.join(folder, "false"), "wb") as file:
+        file.write(block(b"L", first.replace(b"pid=", b"pid=1"), 100) + block(b"A", b"a line\n", 1) + block(b"E"))
+    front = f'#!/bin/bash\nif [[ $* != *--dlfilter* ]]; then exec {real} "$@"; fi\n'
+    for name, text in {
+        "no filters": "echo 'Error: unknown option dlfilter' >&2; exit 129",
+        "text": "echo '    a 1 [000] 1.000000: x:'",
+        "nothing": "exit 0",
+        "late": f"cat {folder}/late; exit 0",
+        "ended": f"cat {folder}/late; kill -9 $$",
+    }.items():
+        found = turned(quick, path, program(os.path.join(folder, f"stand-in {name}"), "perf", front + text + "\n"))
+        check(found == wanted, f"perf, {name}: {len(found.trace)} of {len(wanted.trace)} bytes: {found.said[:200]!r}")
+    found = turned(quick, path, program(os.path.join(folder, "stand-in false"), "perf", f"{front}cat {folder}/false\n"))
+    check(found.status == 1 and b"take it away" in found.said and len(found.trace) < 20000, f"false lines: {found.said!r}")
+
+
+def check_closed(path: str, tools: str) -> None:
+    """Where nobody reads on, it ends, and says nothing."""
+    tool = subprocess.Popen([os.path.join(tools, converter(path)), path], stdout=subprocess.PIPE, stderr=subprocess.PIPE)
+    tool.stdout.read(1)
+    tool.stdout.close()
+    said = tool.stderr.read()
+    check(tool.wait(LIMIT) == 1 and not said, f"a closed pipe: status {tool.returncode}, {said!r}")
+
+
+def main() -> None:
+    with tempfile.TemporaryDirectory() as folder:
+        check_formats()
+        check_headers(folder)
+        check_blocks()
+        if os.getuid() != 0 or not shutil.which("perf"):
+            print("not tried: recordings: no perf, whose benchmarks are recorded, or not root")
+            return
+        slow, quick = copied(folder, "slow"), built(folder)
+        if os.path.exists(os.path.join(quick, "out", "perf_filter.so")):
+            made = record(folder)
+            check_recordings(folder, made, slow, quick)
+            if "plain" in made:
+                check_planted(folder, made["plain"], slow, quick)
+                check_stand_ins(folder, made["plain"], slow, quick)
+                check_closed(made["plain"], quick)
+        else:
+            print("not tried: recordings of perf: the filter can't be compiled")
+        if os.path.exists(os.path.join(quick, "out", "trace_cmd_lines")) and shutil.which("trace-cmd"):
+            made = record_by_trace_cmd(folder)
+            check_trace_cmd(folder, made, slow, quick)
+            if "plain" in made:
+                check_false(folder, made["plain"], slow, quick)
+                check_closed(made["plain"], quick)
+        else:
+            print("not tried: recordings of trace-cmd: no trace-cmd, or its libraries' headers are missing")
+
+
+main()
+print(f"{passed} of {passed + failed} things hold")
+sys.exit(failed > 0)

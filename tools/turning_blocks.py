@@ -1,0 +1,220 @@
+"""The quick way from a recording to its lines. A program that reads the recording, perf with perf_filter.so or trace_cmd_lines,
+turns plain events itself and writes blocks (event_lines.h): turned lines, and what the tool prints of other events, which is
+turned as always. Some lines are made both ways and compared. If anything is not as it should be, the recording is turned the
+slow way, and what was written already is compared with that."""
+
+import collections
+import copy
+import fcntl
+import struct
+import subprocess
+import tempfile
+import zlib
+
+from turning_told import Stop
+
+HEAD = struct.Struct("<3scIII")
+MARK = b"\0hd"
+LINES, AWAITED, TOLD, END = b"L", b"A", b"T", b"E"
+# So many bytes has the pipe from a tool, by Linux's number of the call that asks for its room: Python has it since 3.10.
+PIPE, SET_PIPE_ROOM = 1 << 20, 1031
+# No block is larger.
+MOST = 1 << 24
+# So many bytes of turned lines are kept, in which the lines before an event are looked for.
+KEPT = 1 << 20
+# So many bytes of what a tool prints first are compared.
+FRONT = 1 << 16
+
+
+def widen(pipe):
+    """Gives a pipe more room, where the system lets it have some."""
+    try:
+        fcntl.fcntl(pipe, SET_PIPE_ROOM, PIPE)
+    except OSError:
+        pass
+
+
+class Unfit(Exception):
+    """The recording can't be turned the quick way: why."""
+
+
+class Sink:
+    """A file that is written once. What is written once more is compared with what it has."""
+
+    def __init__(self, file):
+        self.file = file
+        self.size, self.sum = 0, 0
+        # So many bytes are still to be compared, the sum of those that were, and what it is to be.
+        self.left, self.again, self.wanted = 0, 0, 0
+
+    def write(self, text):
+        """Writes a text at once, except for what is there already. Raises `Stop` where something else is there."""
+        if self.left:
+            part = text[: self.left]
+            self.again = zlib.crc32(part, self.again)
+            self.left -= len(part)
+            if not self.left:
+                self.check()
+            text = text[len(part) :]
+        self.size += len(text)
+        self.sum = zlib.crc32(text, self.sum)
+        self.file.write(text)
+        self.file.flush()
+
+    def begin_again(self):
+        """From now on all is written once more."""
+        self.left, self.again, self.wanted = self.size, 0, self.sum
+
+    def check(self):
+        """Raises `Stop` where what was written is not what was written once more."""
+        if self.left or self.again != self.wanted:
+            raise Stop("what was written first is not what the tool prints; take it away, and try again")
+
+
+class First:
+    """A sink that is given what it must begin with. Nothing goes on before that is compared."""
+
+    def __init__(self, sink, wanted):
+        self.sink, self.wanted, self.held = sink, wanted, b""
+
+    def write(self, text):
+        """Writes a text. Raises `Unfit` where it begins otherwise."""
+        self.held += text
+        if len(self.held) >= len(self.wanted):
+            self.check()
+            self.sink.write(self.held)
+            self.wanted, self.held = b"", b""
+
+    def check(self):
+        """Raises `Unfit` where it has begun otherwise, or ended too early."""
+        if not self.held.startswith(self.wanted):
+            raise Unfit("the tool prints other lines first")
+
+
+class Before:
+    """The lines of the last blocks, backwards; they are cut only when they are looked at."""
+
+    def __init__(self, blocks):
+        self.blocks = blocks
+
+    def __reversed__(self):
+        for block in reversed(self.blocks):
+            yield from reversed(block.split(b"\n"))
+
+
+class Taker:
+    """Takes blocks, and writes what they hold. `turner` turns what the tool printed."""
+
+    def __init__(self, turner, sink):
+        self.turner, self.sink = turner, sink
+        self.awaited, self.printed = None, []
+        self.blocks, self.size = collections.deque(), 0
+        self.is_empty = True
+
+    def take(self, what, text, lines):
+        """Takes a block. Raises `Unfit`."""
+        if what == TOLD:
+            self.printed.append(text)
+            return
+        self.settle()
+        if what == AWAITED:
+            self.awaited = text
+        elif what == LINES and text:
+            self.turner.number += lines
+            self.turner.told.has_turned = True
+            self.write(text)
+
+    def settle(self):
+        """Turns what the tool has printed, and compares it with what was awaited."""
+        text, awaited = b"".join(self.printed), self.awaited
+        self.printed, self.awaited = [], None
+        if not text and awaited is None:
+            return
+        self.turner.before = Before(self.blocks)
+        turned, rest = self.turner.turn(self.turner.form.prepared(text), True)
+        if rest or not text.endswith(b"\n") or not turned.startswith(awaited or b""):
+            raise Unfit(f"{awaited} stands for {text}")
+        self.write(turned)
+
+    def write(self, text):
+        """Writes turned lines, and keeps them for a while."""
+        self.is_empty = False
+        self.sink.write(text)
+        self.blocks.append(text)
+        self.size += len(text)
+        while self.size - len(self.blocks[0]) > KEPT:
+            self.size -= len(self.blocks.popleft())
+
+
+def blocks(file):
+    """The blocks of an open file: what each is, its text, and how many lines it stands for. Raises `Unfit`."""
+    what = None
+    while what != END:
+        head = file.read(HEAD.size)
+        if len(head) < HEAD.size or head[:3] != MARK:
+            raise Unfit("no block")
+        _, what, length, lines, _ = HEAD.unpack(head)
+        text = file.read(length) if length <= MOST else b""
+        if len(text) < length:
+            raise Unfit("a block ends too early")
+        yield what, text, lines
+    # What the tool prints at its end.
+    rest = file.read()
+    if rest:
+        yield TOLD, rest, 0
+    yield END, b"", 0
+
+
+def front_of(command):
+    """What a command prints first, in whole lines. Raises `Unfit` where it says something beside that."""
+    with tempfile.TemporaryFile() as said:
+        try:
+            with subprocess.Popen(command, stdin=subprocess.DEVNULL, stdout=subprocess.PIPE, stderr=said) as tool:
+                text = tool.stdout.read(FRONT)
+                tool.kill()
+        except OSError as error:
+            raise Unfit(f"{command[0]}: {error.strerror}") from None
+        if said.seek(0, 2):
+            raise Unfit(f"{command[0]} says something")
+    return text[: text.rfind(b"\n") + 1]
+
+
+def begin(turner, command, sink):
+    """What takes the blocks after what the tool's own command prints first, with which they are compared. Raises `Unfit`."""
+    text = front_of(command)
+    form, told = copy.deepcopy((turner.form, turner.told))
+    turned, _ = type(turner)(form, told).turn(form.prepared(text), False)
+    # This form knows the columns, too.
+    turner.form.prepared(text)
+    if turner.form.holds_back:
+        raise Unfit("several buffers")
+    taker = Taker(turner, First(sink, turned))
+    taker.take(TOLD, turner.form.head_of(text), 0)
+    return taker
+
+
+def turned_quickly(turner, command, path, sink):
+    """Turns a recording by a command that writes blocks; what it said. Raises `Unfit`."""
+    form = turner.form
+    with tempfile.TemporaryFile() as said:
+        try:
+            tool = subprocess.Popen(command, stdin=subprocess.DEVNULL, stdout=subprocess.PIPE, stderr=said, bufsize=1 << 18)
+        except OSError as error:
+            raise Unfit(f"{command[0]}: {error.strerror}") from None
+        try:
+            widen(tool.stdout)
+            taker = begin(turner, [*form.command, path], sink) if form.is_apart else Taker(turner, sink)
+            for block in blocks(tool.stdout):
+                taker.take(*block)
+            taker.sink.check()
+            if tool.wait() != 0 or taker.is_empty or form.is_apart and said.seek(0, 2):
+                raise Unfit(f"{command[0]} failed")
+        finally:
+            tool.kill()
+            tool.stdout.close()
+            tool.wait()
+        said.seek(0)
+        heard = [form.heard(line.strip(), path) for line in said]
+    form.check_end(turner.told.path)
+    turner.told.finish()
+    return [text for text in heard if text]
