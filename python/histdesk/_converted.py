@@ -2,13 +2,17 @@
 
 from __future__ import annotations
 
+import contextlib
+import fcntl
 import os
 import subprocess
 import sys
-from typing import Any, Dict, Optional
+from typing import Any, Dict, List, Optional
 
 from ._kinds import FRONT_ROOM, kinds_of
 
+# Linux's number of the call that asks for a pipe's room.
+PIPE_ROOM = 1031
 # The memory files that hold texts, by the path of the recording.
 texts: Dict[str, int] = {}
 
@@ -18,8 +22,8 @@ class NotConverted(Exception):
 
 
 def converter_of(path: str) -> Optional[str]:
-    """The program that makes a trace of the file of that path; None if it is a trace, no regular file, or there is no such
-    program beside this tool."""
+    """The script that makes a trace of the file of that path; None if it is a trace, no regular file, or there is no such
+    script beside this tool."""
     if not os.path.isfile(path):
         return None
     with open(path, "rb", buffering=0) as file:
@@ -36,12 +40,23 @@ def text_of(path: str, converter: str) -> str:
     Raises `NotConverted` if there is none, and `OSError` if the converter can't be run."""
     if path not in texts:
         file = os.memfd_create("histdesk")
-        ended = subprocess.run([converter, path], stdin=subprocess.DEVNULL, stdout=file, check=False)
+        ended = subprocess.run(words(converter, path), stdin=subprocess.DEVNULL, stdout=file, check=False)
         # It ends so if it has left lines out, too.
         if ended.returncode and not os.fstat(file).st_size:
             raise NotConverted(path)
         texts[path] = file
     return f"/proc/self/fd/{texts[path]}"
+
+
+def words(converter: str, path: str) -> List[str]:
+    """The command that has the script convert the file of that path, by the Python that runs here."""
+    return [sys.executable, *["-B"] * sys.dont_write_bytecode, converter, path]
+
+
+def widen(pipe: Any) -> None:
+    """Gives a pipe room for many lines, if the system lets it have that."""
+    with contextlib.suppress(OSError):
+        fcntl.fcntl(pipe, PIPE_ROOM, 1 << 20)
 
 
 class Piped:
@@ -50,8 +65,9 @@ class Piped:
     def __init__(self, path: str, converter: str) -> None:
         """Raises `OSError` if the converter can't be run."""
         self._path = path
-        self._process = subprocess.Popen([converter, path], stdin=subprocess.DEVNULL, stdout=subprocess.PIPE)
+        self._process = subprocess.Popen(words(converter, path), stdin=subprocess.DEVNULL, stdout=subprocess.PIPE)
         self._has_text = False
+        widen(self._process.stdout)
 
     def read(self, size: int) -> Any:
         """The next bytes, at most so many. Raises `NotConverted` if there are none at all."""
