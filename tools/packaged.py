@@ -39,7 +39,7 @@ def check(tool: str) -> None:
     try:
         package = importlib.import_module("histdesk")
         if not {"-h", "--help"} & {*sys.argv[1:]}:
-            package._library.library.histdesk_new  # pylint: disable=pointless-statement
+            package._library.library.load()
     except ImportError as error:
         print(f"{tool}: {error}", file=sys.stderr)
         sys.exit(2)

@@ -120,13 +120,17 @@ class Library:
         """How ctypes has it."""
         self._kind = kind
 
-    def __getattr__(self, name: str) -> Any:
-        if name.startswith("__"):
-            raise AttributeError(name)
+    def load(self) -> None:
+        """Loads it now."""
         loaded = bound(self._opened(found()))
         # They are found here from now on.
         self.__dict__.update((known, getattr(loaded, known)) for known in ("_name", *CALLS, *REFUSAL_CALLS))
-        return getattr(loaded, name)
+
+    def __getattr__(self, name: str) -> Any:
+        if name in ("_name", *CALLS, *REFUSAL_CALLS) and name not in self.__dict__:
+            self.load()
+            return self.__dict__[name]
+        raise AttributeError(name)
 
     def _opened(self, path: str) -> Any:
         """The library at that path."""
