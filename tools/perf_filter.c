@@ -6,12 +6,12 @@
  * compares them. Each --dlarg tells where fields are:
  *
  *   NAME:ID:SIZE:STATE_SIZE:OFFSET,..   of a kind of event, in the order of event_lines.h
- *   states:MASK:PLUS:BIT=TEXT,..        how the kernel's format prints a state */
+ *   states:MASK:PLUS:BIT=TEXT,..        how the kernel's format prints a state
+ *   memory:FILE:PIPE                    open files for memory and for what is free of it */
 #define _GNU_SOURCE
 #include <perf/perf_dlfilter.h>
 #include <stdio.h>
 #include <stdio_ext.h>
-#include <sys/mman.h>
 
 #include "event_lines.h"
 
@@ -320,6 +320,8 @@ static bool take_word(char *text)
 
     if (!text)
         return false;
+    if (strcmp(name, "memory") == 0)
+        return take_memory(text);
     if (strcmp(name, "states") == 0)
         return take_states(text);
     for (int which = 0; which < KINDS; which++)
