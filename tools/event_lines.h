@@ -27,8 +27,8 @@ enum { NAME_SIZE = 16, LONGEST_TASK = 30 };
 enum { LINE_ROOM = 512, BLOCK_SIZE = 1 << 18 };
 /* Blocks are written into so many pieces of memory, in turn. What is shorter than so many bytes goes with its head. */
 enum { PIECES = 32, PIECE_ROOM = BLOCK_SIZE + LINE_ROOM, SHORT = 1 << 14 };
-/* Greater numbers are left to the tool. */
-enum { NUMBER_LIMIT = 1000000000 };
+/* Greater numbers, and CPUs from this one on, are left to the tool: the desk may not read them. */
+enum { NUMBER_LIMIT = 1000000000, CPU_LIMIT = 8000 };
 
 /* A kind of event as a recording has it: the offset of each field, or -1. */
 struct kind {

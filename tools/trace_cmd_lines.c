@@ -113,7 +113,7 @@ static char *put_front(char *to, struct tep_record *record, int cpu, int which)
     int pid = tep_data_pid(tep, record);
     char stamp[32], *end = put_stamp(stamp, record->ts), *from;
 
-    if (pid < 0 || record->ts <= NANOS || !end)
+    if (pid < 0 || cpu >= CPU_LIMIT || record->ts <= NANOS || !end)
         return NULL;
     to = put_task(to, tep_data_comm_from_pid(tep, pid));
     if (!to)
