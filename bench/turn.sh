@@ -1,17 +1,94 @@
 #!/usr/bin/env bash
-# turn.sh [RECORDING]..: times from-perf and from-trace-cmd over recordings, beside what perf and trace-cmd take to print the
-# same ones. Without a word it makes one by each of them first, as root, of a machine that two benchmarks of perf keep busy.
+# turn.sh [RECORDING]..: times what makes a text of what was recorded: tools/record beside `cat` of the same trace, from-perf
+# beside `perf script`, from-trace-cmd beside `trace-cmd report`, and these two also without what tools/build compiles for them.
+# Without a word it records first, as root, a machine that two benchmarks of perf keep busy, by tracefs and by both tools.
+#
+# The commands over one recording run in turn, seven times or as often as TIMES says, and write into files. It prints for each
+# the least time by the clock, the least time of processors, and the ratio of the first to that of the command beside it. The
+# words of FRONT stand before each: FRONT='chrt -r 1' on a machine that others keep busy.
 # shellcheck source-path=SCRIPTDIR
 set -euo pipefail
 
 here=$(dirname -- "$(realpath -- "${BASH_SOURCE[0]}")")
+TIMES=${TIMES:-7}
 . "$here/common.sh"
 . "$here/recordings.sh"
 tools=$(realpath -- "$here/../tools")
 events=(sched_waking sched_wakeup sched_wakeup_new sched_switch)
+tracefs=/sys/kernel/tracing
+instance=
+recordings=("$@")
+names=()
+commands=()
 
-# Sets `recordings` to one by each of the tools.
-record_both() {
+take_back() {
+    [[ -z $instance ]] || rmdir -- "$instance"
+    rm -rf -- "$folder"
+}
+
+# row WHAT COMMAND..: a command to be timed; the first one is what the others stand beside.
+row() {
+    names+=("$1")
+    commands+=("$(printf '%q ' "${@:2}")")
+}
+
+# Runs the commands in turn, and prints what each took.
+measure() {
+    local run at first
+    for ((run = 0; run < times; run++)); do
+        for at in "${!names[@]}"; do
+            /usr/bin/time -a -f '%e %U %S' -o "$folder/took.$at" bash -c "exec ${FRONT-} ${commands[at]}" >"$folder/out" 2>"$folder/err"
+        done
+    done
+    first=$(cut -d ' ' -f 1 "$folder/took.0" | sort -n | head -n 1)
+    for at in "${!names[@]}"; do
+        awk -v name="${names[at]}" -v first="$first" '
+            NR == 1 || $1 < clock { clock = $1 }
+            NR == 1 || $2 + $3 < own { own = $2 + $3 }
+            END { printf "%-44s %9.2f %12.2f %6.2f\n", name, clock, own, clock / first }' "$folder/took.$at"
+    done
+    rm -f -- "$folder"/took.*
+    names=()
+    commands=()
+}
+
+# tell WHAT EVENTS: what is measured next.
+tell() {
+    printf '\n%s: %d events; the least of %s runs in turn\n\n%-44s %9s %12s %6s\n' "$1" "$2" "$times" command 'clock, s' \
+        'processor, s' ratio
+}
+
+# The trace of an instance of tracefs, which stays while it is read again and again.
+measure_record() {
+    local event
+    instance=$tracefs/instances/histdesk.$$
+    mkdir -- "$instance"
+    echo 131072 >"$instance/buffer_size_kb"
+    for event in "${events[@]}"; do
+        echo 1 >"$instance/events/sched/$event/enable"
+    done
+    bash -c 'perf bench sched messaging -l 1800; perf bench sched pipe -l 200000' >"$folder/out"
+    echo 0 >"$instance/tracing_on"
+    tell 'tools/record' "$(cat -- "$instance"/per_cpu/cpu*/stats | awk '/^entries:/ { all += $2 } END { print all }')"
+    row "cat $tracefs/instances/NAME/trace" cat -- "$instance/trace"
+    row 'what tools/record writes it by' python3 "$tools/kernel_text.py" record "$instance/trace"
+    measure
+}
+
+# measure_turned SCRIPT RECORDING COMMAND..: a converter beside this command.
+measure_turned() {
+    tell "$1" "$("$tools/$1" "$2" 2>"$folder/err" | grep -vc '^#')"
+    row "${*:3:2}" "${@:3}"
+    row "tools/$1" "$tools/$1" "$2"
+    row "tools/$1, nothing compiled" "$folder/slow/$1" "$2"
+    measure
+}
+
+trap take_back EXIT
+cp -r -- "$tools" "$folder/slow"
+rm -rf -- "$folder/slow/out"
+if (($# == 0)); then
+    measure_record
     record_by_perf "$folder/perf.data" "${events[@]}"
     recordings+=("$folder/perf.data")
     if trace-cmd record -b 65536 -o "$folder/trace.dat" "${events[@]/#/-e}" bash -c "$busy" >"$folder/out" 2>&1; then
@@ -19,38 +96,11 @@ record_both() {
     else
         echo "not tried: trace-cmd could not record: $(tail -n 1 "$folder/out")"
     fi
-}
-
-# What a command prints is left out.
-quietly() {
-    "$@" >/dev/null 2>"$folder/err"
-}
-
-# measure SCRIPT RECORDING COMMAND..: the script beside this command, in turn, so that what else the machine does hits both.
-measure() {
-    local turns=("$tools/$1" "$2") print=("${@:3}") turned run
-    turned=$("${turns[@]}" | grep -vc '^#')
-    : >"$folder/own"
-    : >"$folder/ours"
-    for ((run = 0; run < times; run++)); do
-        took quietly "${print[@]}" >>"$folder/own"
-        took quietly "${turns[@]}" >>"$folder/ours"
-    done
-    awk -v name="$1" -v tool="${print[0]}" -v events="$turned" -v own="$(least_number <"$folder/own")" \
-        -v ours="$(least_number <"$folder/ours")" 'BEGIN {
-        printf "%-14s %8d events: %s prints them in %.2f s, turned in %.2f s: %.2f times\n", name, events, tool, own / 1e9,
-            ours / 1e9, ours / own
-    }'
-}
-
-recordings=("$@")
-if (($# == 0)); then
-    record_both
 fi
 for recording in "${recordings[@]}"; do
     if is_by_perf "$recording"; then
-        measure from-perf "$recording" perf script --ns -F comm,tid,cpu,time,event,trace -i "$recording"
+        measure_turned from-perf "$recording" perf script --ns -F comm,tid,cpu,time,event,trace -i "$recording"
     else
-        measure from-trace-cmd "$recording" trace-cmd report -N -t -i "$recording"
+        measure_turned from-trace-cmd "$recording" trace-cmd report -N -t -i "$recording"
     fi
 done

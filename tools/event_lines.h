@@ -10,6 +10,8 @@
 #include <stdint.h>
 #include <stdlib.h>
 #include <string.h>
+#include <sys/mman.h>
+#include <sys/stat.h>
 #include <unistd.h>
 
 enum { WAKING, WAKEUP, WAKEUP_NEW, SWITCH, KINDS };
@@ -23,8 +25,10 @@ static const char *const kind_names[KINDS] = {"sched_waking", "sched_wakeup", "s
 enum { NAME_SIZE = 16, LONGEST_TASK = 30 };
 /* No line is longer, and so many bytes go into a block before it is written. */
 enum { LINE_ROOM = 512, BLOCK_SIZE = 1 << 18 };
-/* Greater numbers are left to the tool. */
-enum { NUMBER_LIMIT = 1000000000 };
+/* Blocks are written into so many pieces of memory, in turn. What is shorter than so many bytes goes with its head. */
+enum { PIECES = 32, PIECE_ROOM = BLOCK_SIZE + LINE_ROOM, SHORT = 1 << 14 };
+/* Greater numbers, and CPUs from this one on, are left to the tool: the desk may not read them. */
+enum { NUMBER_LIMIT = 1000000000, CPU_LIMIT = 8000 };
 
 /* A kind of event as a recording has it: the offset of each field, or -1. */
 struct kind {
@@ -221,10 +225,12 @@ static inline bool fits(const struct kind *kind, bool is_switch)
     return !is_switch || kind->state_size == 4 || kind->state_size == 8;
 }
 
-/* ---- Blocks: a head of 16 bytes, and so many bytes of text. */
+/* ---- Blocks: a head of 16 bytes, and so many bytes of text. Long text is in the next piece of memory that the reader has
+ * mapped too, if there is any; a pipe has a byte for each piece that is free again. */
 
 enum {
     LINES = 'L',   /* turned lines */
+    MAPPED = 'M',  /* turned lines, in the next piece of memory */
     AWAITED = 'A', /* the turned line of the event that the tool prints next */
     TOLD = 'T',    /* what the tool itself printed */
     END = 'E',     /* all is written */
@@ -237,8 +243,12 @@ struct head {
 
 static int blocks_to = -1;
 static bool is_broken;
-static char block[BLOCK_SIZE + LINE_ROOM];
+static char own_block[PIECE_ROOM], *block = own_block;
 static size_t block_used;
+/* The memory, what says that pieces are free, the piece that is written into, and how many aren't free. */
+static char *memory;
+static int freed_by = -1;
+static unsigned piece, taken;
 static uint32_t block_lines;
 
 static inline void write_all(const char *from, size_t length)
@@ -263,11 +273,50 @@ static inline void write_block(char what, const char *from, size_t length, uint3
     write_all(from, length);
 }
 
+/* Takes memory by a word FILE:PIPE, two numbers of open files. */
+static inline bool take_memory(const char *word)
+{
+    char *end;
+    long file = strtol(word, &end, 10);
+    struct stat told;
+
+    if (*end != ':' || fstat((int)file, &told) != 0 || told.st_size < PIECES * PIECE_ROOM)
+        return false;
+    freed_by = (int)strtol(end + 1, NULL, 10);
+    memory = mmap(NULL, PIECES * PIECE_ROOM, PROT_READ | PROT_WRITE, MAP_SHARED, (int)file, 0);
+    block = memory;
+    return memory != MAP_FAILED;
+}
+
+/* Goes on to the next piece of memory, once it is free. */
+static inline void next_piece(void)
+{
+    char told[PIECES];
+
+    taken++;
+    while (taken == PIECES && !is_broken) {
+        ssize_t count = read(freed_by, told, sizeof told);
+
+        if (count > 0 && (unsigned)count <= taken)
+            taken -= (unsigned)count;
+        else if (count >= 0 || errno != EINTR)
+            is_broken = true;
+    }
+    piece = (piece + 1) % PIECES;
+    block = memory + (size_t)piece * PIECE_ROOM;
+}
+
 /* Writes the lines that are turned, if any. */
 static inline void flush_lines(void)
 {
-    if (block_used > 0)
+    if (memory && block_used >= SHORT) {
+        struct head head = {{0, 'h', 'd', MAPPED}, (uint32_t)block_used, block_lines, 0};
+
+        write_all((const char *)&head, sizeof head);
+        next_piece();
+    } else if (block_used > 0) {
         write_block(LINES, block, block_used, block_lines);
+    }
     block_used = 0;
     block_lines = 0;
 }

@@ -6,12 +6,12 @@
  * compares them. Each --dlarg tells where fields are:
  *
  *   NAME:ID:SIZE:STATE_SIZE:OFFSET,..   of a kind of event, in the order of event_lines.h
- *   states:MASK:PLUS:BIT=TEXT,..        how the kernel's format prints a state */
+ *   states:MASK:PLUS:BIT=TEXT,..        how the kernel's format prints a state
+ *   memory:FILE:PIPE                    open files for memory and for what is free of it */
 #define _GNU_SOURCE
 #include <perf/perf_dlfilter.h>
 #include <stdio.h>
 #include <stdio_ext.h>
-#include <sys/mman.h>
 
 #include "event_lines.h"
 
@@ -24,7 +24,7 @@ enum { FIRST = 64, EVERY = 4096 };
 enum { WINDOW = 1024, MOST_LEFT = 128, NEXT = 8192 };
 /* So much of what perf prints is handed on, even if no event is turned after it. */
 enum { TOLD_SIZE = 1 << 17 };
-enum { CPUS = 8192, BITS = 24, BIT_TEXT = 8 };
+enum { BITS = 24, BIT_TEXT = 8 };
 /* perf prints less of one event: its standard output is looked at between two events. */
 enum { TOLD_ROOM = 1 << 20 };
 
@@ -35,7 +35,7 @@ static const char *texts[KINDS];
 static struct {
     int tid;
     char name[NAME_SIZE];
-} running[CPUS];
+} running[CPU_LIMIT];
 
 static int64_t state_mask, state_plus;
 static struct {
@@ -97,7 +97,7 @@ static bool is_whole(const struct perf_dlfilter_sample *sample, const struct kin
     if (!sample->raw_data || sample->raw_size < kind->size)
         return false;
     memcpy(&id, sample->raw_data, sizeof id);
-    return id == kind->id && sample->cpu >= 0 && sample->cpu < CPUS;
+    return id == kind->id && sample->cpu >= 0 && sample->cpu < CPU_LIMIT;
 }
 
 /* Whether an event is one of a virtual machine's, which perf prints otherwise. Older ones don't know. */
@@ -320,6 +320,8 @@ static bool take_word(char *text)
 
     if (!text)
         return false;
+    if (strcmp(name, "memory") == 0)
+        return take_memory(text);
     if (strcmp(name, "states") == 0)
         return take_states(text);
     for (int which = 0; which < KINDS; which++)

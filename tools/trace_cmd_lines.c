@@ -1,8 +1,10 @@
-/* trace_cmd_lines FILE: reads a recording of trace-cmd by its own libraries, for from-trace-cmd. Plain events of the scheduler
- * are turned here; any other one is printed as `trace-cmd report -N -t` prints it. Both go to standard output as blocks
- * (event_lines.h), in order. The first events of each kind, each new state and every 4096th event are compared with what the
- * library prints of their fields. If a recording has several buffers, or what isn't known here, no last block is written: the
- * status is 1, and the recording is turned of trace-cmd's text then. */
+/* trace_cmd_lines RECORDING memory:FILE:PIPE: reads a recording of trace-cmd by its own libraries, for from-trace-cmd. Plain
+ * events of the scheduler are turned here; any other one is printed as `trace-cmd report -N -t` prints it. Both go to standard
+ * output as blocks (event_lines.h), in order; the numbers are open files for memory and for what is free of it.
+ *
+ * The first events of each kind, each new state and every 4096th event are compared with what the library prints of their
+ * fields. If a recording has several buffers, or what isn't known here, no last block is written: the status is 1, and the
+ * recording is turned of trace-cmd's text then. */
 #define _GNU_SOURCE
 #include <stdarg.h>
 #include <stdio.h>
@@ -111,7 +113,7 @@ static char *put_front(char *to, struct tep_record *record, int cpu, int which)
     int pid = tep_data_pid(tep, record);
     char stamp[32], *end = put_stamp(stamp, record->ts), *from;
 
-    if (pid < 0 || record->ts <= NANOS || !end)
+    if (pid < 0 || cpu >= CPU_LIMIT || record->ts <= NANOS || !end)
         return NULL;
     to = put_task(to, tep_data_comm_from_pid(tep, pid));
     if (!to)
@@ -270,10 +272,10 @@ static bool is_taken(struct tracecmd_input *handle)
 
 int main(int count, char **words)
 {
-    struct tracecmd_input *handle = count == 2 ? tracecmd_open(words[1], TRACECMD_FL_LOAD_NO_PLUGINS) : NULL;
+    struct tracecmd_input *handle = count == 3 ? tracecmd_open(words[1], TRACECMD_FL_LOAD_NO_PLUGINS) : NULL;
     int status;
 
-    if (!handle || !is_taken(handle))
+    if (!handle || !is_taken(handle) || strncmp(words[2], "memory:", 7) != 0 || !take_memory(words[2] + 7))
         return 1;
     set_plain();
     blocks_to = STDOUT_FILENO;

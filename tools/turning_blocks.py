@@ -6,6 +6,8 @@ slow way, and what was written already is compared with that."""
 import collections
 import copy
 import fcntl
+import mmap
+import os
 import struct
 import subprocess
 import tempfile
@@ -15,7 +17,9 @@ from turning_told import Stop
 
 HEAD = struct.Struct("<3scIII")
 MARK = b"\0hd"
-LINES, AWAITED, TOLD, END = b"L", b"A", b"T", b"E"
+LINES, MAPPED, AWAITED, TOLD, END = b"L", b"M", b"A", b"T", b"E"
+# The pieces of memory into which lines are written, and what stands in a command for the word that tells of it.
+PIECES, PIECE_ROOM, MEMORY = 32, (1 << 18) + 512, "memory"
 # So many bytes has the pipe from a tool, by Linux's number of the call that asks for its room: Python has it since 3.10.
 PIPE, SET_PIPE_ROOM = 1 << 20, 1031
 # No block is larger.
@@ -79,6 +83,9 @@ class First:
 
     def write(self, text):
         """Writes a text. Raises `Unfit` where it begins otherwise."""
+        if not self.wanted:
+            self.sink.write(text)
+            return
         self.held += text
         if len(self.held) >= len(self.wanted):
             self.check()
@@ -91,6 +98,41 @@ class First:
             raise Unfit("the tool prints other lines first")
 
 
+class Memory:
+    """Memory in pieces, into which another program writes lines, in turn."""
+
+    def __init__(self):
+        self.file = os.memfd_create("lines")
+        os.ftruncate(self.file, PIECES * PIECE_ROOM)
+        self.pieces = memoryview(mmap.mmap(self.file, PIECES * PIECE_ROOM))
+        # Both ends are held, so that nothing goes wrong where that program has ended.
+        self.freed, self.freeing = os.pipe()
+        self.count = 0
+
+    def __enter__(self):
+        return self
+
+    def __exit__(self, *_):
+        for file in (self.file, self.freed, self.freeing):
+            os.close(file)
+
+    def command(self, words):
+        """The words of a command, of which one tells of this."""
+        return [f"{MEMORY}:{self.file}:{self.freed}" if word == MEMORY else word for word in words]
+
+    def next(self, length):
+        """The lines in the next piece, which are there until it is freed."""
+        if length > PIECE_ROOM:
+            raise Unfit("a block without end")
+        at = self.count % PIECES * PIECE_ROOM
+        self.count += 1
+        return self.pieces[at : at + length]
+
+    def free(self):
+        """Frees the piece that was taken first of those that aren't free."""
+        os.write(self.freeing, b"f")
+
+
 class Before:
     """The lines of the last blocks, backwards; they are cut only when they are looked at."""
 
@@ -99,14 +141,14 @@ class Before:
 
     def __reversed__(self):
         for block in reversed(self.blocks):
-            yield from reversed(block.split(b"\n"))
+            yield from reversed(bytes(block).split(b"\n"))
 
 
 class Taker:
     """Takes blocks, and writes what they hold. `turner` turns what the tool printed."""
 
-    def __init__(self, turner, sink):
-        self.turner, self.sink = turner, sink
+    def __init__(self, turner, sink, memory):
+        self.turner, self.sink, self.memory = turner, sink, memory
         self.awaited, self.printed = None, []
         self.blocks, self.size = collections.deque(), 0
         self.is_empty = True
@@ -119,7 +161,7 @@ class Taker:
         self.settle()
         if what == AWAITED:
             self.awaited = text
-        elif what == LINES and text:
+        elif what == LINES and len(text):
             self.turner.number += lines
             self.turner.told.has_turned = True
             self.write(text)
@@ -143,10 +185,13 @@ class Taker:
         self.blocks.append(text)
         self.size += len(text)
         while self.size - len(self.blocks[0]) > KEPT:
-            self.size -= len(self.blocks.popleft())
+            block = self.blocks.popleft()
+            self.size -= len(block)
+            if isinstance(block, memoryview):
+                self.memory.free()
 
 
-def blocks(file):
+def blocks(file, memory):
     """The blocks of an open file: what each is, its text, and how many lines it stands for. Raises `Unfit`."""
     what = None
     while what != END:
@@ -154,6 +199,9 @@ def blocks(file):
         if len(head) < HEAD.size or head[:3] != MARK:
             raise Unfit("no block")
         _, what, length, lines, _ = HEAD.unpack(head)
+        if what == MAPPED:
+            yield LINES, memory.next(length), lines
+            continue
         text = file.read(length) if length <= MOST else b""
         if len(text) < length:
             raise Unfit("a block ends too early")
@@ -179,7 +227,7 @@ def front_of(command):
     return text[: text.rfind(b"\n") + 1]
 
 
-def begin(turner, command, sink):
+def begin(turner, command, sink, memory):
     """What takes the blocks after what the tool's own command prints first, with which they are compared. Raises `Unfit`."""
     text = front_of(command)
     form, told = copy.deepcopy((turner.form, turner.told))
@@ -188,7 +236,7 @@ def begin(turner, command, sink):
     turner.form.prepared(text)
     if turner.form.holds_back:
         raise Unfit("several buffers")
-    taker = Taker(turner, First(sink, turned))
+    taker = Taker(turner, First(sink, turned), memory)
     taker.take(TOLD, turner.form.head_of(text), 0)
     return taker
 
@@ -196,15 +244,21 @@ def begin(turner, command, sink):
 def turned_quickly(turner, command, path, sink):
     """Turns a recording by a command that writes blocks; what it said. Raises `Unfit`."""
     form = turner.form
-    with tempfile.TemporaryFile() as said:
+    with tempfile.TemporaryFile() as said, Memory() as memory:
         try:
-            tool = subprocess.Popen(command, stdin=subprocess.DEVNULL, stdout=subprocess.PIPE, stderr=said, bufsize=1 << 18)
+            tool = subprocess.Popen(
+                memory.command(command),
+                stdin=subprocess.DEVNULL,
+                stdout=subprocess.PIPE,
+                stderr=said,
+                pass_fds=(memory.file, memory.freed),
+            )
         except OSError as error:
             raise Unfit(f"{command[0]}: {error.strerror}") from None
         try:
             widen(tool.stdout)
-            taker = begin(turner, [*form.command, path], sink) if form.is_apart else Taker(turner, sink)
-            for block in blocks(tool.stdout):
+            taker = begin(turner, [*form.command, path], sink, memory) if form.is_apart else Taker(turner, sink, memory)
+            for block in blocks(tool.stdout, memory):
                 taker.take(*block)
             taker.sink.check()
             if tool.wait() != 0 or taker.is_empty or form.is_apart and said.seek(0, 2):

@@ -157,7 +157,7 @@ def check_blocks() -> None:
     import io
 
     good = block(b"L", b"one\n", 1) + block(b"T", b"two\n") + block(b"E")
-    found = list(turning_blocks.blocks(io.BytesIO(good + b"three\n")))
+    found = list(turning_blocks.blocks(io.BytesIO(good + b"three\n"), None))
     check(
         found == [(b"L", b"one\n", 1), (b"T", b"two\n", 0), (b"E", b"", 0), (b"T", b"three\n", 0), (b"E", b"", 0)], f"{found}"
     )
@@ -165,10 +165,11 @@ def check_blocks() -> None:
         b"a text of perf\n" * 9,
         turning_blocks.HEAD.pack(b"\0hd", b"L", 1 << 31, 0, 0),
     ]
-    refused = 0
+    bad.append(turning_blocks.HEAD.pack(b"\0hd", b"M", turning_blocks.PIECE_ROOM + 1, 0, 0))
+    refused, memory = 0, turning_blocks.Memory()
     for text in bad:
         try:
-            list(turning_blocks.blocks(io.BytesIO(text)))
+            list(turning_blocks.blocks(io.BytesIO(text), memory))
         except turning_blocks.Unfit:
             refused += 1
     check(refused == len(bad), f"{len(bad) - refused} of {len(bad)} torn blocks are taken")
