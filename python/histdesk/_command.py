@@ -6,14 +6,13 @@ import argparse
 import gzip
 import os
 import re
-import shlex
 import signal
 import sys
 import time
 from typing import TYPE_CHECKING, Any, Callable, List, NoReturn, TypeVar
 
 from . import _converted
-from ._kinds import FRONT_ROOM, kinds_of
+from ._kinds import FRONT_ROOM, told_of
 from ._losses import seconds
 from ._pieces import Text, text_again
 from ._recording import Choice, Recording, counted_from, read_text
@@ -80,7 +79,7 @@ def add_jobs(words: argparse.ArgumentParser) -> None:
 def job_count(text: str) -> int:
     """A number of parts."""
     if not re.fullmatch("[0-9]{1,4}", text) or int(text) == 0:
-        raise argparse.ArgumentTypeError(f"{text} is no number from 1 to 9999")
+        raise argparse.ArgumentTypeError(f"it must be a number from 1 to 9999, not {text}")
     return int(text)
 
 
@@ -232,11 +231,11 @@ def opened(path: str, is_read_again: bool = True) -> Any:
 
 
 def check_kind(text: Any, path: str) -> None:
-    """Ends the tool where the text is another tool's recording or what it printed, and says which tool makes a trace of it."""
-    for what, turner in kinds_of(text):
-        front = "histdesk-" if os.path.basename(sys.argv[0]).startswith("histdesk-") else "tools/"
-        name, given = ("standard input", "") if path == "-" else (path, f" {shlex.quote(path)}")
-        raise Stop(f"{name} is {what}; {front}{turner}{given} >my.trace makes a trace of it")
+    """Ends the tool if the text is packed, another tool's recording or what that printed, and says what makes a trace of it."""
+    front = "histdesk-" if os.path.basename(sys.argv[0]).startswith("histdesk-") else "tools/"
+    told = told_of(text, path, front)
+    if told:
+        raise Stop(told)
 
 
 def remarks(found: Recording, choice: Choice) -> List[str]:
@@ -280,6 +279,9 @@ def run(tool: str, function: Callable[[], int]) -> NoReturn:
     sys.stdout.reconfigure(errors="backslashreplace")  # type: ignore[attr-defined]
     try:
         status = function()
+        for path in _converted.partial:
+            print(f"{tool}: {path} was converted only in part; the lines above say why", file=sys.stderr)
+            status = status or 1
         sys.stdout.flush()
     except BrokenPipeError:
         ended_by(signal.SIGPIPE)
@@ -294,7 +296,7 @@ def run(tool: str, function: Callable[[], int]) -> NoReturn:
     except Refused as error:
         print(f"{tool}: {refused(error)}", file=sys.stderr)
     except _converted.NotConverted as error:
-        print(f"{tool}: {error} was not converted", file=sys.stderr)
+        print(f"{tool}: {error} could not be converted; the lines above say why", file=sys.stderr)
     except (Stop, ImportError, ValueError) as error:
         print(f"{tool}: {error}", file=sys.stderr)
     finish(status)

@@ -15,6 +15,8 @@ from ._kinds import FRONT_ROOM, kinds_of
 PIPE_ROOM = 1031
 # The memory files that hold texts, by the path of the recording.
 texts: Dict[str, int] = {}
+# The recordings of which a converter has left something out.
+partial: List[str] = []
 
 
 class NotConverted(Exception):
@@ -41,11 +43,17 @@ def text_of(path: str, converter: str) -> str:
     if path not in texts:
         file = os.memfd_create("histdesk")
         ended = subprocess.run(words(converter, path), stdin=subprocess.DEVNULL, stdout=file, check=False)
-        # It ends so if it has left lines out, too.
-        if ended.returncode and not os.fstat(file).st_size:
-            raise NotConverted(path)
+        note_end(path, ended.returncode, os.fstat(file).st_size > 0)
         texts[path] = file
     return f"/proc/self/fd/{texts[path]}"
+
+
+def note_end(path: str, status: int, has_text: bool) -> None:
+    """Notes how the conversion of the file of that path has ended. Raises `NotConverted` if it has failed without any text."""
+    if status and not has_text:
+        raise NotConverted(path)
+    if status and path not in partial:
+        partial.append(path)
 
 
 def words(converter: str, path: str) -> List[str]:
@@ -73,7 +81,7 @@ class Piped:
         """The next bytes, at most so many. Raises `NotConverted` if there are none at all."""
         assert self._process.stdout
         piece = self._process.stdout.read(size)
-        if not piece and self._process.wait() and not self._has_text:
-            raise NotConverted(self._path)
+        if not piece:
+            note_end(self._path, self._process.wait(), self._has_text)
         self._has_text = True
         return piece

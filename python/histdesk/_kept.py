@@ -10,6 +10,7 @@ from . import _layout
 from ._layout import needed
 from ._library import library
 from ._numbers import Numbers
+from ._pieces import in_temporary_folder
 
 # So many waits are kept at first, and given at once. Of those put aside, so many bytes are in memory.
 ROOM, PART, ASIDE = 1 << 16, 1 << 14, 1 << 22
@@ -181,7 +182,8 @@ class Aside(Told):
         self.write(waits, records)
         self._besides += besides_of(self._count, waits)
         self._count += len(waits)
-        self._file.write(records)
+        with in_temporary_folder():
+            self._file.write(records)
 
     def parts(self) -> Iterator[Tuple[Any, Besides]]:
         """All records by and by, each array with what was besides by the index in it."""

@@ -84,7 +84,7 @@ def few_lost(torn: Dict[int, List[Hole]]) -> List[str]:
         first = holes[0]
         since = "the beginning" if first.after is None else seconds(first.after)
         until = "the end" if first.before is None else seconds(first.before)
-        where = f"between {since} and {until}" + ("" if len(holes) == 1 else f" and in {len(holes) - 1} more places")
+        where = ("" if len(holes) == 1 else f"in {len(holes)} places, the first ") + f"between {since} and {until}"
         told.append(f"CPU {cpu} lost {count} {where}")
     return [few(told)] if told else []
 

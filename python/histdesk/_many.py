@@ -46,9 +46,10 @@ class Many:
 
     @property
     def remarks(self) -> Tuple[str, ...]:
-        """What is to be known before the answer is believed: recordings that were left out, lost events, doubtful waits, hits
-        that found no room, lines that were left out, and recordings of which a part was taken; a line each."""
-        return (*left_out(self.failed, len(self.asked) + len(self.failed)), *lost(self.asked), *partial(self.asked))
+        """What is to be known before the answer is believed, a line each: recordings that were left out, lost events, doubtful
+        waits, missing switches, hits that found no room, lines that were left out, and recordings of which a part was taken."""
+        left = left_out(self.failed, len(self.asked) + len(self.failed))
+        return (*left, *lost(self.asked), *missing(self.asked), *partial(self.asked))
 
     def _told(self) -> List[str]:
         return [f"histdesk.Many: {len(self.asked)} of {len(self.asked) + len(self.failed)} recordings answered", *self.remarks]
@@ -82,6 +83,16 @@ def lost(asked: Sequence[Asked]) -> List[str]:
     if doubtful:
         told.append(f"{totalled(doubtful, 'wait')} {_shown.are(sum(doubtful))} doubtful")
     return told
+
+
+def missing(asked: Sequence[Asked]) -> List[str]:
+    """How many switches are missing though no line reports it."""
+    found = [one.missing for one in asked if one.missing]
+    if not found:
+        return []
+    what = "1 switch" if sum(found) == 1 else f"{sum(found)} switches"
+    told = f"at least {what} of {_shown.counted(len(found), 'recording')} {'was' if sum(found) == 1 else 'were'} not recorded"
+    return [f"{told}: waits that such a switch ended are not counted, and others may be too long"]
 
 
 def totalled(counts: Sequence[int], what: str) -> str:

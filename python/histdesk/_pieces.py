@@ -3,6 +3,7 @@
 from __future__ import annotations
 
 import bisect
+import contextlib
 import gzip
 import itertools
 import os
@@ -256,7 +257,8 @@ class KeptText(Text):
 
     def add(self, piece: Any) -> None:
         """Keeps the next piece."""
-        self._file.write(piece)
+        with in_temporary_folder():
+            self._file.write(piece)
         self.size = (self.size or 0) + len(piece)
 
     def pieces(self, at: int = 0, end: Optional[int] = None) -> Iterator[Any]:
@@ -270,6 +272,15 @@ class KeptText(Text):
                 raise OSError("a temporary file has lost what was kept in it")
             at += len(piece)
             yield piece
+
+
+@contextlib.contextmanager
+def in_temporary_folder() -> Iterator[None]:
+    """Names the folder if a file there, which has no name, can't be written."""
+    try:
+        yield
+    except OSError as error:
+        raise OSError(error.errno, error.strerror, tempfile.gettempdir()) from None
 
 
 class PartText(Text):

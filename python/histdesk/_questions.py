@@ -26,7 +26,8 @@ class Asked(NamedTuple):
 
     `warning` tells in one line what was lost; `doubtful` is how many of its waits were doubtful, `dropped` how many hits found
     no room in a table, `bad_lines` how many lines were left out since they can't be read; `taken` is a `Part` where less than
-    the whole was taken, or may have been."""
+    the whole was taken, or may have been. `missing` is how many switches are missing though no line reports it, as far as that
+    is known: it is of waits only."""
 
     path: str
     warning: Optional[str] = None
@@ -34,6 +35,7 @@ class Asked(NamedTuple):
     dropped: int = 0
     bad_lines: int = 0
     taken: Optional[Part] = None
+    missing: int = 0
 
 
 class Failed(NamedTuple):
@@ -148,7 +150,8 @@ class AskWaits:
 
     def _asked(self, path: str, found: Summary, counts: Counts) -> Tuple[Asked, Counts]:
         """What is counted of a recording's waits, and what has to be known of it."""
-        return Asked(path, found.warning, counts.doubtful, found.dropped, found.bad_lines), counts.named(path)
+        known = Asked(path, found.warning, counts.doubtful, found.dropped, found.bad_lines, missing=found.missing or 0)
+        return known, counts.named(path)
 
     def merge(self, parts: Sequence[Counts]) -> Counts:
         """Those of several, added up."""

@@ -110,7 +110,20 @@ def streamed_from(found: ReadText, judges: bool = True) -> Streamed:
         records, besides = found.waits.all()
         if found.read.losses.holes and judges:
             judge_all(feed, records, besides)
-        return Streamed(records, found.waits.names(), found.read, besides, found.checkpoints)
+        return Streamed(records, in_order(records, found.waits.names()), found.read, besides, found.checkpoints)
+
+
+def in_order(records: Any, names: Any) -> Any:
+    """The names of tasks in the order in which waits have them first. Records get their new numbers."""
+    numpy = needed()
+    first = numpy.full(len(names), len(records))
+    # Of several waits with one name the first one of all is written last.
+    first[records["name"][::-1]] = numpy.arange(len(records) - 1, -1, -1)
+    order = first.argsort(kind="stable")
+    numbers = numpy.empty(len(names), "u4")
+    numbers[order] = numpy.arange(len(names))
+    records["name"] = numbers[records["name"]]
+    return names[order]
 
 
 def judge_all(feed: Feed, records: Any, besides: Besides) -> None:

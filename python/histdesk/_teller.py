@@ -237,9 +237,9 @@ def teller_with(waits: Waits, trace: Union[Trace, Recording], lenient: bool = Fa
 
 
 def chosen(waits: Waits, at: Optional[int], task: Optional[str]) -> Waits:
-    """Those that last at a stamp, and those of tasks with a name or number; None is all."""
+    """Those that last or end at a stamp, and those of tasks with a name or number; None is all."""
     if at is not None:
-        waits = waits[(waits._column("begin_stamp") <= at) & (at < waits._column("end_stamp"))]
+        waits = waits[(waits._column("begin_stamp") <= at) & (at <= waits._column("end_stamp"))]
     if task is not None:
         mask = waits.names == task
         if task.isdecimal() and task == str(int(task)):

@@ -12,6 +12,7 @@ from ._counts import Counts, CountsRow
 from ._desk import Desk, Trace
 from ._library import library
 from ._losses import Hole, Losses, LossWarning, seconds
+from ._kinds import FRONT_ROOM, told_of
 from ._layout import needed
 from ._pieces import KeptText, Text, is_read_once, pieces_of, text_again
 from ._recording import Choice, Recording, counted_from, path_of, read_whole
@@ -83,8 +84,9 @@ class Held(NamedTuple):
 class About(NamedTuple):
     """What else is known of some waits: of which file they are, of what they are told, what was lost, where the next part of
     the recording begins, the kinds of which no event began a wait, how many events that would begin one found no room, how
-    many lines can't be read and the first of these, how many switches are missing though no line reports it, where the first
-    event stands that shows it, and the stamp from which on lines are counted, None if that is the recording's beginning."""
+    many lines can't be read and the first of these, how many switches are missing though no line reports it (None if that isn't
+    known), where the first event stands that shows it, and the stamp from which on lines are counted, None if that is the
+    recording's beginning."""
 
     path: Optional[str]
     held: Held
@@ -94,7 +96,7 @@ class About(NamedTuple):
     dropped: int = 0
     bad_lines: int = 0
     first_bad_line: Optional[int] = None
-    missing: int = 0
+    missing: Optional[int] = 0
     first_missing: Optional[Place] = None
     lines_from: Optional[int] = None
 
@@ -117,9 +119,9 @@ def remarks_of(about: About) -> List[str]:
 
 def missing_told(count: int, first: Place) -> str:
     """That so many events show a missing switch, and the first of them."""
-    what = "1 switch is" if count == 1 else f"{count} switches are"
-    told = f"at least {what} missing that no line reports, one of them before {first.cpu}:{first.line}"
-    return f"{told}: waits that began or ended there are missing, or too long"
+    what = "1 switch was" if count == 1 else f"{count} switches were"
+    told = f"at least {what} not recorded (the first one before {first.cpu}:{first.line})"
+    return f"{told}: waits that such a switch ended are not counted, and others may be too long"
 
 
 class Summary:
@@ -200,9 +202,9 @@ class Summary:
         return self._about.first_bad_line
 
     @property
-    def missing(self) -> int:
+    def missing(self) -> Optional[int]:
         """How many switches are missing in the recording though no line reports it: how many events another task ran than the
-        one that their CPU went to last."""
+        one that their CPU went to last. None if they are the waits of what a desk holds, of which that isn't known."""
         return self._about.missing
 
     @property
@@ -531,6 +533,8 @@ def answer_of(
     """What `answer` makes of a whole text that was read, and of the text if it can be read again; the waits that a desk tells
     of it if it isn't in the order of time. `told` makes what takes its waits."""
     again: Optional[Text] = None if is_read_once(trace) else text_again(trace)
+    if again:
+        check_kind(again, options.path)
     kept = KeptText() if again is None and options.keeps else None
     pieces = seen(pieces_of(again or trace), options.watch, kept)
     jobs = _parallel.jobs_for(again, options.jobs)
@@ -551,6 +555,13 @@ def answer_of(
         if again:
             show_line(error, again)
         raise
+
+
+def check_kind(text: Text, path: Optional[str]) -> None:
+    """Raises `ValueError` if a text is another tool's recording, or what that printed."""
+    told = told_of(text.read(0, FRONT_ROOM), path)
+    if told:
+        raise ValueError(told)
 
 
 def seen(pieces: Iterator[Any], watch: Optional[Callable[[Any], None]], kept: Optional[KeptText]) -> Iterator[Any]:
@@ -684,9 +695,9 @@ def doubts_of(columns: Dict[str, Any], holes: Collection[Hole]) -> Any:
 def about_held(desk: Desk, recording: Optional[Recording], losses: Losses) -> About:
     """What else is known of the waits that a desk holds."""
     if recording is None:
-        return About(None, held_by(desk), losses)
+        return About(None, held_by(desk), losses, missing=None)
     rest = recording.taken.rest if recording.taken else None
-    return About(recording.path, held_by(desk), losses, rest, lines_from=recording.lines_from)
+    return About(recording.path, held_by(desk), losses, rest, missing=None, lines_from=recording.lines_from)
 
 
 def held_by(desk: Desk) -> Held:

@@ -105,20 +105,22 @@ class Tools(unittest.TestCase):
             )
 
     def test_failing(self):
-        """A converter that makes no text ends the tool; one that leaves lines out is believed."""
+        """A converter that makes no text ends the tool; if it leaves lines out, the tool answers and says so."""
         for program, path in self.recordings.items():
             self.stand_in(program, "", 1)
             for tool in ("waits", "why"):
                 ran = self.ran(tool, path)
                 self.assertEqual((ran.returncode, ran.stdout), (2, b""), (program, tool))
                 last = ran.stderr.decode().rstrip("\n").split("\n")[-1]
-                self.assertEqual(last, f"{tool}: {path} was not converted")
+                self.assertEqual(last, f"{tool}: {path} could not be converted; the lines above say why")
             form = KINDS[os.path.basename(path)][2]
             self.stand_in(program, printed(self.text, form) + "what is this\n")
             for tool in ("waits", "why"):
                 ran = self.ran(tool, path)
-                self.assertEqual(ran.returncode, 0, ran.stderr)
+                self.assertEqual(ran.returncode, 1, ran.stderr)
                 self.assertIn(b"what is this", ran.stderr)
+                self.assertIn(f"{tool}: {path} was converted only in part".encode(), ran.stderr)
+                self.assertTrue(ran.stdout)
 
     def test_standard_input(self):
         """A recording has to be a file."""
@@ -126,7 +128,7 @@ class Tools(unittest.TestCase):
             with open(path, "rb") as file:
                 ran = self.ran("waits", "-", stdin=file)
             self.assertEqual((ran.returncode, ran.stdout), (2, b""))
-            self.assertIn(b"makes a trace of it", ran.stderr)
+            self.assertIn(b"; name its file instead\n", ran.stderr)
 
     def test_reader_has_gone(self):
         """A tool whose output nobody reads ends quietly, and so does its converter."""

@@ -9,6 +9,7 @@ The last line says how many of the tests hold."""
 
 import collections
 import contextlib
+import errno
 import os
 import random
 import sys
@@ -177,6 +178,15 @@ class Counted(unittest.TestCase):
         choice = _counted.Choice("task", cpus=[1])
         found = _counted.counted(text_of(lines), choice)
         self.assertEqual([(row.pid, row.max) for row in found.table("task")], [(8, 4)])
+
+    def test_full_disk(self):
+        """What can't be put aside names the folder for temporary files."""
+        aside = _kept.Aside(16)
+        aside._file = mock.Mock()
+        aside._file.write.side_effect = OSError(errno.ENOSPC, "No space left on device")
+        with mock.patch.object(_counted, "put_aside", lambda: aside), self.assertRaises(OSError) as raised:
+            _counted.counted(crowded(1), _counted.Choice("task"))
+        self.assertEqual((raised.exception.errno, raised.exception.filename), (errno.ENOSPC, tempfile.gettempdir()))
 
     def test_nothing_is_left(self):
         """What is put aside is in a file without a name."""

@@ -83,6 +83,7 @@ class Joined(unittest.TestCase):
         """What was read in parts is what one stream has read."""
         self.assertEqual(told(found), told(alone), seed)
         self.assertEqual(found.array.tolist(), alone.array.tolist(), seed)
+        self.assertEqual((found._names.tolist(), found._records.tolist()), (alone._names.tolist(), alone._records.tolist()))
         self.assertEqual((found.held, found.holes, found.remarks()), (alone.held, alone.holes, alone.remarks()), seed)
         self.assertEqual((found.missing, found.first_missing), (alone.missing, alone.first_missing), seed)
 
@@ -265,7 +266,7 @@ class Tools(unittest.TestCase):
         for word in ("0", "x", "-1"):
             ran = self.ran("waits", f"--jobs={word}", os.devnull)
             self.assertEqual((ran.returncode, ran.stdout), (2, b""))
-            self.assertIn(b"is no number from 1 to 9999", ran.stderr)
+            self.assertIn(b"it must be a number from 1 to 9999, not ", ran.stderr)
 
 
 if __name__ == "__main__":

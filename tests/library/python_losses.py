@@ -120,7 +120,7 @@ class Losses(unittest.TestCase):
         text = waking(3, "1.000000") + "".join(f"CPU:3 [LOST 2 EVENTS]\n{waking(3, f'{n}.500000')}" for n in range(1, 9))
         answer, told = loaded(text)
         self.assertEqual(len(answer.holes), 8)
-        self.assertIn("CPU 3 lost 16 between 1.000000 and 1.500000 and in 7 more places", told[0])
+        self.assertIn("CPU 3 lost 16 in 8 places, the first between 1.000000 and 1.500000", told[0])
 
     def test_far_events(self):
         # Looked for from each line on, these events would cost a pass over the text for each CPU.
@@ -405,7 +405,6 @@ class Tools(unittest.TestCase):
             (b"\x17\x08\x44tracing", "a recording of trace-cmd", "from-trace-cmd"),
             (PERF, "what perf script printed", "from-perf"),
             (b"# captured on: today\n#\n\n" + PERF, "what perf script printed", "from-perf"),
-            (gzip.compress(PERF), "what perf script printed", "from-perf"),
             (b"cpus=4\n" + PERF, "what trace-cmd report printed", "from-trace-cmd"),
             (b"version = 6\ncpus=4\n", "what trace-cmd report printed", "from-trace-cmd"),
         ]:
@@ -415,9 +414,17 @@ class Tools(unittest.TestCase):
                 self.assertEqual(
                     self.run_tool(*words, path), (2, "", f"tool: {path} {told} '{path}' >my.trace makes a trace of it\n")
                 )
-            self.assertEqual(
-                self.run_tool("-", input=text), (2, "", f"tool: standard input {told} >my.trace makes a trace of it\n")
+            told = (
+                f"{told} >my.trace makes a trace of it" if "printed" in told else f"{told.split(';')[0]}; name its file instead"
             )
+            self.assertEqual(self.run_tool("-", input=text), (2, "", f"tool: standard input {told}\n"))
+        path = self.file("packed", gzip.compress(PERF))
+        told = f"tool: {path} is what perf script printed, packed by gzip; unpack it first, by gzip -d\n"
+        self.assertEqual(self.run_tool(path), (2, "", told))
+        for magic, packer, unpacker in ((b"\xfd7zXZ\0", "xz", "xzcat"), (b"\x28\xb5\x2f\xfd", "zstd", "zstdcat")):
+            path = self.file("packed", magic + b"\0" * 100)
+            told = f"tool: {path} is packed by {packer}; {unpacker} {path} >my.trace unpacks it\n"
+            self.assertEqual(self.run_tool(path), (2, "", told))
         none = os.path.join(self.folder, "none")
         self.assertEqual(self.run_tool(none), (2, "", f"tool: {none}: No such file or directory\n"))
 

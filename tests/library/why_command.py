@@ -151,11 +151,11 @@ class Chosen(Command):
         self.assertEqual(self.heads(text, "--task", "renamed"), ["renamed-10 3"])
 
     def test_moment(self):
-        """All that last then: from the stamp at which they begin on, up to that at which they end."""
+        """All that last then: from the stamp at which they begin on, up to that at which they end, that one too."""
         text = all_known()["kinds"].text
         self.assertEqual(self.heads(text, "--at", "1.00002"), ["a-10 30"])
         self.assertEqual(self.heads(text, "--at", "1.000049"), ["a-10 30"])
-        self.assertEqual(self.heads(text, "--at", "1.00005"), ["b-11 40"])
+        self.assertEqual(self.heads(text, "--at", "1.00005"), ["b-11 40", "a-10 30"])
         text = trace(
             waking("<idle>-0", 0, 1000000, "a", 10, 1),
             waking("<idle>-0", 0, 1000010, "b", 11, 1),

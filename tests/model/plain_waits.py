@@ -75,7 +75,11 @@ def gaps_of(text: bytes) -> List[Gap]:
 
 
 def missing_told(text: bytes) -> List[str]:
-    """The line about missing switches, if a CPU runs another task than the one that its last switch went to."""
+    """The line about missing switches, if a CPU runs another task than the one that its last switch went to. Of a text that
+    isn't in the order of time nothing is told."""
+    stamps = [int(found["s"] + found["us"]) for found in filter(None, map(LINE.fullmatch, lines_of(text)))]
+    if stamps != sorted(stamps):
+        return []
     running: Dict[int, int] = {}
     counts: Dict[int, int] = {}
     count, first = 0, ""
@@ -87,8 +91,8 @@ def missing_told(text: bytes) -> List[str]:
         running[cpu] = int(switch[4]) if found["event"] == "sched_switch" and switch else runs
     if not count:
         return []
-    told = f"at least {'1 switch is' if count == 1 else f'{count} switches are'} missing that no line reports"
-    return [f"{told}, one of them before {first}: waits that began or ended there are missing, or too long"]
+    told = f"at least {'1 switch was' if count == 1 else f'{count} switches were'} not recorded (the first one before {first})"
+    return [f"{told}: waits that such a switch ended are not counted, and others may be too long"]
 
 
 def waits_of(text: bytes, without: Callable[[str], bool] = lambda line: False) -> List[Wait]:
