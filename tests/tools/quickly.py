@@ -9,6 +9,7 @@ that are renamed and end. Each recording gives the same bytes, the same words an
 the filter something wrong are noticed; what is written first is not written twice. What isn't here is not tried, and a line
 says so. The last line says how many of how many things hold."""
 
+import io
 import os
 import random
 import shutil
@@ -154,8 +155,6 @@ def block(what: bytes, text: bytes = b"", lines: int = 0) -> bytes:
 
 def check_blocks() -> None:
     """Blocks are whole, and there is a last one."""
-    import io
-
     good = block(b"L", b"one\n", 1) + block(b"T", b"two\n") + block(b"E")
     found = list(turning_blocks.blocks(io.BytesIO(good + b"three\n"), None))
     check(
