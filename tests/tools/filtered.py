@@ -205,7 +205,7 @@ def check_stream(path: str) -> None:
     answers, blocks = filtered(path, WORDS, gone)
     found = [text for what, text in blocks if what == b"A"][-1:]
     check(found == [line(WOKEN, b"n-6")] and answers[-2] == 0, f"a task that is gone: {found}")
-    mixed = [event(waking(), WAKING if at % 2 else b"irq:x") for at in range(3000)]
+    mixed = [event(waking(), b"irq:x" if at % 4 else WAKING) for at in range(3000)]
     answers, blocks = filtered(path, WORDS, mixed)
     check(sum(answers[1000:1024]) > 0 and sum(answers[1030:]) == 0, f"many are left to perf: {sum(answers)} are not")
     check(sum(text.count(PRINTED) for what, text in blocks if what == b"T") == answers[1:-1].count(0), "perf's lines are lost")

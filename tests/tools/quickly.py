@@ -432,9 +432,11 @@ def check_stand_ins(folder: str, path: str, slow: str, quick: str) -> None:
     lines = wanted.trace.split(b"\n")
     first = b"\n".join(lines[:100]) + b"\n"
     with open(os.path.join(folder, "late"), "wb") as file:
-        file.write(block(b"L", first, 100) + b"torn")
+        file.write(block(b"L", first, 100) + block(b"L", b"".join(line + b"\n" for line in lines[100:9000]), 8900) + b"torn")
     with open(os.path.join(folder, "false"), "wb") as file:
-        file.write(block(b"L", first.replace(b"pid=", b"pid=1"), 100) + block(b"A", b"a line\n", 1) + block(b"E"))
+        # So many that some are written before what is false is seen.
+        false = block(b"L", first.replace(b"pid=", b"pid=1"), 100) * (2 * turning_blocks.WAITING // len(first))
+        file.write(false + block(b"A", b"a line\n", 1) + block(b"E"))
     front = f'#!/bin/bash\nif [[ $* != *--dlfilter* ]]; then exec {real} "$@"; fi\n'
     for name, text in {
         "no filters": "echo 'Error: unknown option dlfilter' >&2; exit 129",
@@ -446,7 +448,7 @@ def check_stand_ins(folder: str, path: str, slow: str, quick: str) -> None:
         found = turned(quick, path, program(os.path.join(folder, f"stand-in {name}"), "perf", front + text + "\n"))
         check(found == wanted, f"perf, {name}: {len(found.trace)} of {len(wanted.trace)} bytes: {found.said[:200]!r}")
     found = turned(quick, path, program(os.path.join(folder, "stand-in false"), "perf", f"{front}cat {folder}/false\n"))
-    check(found.status == 1 and b"take it away" in found.said and len(found.trace) < 20000, f"false lines: {found.said!r}")
+    check(found.status == 1 and b"take it away" in found.said, f"false lines: status {found.status}, {found.said!r}")
 
 
 def check_closed(path: str, tools: str) -> None:
