@@ -104,7 +104,10 @@ class Memory:
     """Memory in pieces, into which another program writes lines, in turn."""
 
     def __init__(self):
-        self.file = os.memfd_create("lines")
+        try:
+            self.file = os.memfd_create("lines")
+        except (AttributeError, OSError):
+            raise Unfit("no file of memory") from None
         os.ftruncate(self.file, PIECES * PIECE_ROOM)
         self.pieces = memoryview(mmap.mmap(self.file, PIECES * PIECE_ROOM))
         # Both ends are held, so that nothing goes wrong where that program has ended.
@@ -151,7 +154,7 @@ class Taker:
 
     def __init__(self, turner, sink, memory):
         self.turner, self.sink, self.memory = turner, sink, memory
-        # What waits: pairs of turned lines and their count, and triples of an awaited line, what the tool printed, and None.
+        # What waits: pairs of turned lines and their count, and what the tool printed between them.
         self.waiting, self.length = [], 0
         self.blocks, self.size = collections.deque(), 0
         self.is_empty = True
@@ -160,31 +163,31 @@ class Taker:
         """Takes a block. Raises `Unfit`."""
         last = self.waiting[-1] if self.waiting else None
         if what == AWAITED:
-            self.waiting.append(Told(text))
-        elif what == TOLD and isinstance(last, Told):
+            self.waiting.append(Printed(text))
+        elif what == TOLD and isinstance(last, Printed):
             last.printed += text
         elif what == TOLD:
-            self.waiting.append(Told(b"", text))
+            self.waiting.append(Printed(b"", text))
         elif what == LINES and len(text):
             self.waiting.append((text, lines))
         self.length += len(text)
-        # Lines in memory don't wait, since their piece is to be freed. Before lines all is there that the tool printed.
-        if what == END or what == LINES and (self.length > WAITING or isinstance(text, memoryview)):
+        # What a tool printed is in whole lines. Lines in memory don't wait, since their piece is to be freed.
+        if what == END or isinstance(text, memoryview) or what != AWAITED and self.length > WAITING:
             self.settle()
 
     def settle(self):
         """Writes what waits, once what the tool has printed is turned and compared. Raises `Unfit`."""
         waiting, self.waiting, self.length = self.waiting, [], 0
         form = self.turner.form
-        text = form.prepared(b"".join([one.printed for one in waiting if isinstance(one, Told)]))
+        text = form.prepared(b"".join([one.printed for one in waiting if isinstance(one, Printed)]))
         turned = form.plain(form.find(text)) if text else []
         if self.turner.odd in turned:
             for one in waiting:
-                self.write([self.turned(one) if isinstance(one, Told) else self.passed(*one)])
+                self.write([self.turned(one) if isinstance(one, Printed) else self.passed(*one)])
             return
         at, parts = 0, []
         for one in waiting:
-            if isinstance(one, Told):
+            if isinstance(one, Printed):
                 count = one.printed.count(b"\n")
                 parts.append(one.checked(self.passed(b"".join(turned[at : at + count]), count)))
                 at += count
@@ -221,7 +224,7 @@ class Taker:
                 self.memory.free()
 
 
-class Told:
+class Printed:
     """What the tool printed between turned lines, which begins with the event that is awaited, if one is."""
 
     def __init__(self, awaited, printed=b""):
