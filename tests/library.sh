@@ -65,6 +65,7 @@ done
 part "the page" "${pythons[-1]}" "$tests/page/page.py" "$histdesk"
 part scripts "$tests/lint.sh"
 part recorded "$tests/tools/recorded.sh" "$tests/../tools"
+part "perf's filter" "${pythons[-1]}" "$tests/tools/filtered.py" "$tests/../tools"
 part "turned quickly" "${pythons[-1]}" "$tests/tools/quickly.py" "$tests/../tools"
 part installed "$tests/tools/install.sh" "$histdesk" "$histwatch" "$library"
 

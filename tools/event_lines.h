@@ -251,7 +251,11 @@ static int freed_by = -1;
 static unsigned piece, taken;
 static uint32_t block_lines;
 
-static inline void write_all(const char *from, size_t length)
+/* What is not written yet. */
+static char output[1 << 16];
+static size_t output_size;
+
+static inline void write_now(const char *from, size_t length)
 {
     while (length > 0 && !is_broken) {
         ssize_t count = write(blocks_to, from, length);
@@ -263,6 +267,24 @@ static inline void write_all(const char *from, size_t length)
             length -= (size_t)count;
         }
     }
+}
+
+static inline void flush_output(void)
+{
+    write_now(output, output_size);
+    output_size = 0;
+}
+
+static inline void write_all(const char *from, size_t length)
+{
+    if (length > sizeof output - output_size)
+        flush_output();
+    if (length > sizeof output) {
+        write_now(from, length);
+        return;
+    }
+    memcpy(output + output_size, from, length);
+    output_size += length;
 }
 
 static inline void write_block(char what, const char *from, size_t length, uint32_t lines)
@@ -313,12 +335,20 @@ static inline void flush_lines(void)
         struct head head = {{0, 'h', 'd', MAPPED}, (uint32_t)block_used, block_lines, 0};
 
         write_all((const char *)&head, sizeof head);
+        flush_output();
         next_piece();
     } else if (block_used > 0) {
         write_block(LINES, block, block_used, block_lines);
     }
     block_used = 0;
     block_lines = 0;
+}
+
+/* Ends the blocks. */
+static inline void write_end(void)
+{
+    write_block(END, "", 0, 0);
+    flush_output();
 }
 
 /* Takes a line that stands at the end of the block, up to `end`. */

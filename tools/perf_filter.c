@@ -21,7 +21,7 @@ struct perf_dlfilter_fns perf_dlfilter_fns;
 /* So many events of each kind are compared at first, and then one of so many. */
 enum { FIRST = 64, EVERY = 4096 };
 /* If of so many events more than so many are left to perf, so are the next ones: what perf prints is turned faster at once. */
-enum { WINDOW = 1024, MOST_LEFT = 128, NEXT = 8192 };
+enum { WINDOW = 1024, MOST_LEFT = 640, NEXT = 8192 };
 /* So much of what perf prints is handed on, even if no event is turned after it. */
 enum { TOLD_SIZE = 1 << 17 };
 enum { BITS = 24, BIT_TEXT = 8 };
@@ -31,11 +31,13 @@ enum { TOLD_ROOM = 1 << 20 };
 /* perf's own text of a kind's name, by which it is found again. */
 static const char *texts[KINDS];
 
-/* What each CPU runs, by its last switch; an empty name if that isn't known. */
+/* What each CPU runs, by its last switch; it is known if it is of this age. */
 static struct {
+    unsigned age;
     int tid;
     char name[NAME_SIZE];
 } running[CPU_LIMIT];
+static unsigned age = 1;
 
 static int64_t state_mask, state_plus;
 static struct {
@@ -44,7 +46,8 @@ static struct {
 } state_bits[BITS];
 static int bit_count;
 
-/* A file of memory that stands for perf's standard output. */
+/* What perf prints stays in its stream, with this room, in place of a file of memory: nothing is ever written into that. */
+static char told[TOLD_ROOM];
 static int told_by_perf = -1;
 
 /* So many events were seen in this window, so many of them were left to perf, and so many more are to be. */
@@ -52,21 +55,16 @@ static unsigned seen, left, skipped;
 
 /* ---- What perf prints itself */
 
-/* Hands on what perf has printed. It may tell of lost events, so no CPU's task is known any more. */
+/* Hands on what perf has printed, which is in its stream. It may tell of lost events, so no CPU's task is known any more. */
 static void hand_on(void)
 {
-    static char text[1 << 16];
-    ssize_t count;
-    off_t from = 0;
+    size_t length = __fpending(stdout);
 
     flush_lines();
-    if (fflush(stdout) != 0)
-        is_broken = true;
-    for (; (count = pread(told_by_perf, text, sizeof text, from)) > 0; from += count)
-        write_block(TOLD, text, (size_t)count, 0);
-    if (count < 0 || ftruncate(told_by_perf, 0) != 0 || lseek(told_by_perf, 0, SEEK_SET) != 0)
-        is_broken = true;
-    memset(running, 0, sizeof running);
+    if (length > 0)
+        write_block(TOLD, told, length, 0);
+    __fpurge(stdout);
+    age++;
 }
 
 /* ---- Lines */
@@ -132,6 +130,8 @@ static char *put_gone(char *to, const struct perf_dlfilter_sample *sample, int w
     const int *at = kinds[which].at;
     int tid = which == SWITCH ? number_at(raw, at[PREV_PID]) : running[sample->cpu].tid;
 
+    if (which != SWITCH && running[sample->cpu].age != age)
+        return NULL;
     to = put_name(to, which == SWITCH ? raw + at[PREV_COMM] : running[sample->cpu].name, NAME_SIZE);
     return tid < 0 ? NULL : THEN(to, "-", put_signed(to, tid));
 }
@@ -197,10 +197,9 @@ static void note_switch(const struct perf_dlfilter_sample *sample, bool is_turne
 {
     const char *raw = sample->raw_data;
 
-    if (!is_turned) {
-        running[sample->cpu].name[0] = 0;
+    running[sample->cpu].age = is_turned ? age : 0;
+    if (!is_turned)
         return;
-    }
     running[sample->cpu].tid = number_at(raw, kinds[SWITCH].at[NEXT_PID]);
     memcpy(running[sample->cpu].name, raw + kinds[SWITCH].at[NEXT_COMM], NAME_SIZE);
 }
@@ -333,14 +332,11 @@ static bool take_word(char *text)
 /* From here on what perf prints goes into memory. */
 static bool take_output(void)
 {
-    static char room[TOLD_ROOM];
-
     told_by_perf = memfd_create("perf", MFD_CLOEXEC);
     blocks_to = dup(STDOUT_FILENO);
     if (told_by_perf < 0 || blocks_to < 0 || fflush(stdout) != 0 || dup2(told_by_perf, STDOUT_FILENO) < 0)
         return false;
-    setvbuf(stdout, room, _IOFBF, sizeof room);
-    return true;
+    return setvbuf(stdout, told, _IOFBF, sizeof told) == 0;
 }
 
 int start(void **data, void *ctx)
@@ -356,6 +352,7 @@ int start(void **data, void *ctx)
     if (!take_output())
         return -1;
     write_block(LINES, "", 0, 0);
+    flush_output();
     return is_broken ? -1 : 0;
 }
 
@@ -364,7 +361,10 @@ int stop(void *data, void *ctx)
     (void)data;
     (void)ctx;
     hand_on();
-    write_block(END, "", 0, 0);
+    /* What perf has written by itself is in no block. */
+    if (lseek(told_by_perf, 0, SEEK_END) != 0)
+        return -1;
+    write_end();
     if (dup2(blocks_to, STDOUT_FILENO) < 0)
         return -1;
     return is_broken ? -1 : 0;

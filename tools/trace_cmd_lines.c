@@ -286,6 +286,6 @@ int main(int count, char **words)
     flush_lines();
     if (status != 0 || is_unknown || is_broken)
         return 1;
-    write_block(END, "", 0, 0);
+    write_end();
     return is_broken;
 }

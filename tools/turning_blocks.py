@@ -26,6 +26,8 @@ PIPE, SET_PIPE_ROOM = 1 << 20, 1031
 MOST = 1 << 24
 # So many bytes of turned lines are kept, in which the lines before an event are looked for.
 KEPT = 1 << 20
+# So many bytes wait until what the tool printed among them is turned at once.
+WAITING = 1 << 18
 # So many bytes of what a tool prints first are compared.
 FRONT = 1 << 16
 
@@ -102,7 +104,10 @@ class Memory:
     """Memory in pieces, into which another program writes lines, in turn."""
 
     def __init__(self):
-        self.file = os.memfd_create("lines")
+        try:
+            self.file = os.memfd_create("lines")
+        except (AttributeError, OSError):
+            raise Unfit("no file of memory") from None
         os.ftruncate(self.file, PIECES * PIECE_ROOM)
         self.pieces = memoryview(mmap.mmap(self.file, PIECES * PIECE_ROOM))
         # Both ends are held, so that nothing goes wrong where that program has ended.
@@ -145,50 +150,91 @@ class Before:
 
 
 class Taker:
-    """Takes blocks, and writes what they hold. `turner` turns what the tool printed."""
+    """Takes blocks, and writes what they hold. `turner` turns what the tool printed, of many blocks at once."""
 
     def __init__(self, turner, sink, memory):
         self.turner, self.sink, self.memory = turner, sink, memory
-        self.awaited, self.printed = None, []
+        # What waits: pairs of turned lines and their count, and what the tool printed between them.
+        self.waiting, self.length = [], 0
         self.blocks, self.size = collections.deque(), 0
         self.is_empty = True
 
     def take(self, what, text, lines):
         """Takes a block. Raises `Unfit`."""
-        if what == TOLD:
-            self.printed.append(text)
-            return
-        self.settle()
+        last = self.waiting[-1] if self.waiting else None
         if what == AWAITED:
-            self.awaited = text
+            self.waiting.append(Printed(text))
+        elif what == TOLD and isinstance(last, Printed):
+            last.printed += text
+        elif what == TOLD:
+            self.waiting.append(Printed(b"", text))
         elif what == LINES and len(text):
-            self.turner.number += lines
-            self.turner.told.has_turned = True
-            self.write(text)
+            self.waiting.append((text, lines))
+        self.length += len(text)
+        # What a tool printed is in whole lines. Lines in memory don't wait, since their piece is to be freed.
+        if what == END or isinstance(text, memoryview) or what != AWAITED and self.length > WAITING:
+            self.settle()
 
     def settle(self):
-        """Turns what the tool has printed, and compares it with what was awaited."""
-        text, awaited = b"".join(self.printed), self.awaited
-        self.printed, self.awaited = [], None
-        if not text and awaited is None:
+        """Writes what waits, once what the tool has printed is turned and compared. Raises `Unfit`."""
+        waiting, self.waiting, self.length = self.waiting, [], 0
+        form = self.turner.form
+        text = form.prepared(b"".join([one.printed for one in waiting if isinstance(one, Printed)]))
+        turned = form.plain(form.find(text)) if text else []
+        if self.turner.odd in turned:
+            for one in waiting:
+                self.write([self.turned(one) if isinstance(one, Printed) else self.passed(*one)])
             return
-        self.turner.before = Before(self.blocks)
-        turned, rest = self.turner.turn(self.turner.form.prepared(text), True)
-        if rest or not text.endswith(b"\n") or not turned.startswith(awaited or b""):
-            raise Unfit(f"{awaited} stands for {text}")
-        self.write(turned)
+        at, parts = 0, []
+        for one in waiting:
+            if isinstance(one, Printed):
+                count = one.printed.count(b"\n")
+                parts.append(one.checked(self.passed(b"".join(turned[at : at + count]), count)))
+                at += count
+            else:
+                parts.append(self.passed(*one))
+        self.write(parts)
 
-    def write(self, text):
+    def passed(self, text, lines):
+        """Lines that are turned."""
+        self.turner.number += lines
+        self.turner.told.has_turned |= lines > 0
+        return text
+
+    def turned(self, one):
+        """What the tool has printed, turned line by line. Raises `Unfit`."""
+        self.turner.before = Before(self.blocks)
+        turned, rest = self.turner.turn(self.turner.form.prepared(one.printed), True)
+        if rest:
+            raise Unfit(f"{one.printed} is not turned")
+        return one.checked(turned)
+
+    def write(self, parts):
         """Writes turned lines, and keeps them for a while."""
-        self.is_empty = False
-        self.sink.write(text)
-        self.blocks.append(text)
-        self.size += len(text)
-        while self.size - len(self.blocks[0]) > KEPT:
+        for text in (b"".join(parts[:-1]), *parts[-1:]):
+            if len(text):
+                self.is_empty = False
+                self.sink.write(text)
+                self.blocks.append(text)
+                self.size += len(text)
+        while self.blocks and self.size - len(self.blocks[0]) > KEPT:
             block = self.blocks.popleft()
             self.size -= len(block)
             if isinstance(block, memoryview):
                 self.memory.free()
+
+
+class Printed:
+    """What the tool printed between turned lines, which begins with the event that is awaited, if one is."""
+
+    def __init__(self, awaited, printed=b""):
+        self.awaited, self.printed = awaited, printed
+
+    def checked(self, turned):
+        """What was made of it. Raises `Unfit` where it doesn't begin as it should."""
+        if not self.printed.endswith(b"\n") or not turned.startswith(self.awaited):
+            raise Unfit(f"{self.awaited} stands for {self.printed}")
+        return turned
 
 
 def blocks(file, memory):

@@ -1,0 +1,250 @@
+#!/usr/bin/env python3
+"""Hands made-up events to perf_filter.so, as perf does, and looks at what it makes of them.
+
+    filtered.py TOOLS
+
+TOOLS is the folder of perf_filter.c, which is compiled here. The events have short structs, as those of an older perf, raw
+bytes that end early or are of another kind, numbers at their limits, odd names, and tasks that are gone. What isn't here is not
+tried, and a line says so. The last line says how many of how many things hold."""
+
+import ast
+import ctypes
+import io
+import os
+import struct
+import subprocess
+import sys
+import tempfile
+from typing import Any, Dict, List, Tuple
+
+# Nothing is written beside the sources.
+sys.dont_write_bytecode = True
+
+TOOLS = os.path.realpath(sys.argv[1])
+sys.path.insert(0, TOOLS)
+
+import turning_blocks
+
+WORDS = [b"sched_waking:7:36:0:8,24,28,32,-1", b"sched_switch:9:64:8:8,24,28,32,40,56,60", b"states:255:256:1=S,2=D"]
+WAKING, SWITCH = b"sched:sched_waking", b"sched:sched_switch"
+# perf prints so of an event that is left to it.
+PRINTED = b"perf's own line\n"
+passed, failed = 0, 0
+
+
+def check(is_good: Any, what: str) -> None:
+    """Counts a thing that has to hold."""
+    global passed, failed
+    if is_good:
+        passed += 1
+    else:
+        failed += 1
+        print(what)
+
+
+class Sample(ctypes.Structure):
+    """perf's struct of an event."""
+
+    _fields_ = [
+        *(("size", ctypes.c_uint32), ("ins_lat", ctypes.c_uint16), ("p_stage_cyc", ctypes.c_uint16), ("ip", ctypes.c_uint64)),
+        *(("pid", ctypes.c_int32), ("tid", ctypes.c_int32), ("time", ctypes.c_uint64), ("numbers", ctypes.c_uint64 * 8)),
+        *(("cpu", ctypes.c_int32), ("flags", ctypes.c_uint32), ("more", ctypes.c_uint64 * 5), ("modes", ctypes.c_uint32)),
+        *(("raw_size", ctypes.c_uint32), ("raw_data", ctypes.c_char_p), ("stacks", ctypes.c_uint64 * 4)),
+        *(("event", ctypes.c_char_p), ("machine_pid", ctypes.c_int32), ("vcpu", ctypes.c_int32)),
+    ]
+
+
+class Location(ctypes.Structure):
+    """perf's struct of where an event was, of which the filter wants the task's name."""
+
+    _fields_ = [("size", ctypes.c_uint32), ("symoff", ctypes.c_uint32), ("more", ctypes.c_uint64 * 5)]
+    _fields_ += [("bits", ctypes.c_uint32), ("buildid_size", ctypes.c_uint32), ("buildid", ctypes.c_char_p)]
+    _fields_ += [("filtered", ctypes.c_uint64), ("comm", ctypes.c_char_p)]
+
+
+def waking(comm: bytes = b"w", pid: int = 7, prio: int = 120, cpu: int = 1, number: int = 7) -> bytes:
+    return struct.pack("<HHi16siii", number, 0, 0, comm, pid, prio, cpu)
+
+
+def switch(comm: bytes = b"p", state: int = 1, next_comm: bytes = b"n", pid: int = 5, next_pid: int = 6) -> bytes:
+    return struct.pack("<HHi16siiq16sii", 9, 0, 0, comm, pid, 120, state, next_comm, next_pid, 100)
+
+
+Event = Dict[str, Any]
+
+
+def event(raw: bytes, name: bytes = WAKING, **more: Any) -> Event:
+    """An event; `more` says how it differs from a good one, `task` and `place` what perf tells of its task."""
+    return {
+        "raw": raw,
+        "event": name,
+        "tid": 3,
+        "cpu": 2,
+        "time": 1_000_000_500,
+        "task": b"t",
+        "size": ctypes.sizeof(Sample),
+        **more,
+    }
+
+
+def run_child(path: str, words: List[bytes], events: List[Event]) -> None:
+    """Calls the filter as perf does; each answer is written to standard error."""
+    library = ctypes.CDLL(path)
+    functions = (ctypes.c_void_p * 128).in_dll(library, "perf_dlfilter_fns")
+    library_c = ctypes.CDLL(None)
+    place = Location()
+    kept = [ctypes.create_string_buffer(word) for word in words]
+    told = (ctypes.c_void_p * len(words))(*map(ctypes.addressof, kept))
+
+    def args(_: Any, count: Any) -> int:
+        count[0] = len(words)
+        return ctypes.addressof(told)
+
+    calls = [
+        ctypes.CFUNCTYPE(ctypes.c_void_p, ctypes.c_void_p)(lambda _: ctypes.addressof(place) if place.comm else None),
+        ctypes.CFUNCTYPE(ctypes.c_void_p, ctypes.c_void_p, ctypes.POINTER(ctypes.c_int))(args),
+    ]
+    functions[0], functions[2] = (ctypes.cast(call, ctypes.c_void_p).value for call in calls)
+    started = library.start(None, None)
+    print(started, file=sys.stderr)
+    for one in events if started == 0 else []:
+        place.size, place.comm = one.get("place", ctypes.sizeof(Location)), one["task"]
+        raw, left = one["raw"], {name: value for name, value in one.items() if name not in ("raw", "task", "place")}
+        answer = library.filter_event_early(None, ctypes.byref(Sample(raw_data=raw, raw_size=len(raw), **left)), None)
+        print(answer, file=sys.stderr, flush=True)
+        if answer == 0:
+            library_c.printf(PRINTED)
+    if started == 0:
+        print(library.stop(None, None), file=sys.stderr)
+
+
+def filtered(path: str, words: List[bytes], events: List[Event]) -> Tuple[List[int], List[Tuple[bytes, bytes]]]:
+    """What the filter answers to its start, to each event and to its end; and the blocks that it writes."""
+    ran = subprocess.run(
+        [sys.executable, __file__, TOOLS, path], input=repr((words, events)).encode(), capture_output=True, timeout=100
+    )
+    answers = [int(line) for line in ran.stderr.split()] if ran.returncode == 0 else [ran.returncode]
+    try:
+        blocks = [(what, bytes(text)) for what, text, _ in turning_blocks.blocks(io.BytesIO(ran.stdout), None)]
+    except turning_blocks.Unfit:
+        blocks = []
+    return answers, blocks
+
+
+def line(fields: bytes, task: bytes = b"t-3", cpu: int = 2, name: bytes = b"sched_waking") -> bytes:
+    return b"%s [%03d] 1.000001: %s: %s\n" % (task, cpu, name, fields)
+
+
+WOKEN = b"comm=w pid=7 prio=120 target_cpu=001"
+LEFT = b"prev_comm=p prev_pid=5 prev_prio=120 prev_state=%s ==> next_comm=n next_pid=6 next_prio=100"
+# Each event, and the line that is made of it; none where it is left to perf.
+GOOD = [
+    (event(waking()), line(WOKEN)),
+    (event(switch(), SWITCH), line(LEFT % b"S", name=b"sched_switch")),
+    (event(switch(state=0x103), SWITCH), line(LEFT % b"S|D+", name=b"sched_switch")),
+    (event(switch(state=0), SWITCH), line(LEFT % b"R", name=b"sched_switch")),
+    (event(waking(), size=200), line(WOKEN)),
+    (event(waking(b"a b:1/x"), task=b"a-b c"), line(WOKEN.replace(b"=w", b"=a b:1/x"), b"a-b c-3")),
+    (event(waking(pid=-5, prio=-1)), line(WOKEN.replace(b"=7", b"=-5").replace(b"=120", b"=-1"))),
+    (event(waking(), cpu=7999), line(WOKEN, cpu=7999)),
+    (event(switch(), SWITCH, tid=-1), line(LEFT % b"S", b"p-5", name=b"sched_switch")),
+    (event(waking(), task=b"x" * 30), line(WOKEN, b"x" * 30 + b"-3")),
+    (event(waking() + bytes(4)), line(WOKEN)),
+]
+# These are left to perf.
+OTHER = [
+    event(waking()[:35]),
+    event(b""),
+    event(waking(number=8)),
+    event(waking(), b"sched:sched_wakeup"),
+    event(waking(), b"irq:irq_handler_entry"),
+    event(waking(), None),
+    event(waking(), cpu=-1),
+    event(waking(), cpu=8000),
+    event(waking(), tid=-2),
+    event(waking(), tid=-1),
+    event(waking(), tid=2_000_000_000),
+    event(waking(), time=(1 << 64) - 1),
+    event(waking(), task=None),
+    event(waking(), place=64),
+    event(waking(), machine_pid=5),
+    event(waking(), task=b"x" * 31),
+    event(waking(), task=b""),
+    event(waking(pid=1_000_000_000)),
+    event(waking(cpu=-1)),
+    event(switch(state=0x40), SWITCH),
+    *(event(waking(comm)) for comm in (b"", b" a", b"a ", b"a\nb", b"a[", b"a=b", b"a>", b"#", b"\xe9", b'"', b"x" * 16)),
+    *(event(switch(next_comm=comm), SWITCH) for comm in (b"a ==> b", b"x" * 16)),
+]
+
+
+def check_events(path: str) -> None:
+    """Good events are turned and compared, others are left to perf."""
+    for one, wanted in GOOD:
+        answers, blocks = filtered(path, WORDS, [one])
+        found = [text for what, text in blocks if what == b"A"]
+        check(answers == [0, 0, 0] and found == [wanted], f"{one}: {answers}, {blocks}")
+    for one in OTHER:
+        answers, blocks = filtered(path, WORDS, [one])
+        check(answers == [0, 0, 0] and [what for what, text in blocks if text] == [b"T"], f"{one}: {answers}, {blocks}")
+    for size in (0, 8, 199):
+        answers, _ = filtered(path, WORDS, [event(waking(), size=size)])
+        check(answers[:2] == [0, -1], f"a struct of {size} bytes: {answers}")
+
+
+def check_stream(path: str) -> None:
+    """The first events are compared, then one of many; what is left to perf stands in its place; a task that is gone is that to
+    which its CPU has switched; and if most events are left to perf, all are for a while."""
+    many = [event(waking())] * 4200
+    answers, blocks = filtered(path, WORDS, many)
+    compared = [at for at, answer in enumerate(answers[1:-1]) if answer == 0]
+    check(compared == [*range(64), 4095], f"compared are {compared}")
+    lines = b"".join(text for what, text in blocks if what in (b"L", b"A"))
+    check(lines == line(WOKEN) * 4200, f"{len(lines)} bytes of lines")
+    gone = [*[event(switch(), SWITCH)] * 65, event(waking(), tid=-1), event(waking(), tid=-1, cpu=3)]
+    answers, blocks = filtered(path, WORDS, gone)
+    found = [text for what, text in blocks if what == b"A"][-1:]
+    check(found == [line(WOKEN, b"n-6")] and answers[-2] == 0, f"a task that is gone: {found}")
+    mixed = [event(waking(), b"irq:x" if at % 4 else WAKING) for at in range(3000)]
+    answers, blocks = filtered(path, WORDS, mixed)
+    check(sum(answers[1000:1024]) > 0 and sum(answers[1030:]) == 0, f"many are left to perf: {sum(answers)} are not")
+    check(sum(text.count(PRINTED) for what, text in blocks if what == b"T") == answers[1:-1].count(0), "perf's lines are lost")
+
+
+# The filter refuses such words.
+BAD = [b"", b"x", b"other:1", b"states:1", b"states:1:2:3", b"states:1:2:1=toolongname", b"states:1:2:" + b"1=S," * 30]
+BAD += [b"sched_waking:7", b"sched_waking:7:36:0", b"sched_waking:7:36:0:8,24,28", b"sched_waking:7:36:0:8,24,28,32,-1,5"]
+BAD += [
+    b"sched_waking:7:36:0:8,24,28,33,-1",
+    b"sched_waking:7:36:0:-1,24,28,32,-1",
+    b"sched_waking:7:99999:0:90000,24,28,32,-1",
+]
+BAD += [b"sched_switch:9:64:2:8,24,28,32,40,56,60", b"memory:99:98", b"memory:0:0", b"memory:1"]
+
+
+def main() -> None:
+    with tempfile.TemporaryDirectory() as folder:
+        path = os.path.join(folder, "perf_filter.so")
+        words = ["cc", "-std=c11", "-O1", "-fPIC", "-shared", "-Wall", "-Wextra", "-Werror", "-pedantic", "-o", path]
+        try:
+            made = subprocess.run([*words, os.path.join(TOOLS, "perf_filter.c")], capture_output=True)
+        except FileNotFoundError:
+            print("not tried: perf's filter: no compiler")
+            return
+        if b"perf_dlfilter.h: No such file" in made.stderr:
+            print("not tried: perf's filter: no header of perf")
+            return
+        check(made.returncode == 0 and not made.stderr, f"not compiled: {made.stderr.decode()}")
+        check_events(path)
+        check_stream(path)
+        for word in BAD:
+            answers, _ = filtered(path, [*WORDS, word], [])
+            check(answers == [-1], f"{word!r} is taken: {answers}")
+
+
+if len(sys.argv) > 2:
+    run_child(sys.argv[2], *ast.literal_eval(sys.stdin.read()))
+else:
+    main()
+    print(f"{passed} of {passed + failed} things hold")
+    sys.exit(failed > 0)
