@@ -334,6 +334,8 @@ exec trace-cmd record "$@"
 """
 EVENTS = [word for name in event_formats.EVENTS for word in ("-e", name)]
 OTHER_EVENTS = ["-e", "irq", "-e", "timer_start", "-e", "sched_migrate_task"]
+# The name of a buffer, which is an instance of tracefs while it is recorded, and stays where that fails.
+INSTANCE = "histdesk-quickly"
 # What each is of, and whether it is turned quickly.
 BY_TRACE_CMD: Dict[str, Tuple[List[str], bool]] = {
     "plain": (["-b", "8192", *EVENTS, *pipes(20000)], True),
@@ -342,13 +344,16 @@ BY_TRACE_CMD: Dict[str, Tuple[List[str], bool]] = {
     "names": (["-b", "8192", *EVENTS, sys.executable, "-c", NAMES], True),
     "few": (["-b", "8192", "-e", "sched_waking", *pipes(1000)], True),
     "no events": (["-b", "8192", "-e", "block_rq_issue", "/bin/true"], True),
-    "buffers": (["-b", "8192", *EVENTS, "-B", "one", *EVENTS, *pipes(1000)], False),
+    "buffers": (["-b", "8192", *EVENTS, "-B", INSTANCE, *EVENTS, *pipes(1000)], False),
 }
 
 
 def record_by_trace_cmd(folder: str) -> Dict[str, str]:
-    """The recordings that trace-cmd makes here."""
-    made = {}
+    """The recordings that trace-cmd makes here, which uses the machine's own tracing: its settings are as before then."""
+    made, settings = {}, {}
+    for name in ("tracing_on", "buffer_size_kb"):
+        with open(f"/sys/kernel/tracing/{name}", encoding="ascii") as file:
+            settings[name] = file.read().split()[0]
     for name, (what, _) in BY_TRACE_CMD.items():
         path = os.path.join(folder, name.replace(" ", "-") + ".dat")
         command = ["unshare", "-m", "bash", "-c", STAND_INS, folder, "-o", path, *what]
@@ -356,7 +361,12 @@ def record_by_trace_cmd(folder: str) -> Dict[str, str]:
         if ran.returncode == 0 and os.path.exists(path):
             made[name] = path
         else:
-            print(f"not tried: {name}, by trace-cmd: {ran.stderr.decode(errors='replace').strip()[-200:]}")
+            print(f"not tried: {name}, by trace-cmd: {ran.stderr.decode(errors='replace').strip().splitlines()[-1:]}")
+    if os.path.isdir(f"/sys/kernel/tracing/instances/{INSTANCE}"):
+        os.rmdir(f"/sys/kernel/tracing/instances/{INSTANCE}")
+    for name, value in settings.items():
+        with open(f"/sys/kernel/tracing/{name}", "w", encoding="ascii") as file:
+            file.write(value)
     return made
 
 
