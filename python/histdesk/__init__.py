@@ -42,25 +42,32 @@ keeps them. numpy and pandas are used where they are there. The library `libhist
 environment variable `HISTDESK_LIBRARY` says, then in the folders around the package, then where the loader looks.
 """
 
-from ._changed import Fate
+from __future__ import annotations
+
+import importlib
+from typing import TYPE_CHECKING, Any, List
+
 from ._counts import Counts, CountsRow, Greatest
 from ._desk import Desk
-from ._diff import Difference, DifferenceRow, Figures, Struck, diff
 from ._events import Events
 from ._loaded import Lane, Loaded
 from ._losses import Hole, Losses, LossWarning
-from ._many import LeftOutWarning, Many, many
-from ._questions import Asked, AskRows, AskWaits, Failed
 from ._recording import Part, Recording, read
 from ._refused import Refused, refusal_words
 from ._rows import Rows
-from ._ran import Runner, Share, Stretch
 from ._slices import Source
 from ._trigger import Trigger
 from ._values import Bucket, Changed, Edit, Event, Latency, Log2, Place, Totals
 from ._waits import Waits, waits
-from ._why import Why, why
 from ._written import escaped, unescaped
+
+if TYPE_CHECKING:
+    from ._changed import Fate
+    from ._diff import Difference, DifferenceRow, Figures, Struck, diff
+    from ._many import LeftOutWarning, Many, many
+    from ._questions import Asked, AskRows, AskWaits, Failed
+    from ._ran import Runner, Share, Stretch
+    from ._why import Why, why
 
 __all__ = [
     "AskRows",
@@ -113,7 +120,30 @@ __all__ = [
     "why",
 ]
 
-# They are known by the package's name, wherever in it they stand.
+# What is loaded when it is first asked for, and its module: not every tool needs it.
+_LATER = {
+    **dict.fromkeys(["Fate"], "_changed"),
+    **dict.fromkeys(["Difference", "DifferenceRow", "Figures", "Struck", "diff"], "_diff"),
+    **dict.fromkeys(["LeftOutWarning", "Many", "many"], "_many"),
+    **dict.fromkeys(["AskRows", "AskWaits", "Asked", "Failed"], "_questions"),
+    **dict.fromkeys(["Runner", "Share", "Stretch"], "_ran"),
+    **dict.fromkeys(["Why", "why"], "_why"),
+}
+
+
+def __getattr__(name: str) -> Any:
+    if name not in _LATER:
+        raise AttributeError(f"module {__name__!r} has no attribute {name!r}")
+    found = globals()[name] = getattr(importlib.import_module(f".{_LATER[name]}", __name__), name)
+    return found
+
+
+def __dir__() -> List[str]:
+    return sorted({*globals(), *_LATER})
+
+
+# They are known by the package's name, wherever in it they stand; those that come later see to that themselves.
 for _name in __all__:
-    globals()[_name].__module__ = __name__
+    if _name not in _LATER:
+        globals()[_name].__module__ = __name__
 del _name

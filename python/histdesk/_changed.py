@@ -91,3 +91,8 @@ def keys_of(records: Any) -> Any:
 def told(row: Optional[CountsRow]) -> Optional[Counted]:
     """What is told of a row."""
     return row and Counted(*(getattr(row, field) for field in Counted._fields))
+
+
+for _thing in (Fate,):
+    _thing.__module__ = __package__
+del _thing

@@ -338,3 +338,8 @@ def diff_without(
     before, (after, counts) = waits_without(trace, chosen, lenient, watch, path)
     struck = [Struck(one.event, one.text or None, found.count, found.of) for one, found in zip(chosen, counts)]
     return Difference(before, after, struck)
+
+
+for _thing in (Difference, DifferenceRow, Figures, Struck, diff):
+    _thing.__module__ = __package__
+del _thing

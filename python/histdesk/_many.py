@@ -292,3 +292,8 @@ class Progress:
     def __exit__(self, *_: object) -> None:
         if self.is_wanted and self.is_terminal:
             self.write("")
+
+
+for _thing in (LeftOutWarning, Many, many):
+    _thing.__module__ = __package__
+del _thing

@@ -159,3 +159,8 @@ class AskWaits:
 
     def __repr__(self) -> str:
         return f"AskWaits({self.by!r})"
+
+
+for _thing in (AskRows, AskWaits, Asked, Failed):
+    _thing.__module__ = __package__
+del _thing

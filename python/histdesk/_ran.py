@@ -208,3 +208,8 @@ def stretches_of(found: Sequence[Stretch]) -> Stretches:
 def shares_of(found: Sequence[Stretch]) -> List[Share]:
     """How long each task ran in some stretches of a CPU, as `Stretches.shares` tells it."""
     return stretches_of(found).shares if found else []
+
+
+for _thing in (Runner, Share, Stretch):
+    _thing.__module__ = __package__
+del _thing

@@ -181,3 +181,8 @@ def told(scene: Scene, wait: Wait) -> Why:
         holes=tuple(sorted(spanned(scene.holes, begin.stamp, until), key=lambda hole: hole.line or 0)),
         untold=tuple(cpu for cpu in cpus if not scene.knows(cpu)),
     )
+
+
+for _thing in (Why, why):
+    _thing.__module__ = __package__
+del _thing

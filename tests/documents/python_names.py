@@ -78,8 +78,9 @@ def members_of(kind: ast.ClassDef) -> Members:
 def package() -> Dict[str, Members]:
     """What each public class has, by its name; under the package's own name, what the package has."""
     kinds: Dict[str, Members] = {PACKAGE: {}}
-    for import_ in ast.parse(text_of(f"python/{PACKAGE}/__init__.py")).body:
-        if not isinstance(import_, ast.ImportFrom):
+    # Those for type checkers are of names that are loaded later.
+    for import_ in ast.walk(ast.parse(text_of(f"python/{PACKAGE}/__init__.py"))):
+        if not isinstance(import_, ast.ImportFrom) or not import_.level:
             continue
         public = {name.name for name in import_.names}
         for node in ast.parse(text_of(f"python/{PACKAGE}/{import_.module}.py")).body:
