@@ -1,6 +1,7 @@
 #!/usr/bin/env bash
 # turn.sh [RECORDING]..: times what makes a text of what was recorded: tools/record beside `cat` of the same trace, from-perf
-# beside `perf script`, from-trace-cmd beside `trace-cmd report`, and these two also without what tools/build compiles for them.
+# beside `perf script`, from-trace-cmd beside `trace-cmd report`, and these two also without what tools/build compiles for them;
+# and tools/waits of each recording as it is, beside `perf sched latency` and `trace-cmd report`.
 # Without a word it records first, as root, a machine that two benchmarks of perf keep busy, by tracefs and by both tools.
 #
 # The commands over one recording run in turn, seven times or as often as TIMES says, and write into files. It prints for each
@@ -20,6 +21,8 @@ instance=
 recordings=("$@")
 names=()
 commands=()
+python=python3
+"$python" -c 'import numpy' 2>/dev/null || python=/usr/bin/python3
 
 take_back() {
     [[ -z $instance ]] || rmdir -- "$instance"
@@ -84,6 +87,14 @@ measure_turned() {
     measure
 }
 
+# measure_asked RECORDING COMMAND..: the waits of a recording as it is, beside this command.
+measure_asked() {
+    tell "waits of $(basename -- "$1")" "$("$python" "$tools/waits" --json "$1" 2>"$folder/err" | sed -nE '1s/.*"events": ([0-9]+),.*/\1/p')"
+    row "${*:2:3}" "${@:2}"
+    row 'tools/waits' "$python" "$tools/waits" "$1"
+    measure
+}
+
 trap take_back EXIT
 cp -r -- "$tools" "$folder/slow"
 rm -rf -- "$folder/slow/out"
@@ -100,7 +111,9 @@ fi
 for recording in "${recordings[@]}"; do
     if is_by_perf "$recording"; then
         measure_turned from-perf "$recording" perf script --ns -F comm,tid,cpu,time,event,trace -i "$recording"
+        measure_asked "$recording" perf sched latency -i "$recording"
     else
         measure_turned from-trace-cmd "$recording" trace-cmd report -N -t -i "$recording"
+        measure_asked "$recording" trace-cmd report -N -t -i "$recording"
     fi
 done
