@@ -29,6 +29,8 @@ EVENTS = ("sched_waking", "sched_wakeup", "sched_wakeup_new", "sched_switch", "o
 STAMP = re.compile(r"([0-9]{1,10})(?:\.([0-9]{1,6}))?")
 # So many numbers of lines are told.
 SHOWN = 5
+# No more parts of a trace are read at once.
+JOBS = 512
 # After so many seconds a tool says how far it is, and so many seconds later again.
 PATIENCE, AGAIN = 2.0, 0.5
 
@@ -72,14 +74,14 @@ def add_part(words: argparse.ArgumentParser, cpu: str = "only events of these CP
 
 def add_jobs(words: argparse.ArgumentParser) -> None:
     """The option that says how many processors read a trace."""
-    told = "read N parts of TRACE at once (as many as there are processors if it has more than 200 MB, else 1)"
+    told = "read N parts of TRACE at once (1; as many as there are processors, up to 16, if it has more than 200 MB)"
     words.add_argument("--jobs", metavar="N", type=job_count, help=told)
 
 
 def job_count(text: str) -> int:
     """A number of parts."""
-    if not re.fullmatch("[0-9]{1,4}", text) or int(text) == 0:
-        raise argparse.ArgumentTypeError(f"it must be a number from 1 to 9999, not {text}")
+    if not re.fullmatch("[0-9]{1,3}", text) or not 1 <= int(text) <= JOBS:
+        raise argparse.ArgumentTypeError(f"it must be a number from 1 to {JOBS}, not {text}")
     return int(text)
 
 

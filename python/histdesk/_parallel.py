@@ -16,21 +16,24 @@ from ._refused import Refused
 from ._stream import CHUNK, Backwards, Checkpoint, Feed, Noted, ReadText
 from ._stretch import Halves
 
-# A text of more bytes is read in as many parts as there are processors, if nobody says in how many.
-LARGE = 200_000_000
+# A text of more bytes is read in as many parts as there are processors, but not more than these, if nobody says in how many:
+# each part takes some 10 MB.
+LARGE, USUAL = 200_000_000, 16
+# Nobody may say more.
+MOST = 512
 
 Watch = Optional[Callable[[Any], None]]
 
 
 def jobs_for(text: Optional[Text], jobs: Optional[int]) -> int:
     """In how many parts a text is read at once: as many as are wanted, if it can be read from any byte on. If None are named, a
-    large one in as many parts as there are processors. Raises `ValueError` of a number below 1."""
-    if jobs is not None and jobs < 1:
-        raise ValueError(f"a text is read in 1 part or more at once, not in {jobs}")
+    large one in as many parts as there are processors, 16 at most. Raises `ValueError` of a number that isn't from 1 to 512."""
+    if jobs is not None and not 1 <= jobs <= MOST:
+        raise ValueError(f"a text is read in 1 to {MOST} parts at once, not in {jobs}")
     if text is None or text.size is None:
         return 1
     if jobs is None:
-        jobs = len(os.sched_getaffinity(0)) if text.size > LARGE else 1
+        jobs = min(len(os.sched_getaffinity(0)), USUAL) if text.size > LARGE else 1
     return jobs
 
 

@@ -463,7 +463,7 @@ def waits(trace: Union[Trace, Recording, Desk], *, lenient: bool = False, jobs: 
     A trace may be of any length: it is read in pieces, and only its waits are kept, 48 bytes of each. An open file or a pipe,
     which can't be read again, is kept in a temporary file for `source`. With `lenient`, lines that can't be read are left out.
     Of a file that isn't packed, `jobs` parts are read at once, each by a thread, and joined exactly; by default 1, or as many
-    as there are processors if it has more than 200 MB.
+    as there are processors, up to 16, if it has more than 200 MB.
     Of a recording that `read` has read, they are those of all that was asked for, also if a desk holds less. Of a trace whose
     events aren't in the order of time, a desk holds the events: no more than it has room for, which `remarks` of the answer
     says. A desk of yours is left as it was; events that you have struck are gone, so a wait that they began or ended is

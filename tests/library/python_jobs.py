@@ -218,14 +218,13 @@ class Refusals(unittest.TestCase):
             self.assertEqual(len(waits_of(text, 8)), 0)
 
     def test_numbers(self):
-        for jobs in (0, -1):
-            with self.assertRaisesRegex(ValueError, "1 part or more"):
+        for jobs in (0, -1, 513):
+            with self.assertRaisesRegex(ValueError, "in 1 to 512 parts at once"):
                 histdesk.waits(b"", jobs=jobs)
         text = _pieces.text_again(b"x" * 100)
-        with mock.patch.object(_parallel, "LARGE", 99), mock.patch.object(os, "sched_getaffinity", lambda _: range(3)):
-            self.assertEqual(
-                (_parallel.jobs_for(text, None), _parallel.jobs_for(text, 2), _parallel.jobs_for(None, 2)), (3, 2, 1)
-            )
+        with mock.patch.object(_parallel, "LARGE", 99), mock.patch.object(os, "sched_getaffinity", lambda _: range(30)):
+            found = [_parallel.jobs_for(*words) for words in ((text, None), (text, 2), (None, 2))]
+        self.assertEqual(found, [16, 2, 1])
         self.assertEqual(_parallel.jobs_for(text, None), 1)
 
     def test_failing(self):
@@ -263,10 +262,10 @@ class Tools(unittest.TestCase):
                 self.assertTrue(one.stdout)
 
     def test_words(self):
-        for word in ("0", "x", "-1"):
+        for word in ("0", "x", "-1", "513"):
             ran = self.ran("waits", f"--jobs={word}", os.devnull)
             self.assertEqual((ran.returncode, ran.stdout), (2, b""))
-            self.assertIn(b"it must be a number from 1 to 9999, not ", ran.stderr)
+            self.assertIn(b"it must be a number from 1 to 512, not ", ran.stderr)
 
 
 if __name__ == "__main__":

@@ -24,22 +24,12 @@ TOOLS = os.path.realpath(sys.argv[1])
 sys.path.insert(0, TOOLS)
 
 import turning_blocks
+from checks import check, end
 
 WORDS = [b"sched_waking:7:36:0:8,24,28,32,-1", b"sched_switch:9:64:8:8,24,28,32,40,56,60", b"states:255:256:1=S,2=D"]
 WAKING, SWITCH = b"sched:sched_waking", b"sched:sched_switch"
 # perf prints so of an event that is left to it.
 PRINTED = b"perf's own line\n"
-passed, failed = 0, 0
-
-
-def check(is_good: Any, what: str) -> None:
-    """Counts a thing that has to hold."""
-    global passed, failed
-    if is_good:
-        passed += 1
-    else:
-        failed += 1
-        print(what)
 
 
 class Sample(ctypes.Structure):
@@ -246,5 +236,4 @@ if len(sys.argv) > 2:
     run_child(sys.argv[2], *ast.literal_eval(sys.stdin.read()))
 else:
     main()
-    print(f"{passed} of {passed + failed} things hold")
-    sys.exit(failed > 0)
+    end()

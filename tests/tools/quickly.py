@@ -26,21 +26,11 @@ sys.path.insert(0, TOOLS)
 
 import event_formats
 import turning_blocks
+from checks import check, end
 from turning_told import Stop
 
 SCHED = [f"-esched:{name}" for name in event_formats.EVENTS]
 ROUNDS, LIMIT = 300, 100
-passed, failed = 0, 0
-
-
-def check(is_good: Any, what: str) -> None:
-    """Counts a thing that has to hold."""
-    global passed, failed
-    if is_good:
-        passed += 1
-    else:
-        failed += 1
-        print(what)
 
 
 # ---- formats
@@ -501,5 +491,4 @@ def main() -> None:
 
 
 main()
-print(f"{passed} of {passed + failed} things hold")
-sys.exit(failed > 0)
+end()

@@ -24,6 +24,7 @@ from typing import Any, Callable, Dict, List, NamedTuple, Tuple
 sys.dont_write_bytecode = True
 
 sys.path.insert(0, os.path.join(os.path.dirname(os.path.realpath(__file__)), "..", "model"))
+from checks import check, end
 from model_line import LineFault, read_line
 
 TOOLS = os.path.realpath(sys.argv[1])
@@ -36,17 +37,6 @@ BITS += [" next_pid=5", " prev_state=R", "=", "-", "7", " 12 [0", "CPU:1 [LOST "
 BITS += ["5 ", "\x1b[m", "\xe9\xff"]
 PLAIN = ["bash", "my app 2", "kworker/u8:1", "a-b", "<idle>", "x: y", "swapper"]
 EVENTS = ["sched_waking", "sched_wakeup", "sched_wakeup_new", "sched_switch", "irq_handler_entry"]
-passed, failed = 0, 0
-
-
-def check(is_good: Any, what: str) -> None:
-    """Counts a thing that has to hold."""
-    global passed, failed
-    if is_good:
-        passed += 1
-    else:
-        failed += 1
-        print(what)
 
 
 class Happened(NamedTuple):
@@ -408,5 +398,4 @@ check_kept(first)
 check_ahead(first)
 for seed, names in enumerate([["", "one"], ["one", "two", ""], ["a", "longer name: "], ["one"]], first):
     check_buffers(seed, names)
-print(f"{passed} of {passed + failed} things hold")
-sys.exit(failed > 0)
+end()

@@ -1,0 +1,22 @@
+"""Counts the things that hold, for tests of the converters."""
+
+import sys
+from typing import Any, NoReturn
+
+passed, failed = 0, 0
+
+
+def check(is_good: Any, what: str) -> None:
+    """Counts a thing that has to hold; what it is, if it doesn't."""
+    global passed, failed
+    if is_good:
+        passed += 1
+    else:
+        failed += 1
+        print(what)
+
+
+def end() -> NoReturn:
+    """Prints how many of how many things hold, and ends the program."""
+    print(f"{passed} of {passed + failed} things hold")
+    sys.exit(failed > 0)
