@@ -16,7 +16,7 @@ def check(is_good: Any, what: str) -> None:
         print(what)
 
 
-def end() -> NoReturn:
+def finish() -> NoReturn:
     """Prints how many of how many things hold, and ends the program."""
     print(f"{passed} of {passed + failed} things hold")
     sys.exit(failed > 0)

@@ -24,7 +24,7 @@ TOOLS = os.path.realpath(sys.argv[1])
 sys.path.insert(0, TOOLS)
 
 import turning_blocks
-from checks import check, end
+from checks import check, finish
 
 WORDS = [b"sched_waking:7:36:0:8,24,28,32,-1", b"sched_switch:9:64:8:8,24,28,32,40,56,60", b"states:255:256:1=S,2=D"]
 WAKING, SWITCH = b"sched:sched_waking", b"sched:sched_switch"
@@ -236,4 +236,4 @@ if len(sys.argv) > 2:
     run_child(sys.argv[2], *ast.literal_eval(sys.stdin.read()))
 else:
     main()
-    end()
+    finish()

@@ -16,7 +16,7 @@ import shutil
 import subprocess
 import sys
 import tempfile
-from typing import Any, Dict, List, NamedTuple, Tuple
+from typing import Dict, List, NamedTuple, Tuple
 
 # Nothing is written beside the sources.
 sys.dont_write_bytecode = True
@@ -26,7 +26,7 @@ sys.path.insert(0, TOOLS)
 
 import event_formats
 import turning_blocks
-from checks import check, end
+from checks import check, finish
 from turning_told import Stop
 
 SCHED = [f"-esched:{name}" for name in event_formats.EVENTS]
@@ -491,4 +491,4 @@ def main() -> None:
 
 
 main()
-end()
+finish()

@@ -24,7 +24,7 @@ from typing import Any, Callable, Dict, List, NamedTuple, Tuple
 sys.dont_write_bytecode = True
 
 sys.path.insert(0, os.path.join(os.path.dirname(os.path.realpath(__file__)), "..", "model"))
-from checks import check, end
+from checks import check, finish
 from model_line import LineFault, read_line
 
 TOOLS = os.path.realpath(sys.argv[1])
@@ -398,4 +398,4 @@ check_kept(first)
 check_ahead(first)
 for seed, names in enumerate([["", "one"], ["one", "two", ""], ["a", "longer name: "], ["one"]], first):
     check_buffers(seed, names)
-end()
+finish()
