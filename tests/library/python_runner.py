@@ -1,6 +1,7 @@
 """Runs the tests of a file of the Python package, and says how many hold: what those files have in common."""
 
 import collections
+import signal
 import sys
 import unittest
 
@@ -24,6 +25,8 @@ class Runner(unittest.TextTestRunner):
 def main(*modules):
     """Runs the tests of the program and of these modules, which its words may name alike. The lines at the end say how many
     tests were skipped, and why, and how many hold."""
+    # Who runs this in the background may have interrupts ignored, and programs that are begun here would too.
+    signal.signal(signal.SIGINT, signal.default_int_handler)
     program = sys.modules["__main__"]
     for module in modules:
         for name, thing in vars(module).items():
