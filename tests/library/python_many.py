@@ -36,7 +36,7 @@ import copies
 import histdesk
 import plain_waits
 import recordings
-from python_runner import Runner
+from python_runner import main
 
 # Neither is imported here, since each worker reads this file anew.
 with_numpy = unittest.skipUnless(importlib.util.find_spec("numpy"), "numpy is missing")
@@ -630,15 +630,6 @@ class ByDask(Alike):
 
 
 # ---- the test
-
-
-def main():
-    ran = unittest.main(exit=False, testRunner=Runner).result
-    for reason in sorted({reason for _, reason in ran.skipped}):
-        print(f"not tried: {reason}")
-    wrong = len(ran.failures) + len(ran.errors)
-    print(f"{ran.good} of {ran.good + wrong} tests hold")
-    return 1 if wrong else 0
 
 
 if __name__ == "__main__":
