@@ -2,6 +2,7 @@
 
 from __future__ import annotations
 
+import contextlib
 import os
 import re
 import shlex
@@ -9,6 +10,7 @@ from typing import Any, Iterator, Optional, Tuple
 
 from . import _source
 from ._lines import holds_event
+from ._pieces import Text
 
 # What another tool's recording begins with, and the first line of what it prints: what that is, and which tool turns it.
 RECORDED = {
@@ -42,6 +44,16 @@ def told_of(text: Any, path: Optional[str], front: str = "tools/") -> Optional[s
             return f"{name} is {what}; name its file instead"
         return f"{name} is {what}; {front}{converter}{given} >my.trace makes a trace of it"
     return None
+
+
+def check_kind(text: Text, path: Optional[str]) -> None:
+    """Raises `ValueError` if a text is another tool's recording, or what that printed. What can't be read says so later."""
+    front = b""
+    with contextlib.suppress(OSError):
+        front = text.read(0, FRONT_ROOM)
+    told = told_of(front, path)
+    if told:
+        raise ValueError(told)
 
 
 def is_packed(path: Optional[str]) -> bool:

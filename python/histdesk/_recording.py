@@ -8,6 +8,7 @@ from typing import TYPE_CHECKING, Any, Collection, Dict, List, NamedTuple, Optio
 
 from . import _layout
 from ._lines import bad_lines
+from ._kinds import check_kind
 from ._losses import Hole, Losses, LossWarning, losses_of, seconds
 from ._pieces import BufferText, Text, is_long, text_again
 from ._shown import counted
@@ -259,10 +260,13 @@ def read(
     room for its text; of lost events, `waits` and `many` warn then.
 
     `trace` is what `Desk.load` takes; a `Recording` is passed on. Raises `OSError` if it can't be read, `ImportError` if a part
-    is to be taken and there is no numpy, and `ValueError` if more events than a desk holds have one stamp."""
+    is to be taken and there is no numpy, and `ValueError` if more events than a desk holds have one stamp, or if it is a
+    recording of perf or trace-cmd; which tool converts it is told then."""
     if isinstance(trace, Recording):
         return trace
-    recording = read_text(path_of(trace), text_again(trace), Choice(start, until, cpus, events, spare), lenient)
+    path, text = path_of(trace), text_again(trace)
+    check_kind(text, path)
+    recording = read_text(path, text, Choice(start, until, cpus, events, spare), lenient)
     if recording._losses is not None:
         recording.is_told = True
         if recording.warning:

@@ -12,7 +12,7 @@ from ._counts import Counts, CountsRow
 from ._desk import Desk, Trace
 from ._library import library
 from ._losses import Hole, Losses, LossWarning, seconds
-from ._kinds import FRONT_ROOM, told_of
+from ._kinds import check_kind
 from ._layout import needed
 from ._pieces import KeptText, Text, is_read_once, pieces_of, text_again
 from ._recording import Choice, Recording, counted_from, path_of, read_whole
@@ -470,8 +470,8 @@ def waits(trace: Union[Trace, Recording, Desk], *, lenient: bool = False, jobs: 
     another one or none.
 
     If events were lost, it warns with `LossWarning`. Raises `Refused` for a line that can't be read, `OSError` for a file that
-    can't be, `ValueError` of a recording that holds only some CPUs, since tasks are woken from any, and `ImportError` if there
-    is no numpy.
+    can't be, `ValueError` of a recording of perf or trace-cmd, with the tool that converts it, and of a `Recording` that holds
+    only some CPUs, since tasks are woken from any, and `ImportError` if there is no numpy.
 
     >>> found = waits(b'''
     ... a-1 [0] 1.000100: sched_waking: comm=w pid=42 prio=120 target_cpu=000
@@ -555,13 +555,6 @@ def answer_of(
         if again:
             show_line(error, again)
         raise
-
-
-def check_kind(text: Text, path: Optional[str]) -> None:
-    """Raises `ValueError` if a text is another tool's recording, or what that printed."""
-    told = told_of(text.read(0, FRONT_ROOM), path)
-    if told:
-        raise ValueError(told)
 
 
 def seen(pieces: Iterator[Any], watch: Optional[Callable[[Any], None]], kept: Optional[KeptText]) -> Iterator[Any]:
