@@ -19,6 +19,7 @@ HERE = os.path.dirname(os.path.realpath(__file__))
 TOOLS = os.path.realpath(os.path.join(HERE, "..", "..", "tools"))
 sys.path[:0] = [os.path.realpath(os.path.join(HERE, "..", "..", "python")), os.path.join(HERE, "..", "model")]
 
+import histdesk
 import plain_waits
 import recordings
 from python_answers import with_numpy
@@ -129,6 +130,15 @@ class Tools(unittest.TestCase):
                 ran = self.ran("waits", "-", stdin=file)
             self.assertEqual((ran.returncode, ran.stdout), (2, b""))
             self.assertIn(b"; name its file instead\n", ran.stderr)
+
+    def test_package(self):
+        """The package names the tool."""
+        for path in self.recordings.values():
+            for call in (histdesk.waits, histdesk.read, histdesk.why):
+                with self.assertRaisesRegex(ValueError, f"^{path} is a recording of .*; tools/from-.* {path} >my.trace makes"):
+                    call(path, *[0, 1][: 2 * (call is histdesk.why)])
+            found = histdesk.many([path], histdesk.AskWaits(), processes=0, progress=False)
+            self.assertIn("makes a trace of it", found.failed[0].why)
 
     def test_reader_has_gone(self):
         """A tool whose output nobody reads ends quietly, and so does its converter."""
