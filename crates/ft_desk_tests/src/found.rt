@@ -107,7 +107,9 @@ fn where_events_stand(rt: HostRuntime) -> Result<(), Fail> {
 fn beginnings<B: Board>(alloc: Global, desk: &Desk<B>) -> Result<Vec<Option<Began>>, Refused> {
     let mut found = Vec::new(alloc);
     for dispatch in &desk.waits()? {
-        found.push(dispatch.since.waiting())?;
+        if found.push(dispatch.since.waiting()).is_err() {
+            return Err(Refused::Memory);
+        }
     }
     Ok(found)
 }
