@@ -108,7 +108,7 @@ def busy(why: Why, stretches: Sequence[Stretch]) -> List[str]:
     elif idle:
         told.append(f"{'It' if told else f'CPU {cpu}'} was idle for {share_told(why, idle)}.")
     if own:
-        told.append(f"For {share_told(why, own)} the task itself still ran: it was woken on its way to sleep.")
+        told.append(f"For {share_told(why, own)} the task itself {own_told(why, stretches)}.")
     lines = [" ".join(told)] if told else []
     if unknown:
         lines.append(f"What ran on CPU {cpu} for {share_told(why, unknown)} isn't known: {unknown_told(why, stretches)}.")
@@ -122,6 +122,13 @@ def idle_told(why: Why, cpu: int) -> str:
     return f"CPU {cpu} was idle all the while{', until the task was moved over' if cpu == why.cpu else ''}."
 
 
+def own_told(why: Why, stretches: Sequence[Stretch]) -> str:
+    """How the task that waits came to run meanwhile: it ran on, or a switch to it is missing, and it didn't wait so long."""
+    if stretches[0].pid == why.pid:
+        return "still ran: it was woken on its way to sleep"
+    return "ran, though no switch to it was recorded: this wait is too long, or false"
+
+
 def unknown_told(why: Why, stretches: Sequence[Stretch]) -> str:
     """Why it isn't known what ran on a CPU."""
     if stretches[0].cpu in why.untold:
@@ -130,7 +137,7 @@ def unknown_told(why: Why, stretches: Sequence[Stretch]) -> str:
         return "events of it were lost"
     if len(stretches) == 1:
         return "no event in the trace tells"
-    return "a switch is missing, though the trace tells of no loss"
+    return "a switch there was not recorded"
 
 
 def several(why: Why, cpu: int, others: Sequence[Share]) -> str:

@@ -240,6 +240,29 @@ class Kinds(unittest.TestCase):
             "For 2 us (13 %) the task itself still ran: it was woken on its way to sleep.",
         )
 
+    def test_ran_unseen(self):
+        """A kernel may record no switch from the idle task."""
+        why = told(
+            trace(
+                switch(0, 1000000, "z-3", "S", "swapper/0-0"),
+                waking("<idle>-0", 0, 1000010, "a", 10, 0),
+                waking("a-10", 0, 1000030, "b", 11, 1),
+                switch(0, 1000040, "a-10", "S", "x-5"),
+                switch(0, 1000060, "x-5", "S", "a-10"),
+            ),
+            0,
+            5,
+        )
+        self.assertEqual([(stretch.pid, stretch.micros) for stretch in why.stretches], [(None, 20), (10, 10), (5, 20)])
+        self.assertEqual(
+            lines_of(why)[1:3],
+            [
+                "x-5 ran on CPU 0 for 20 us (40 %), in 1 stretch. For 10 us (20 %) the task itself ran, though no switch to it "
+                "was recorded: this wait is too long, or false.",
+                "What ran on CPU 0 for 20 us (40 %) isn't known: a switch there was not recorded.",
+            ],
+        )
+
     def test_switch_that_ends_one_and_begins_another(self):
         text = trace(
             waking("<idle>-0", 0, 1000000, "a", 10, 1),
@@ -409,7 +432,7 @@ class Lost(unittest.TestCase):
             [(stretch.pid, stretch.micros) for stretch in why.stretches], [(10, 10), (11, 10), (None, 30), (12, 20)]
         )
         self.assertIn(
-            "What ran on CPU 1 for 30 us (43 %) isn't known: a switch is missing, though the trace tells of no loss.", str(why)
+            "What ran on CPU 1 for 30 us (43 %) isn't known: a switch there was not recorded.", str(why)
         )
 
     def test_still_waits(self):
