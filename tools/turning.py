@@ -60,6 +60,10 @@ class Form:
         """What the pattern finds in whole lines."""
         return self.pattern.findall(text)
 
+    def places(self, line):
+        """Of what places a turned line tells later lines something."""
+        return ()
+
     def plain(self, found):
         """What the pattern has found, as turned lines with line breaks. Odd lines give what empty groups give."""
         raise NotImplementedError
@@ -111,11 +115,26 @@ class Turner:
         self.odd = form.plain([(b"",) * form.pattern.groups])[0]
         # The lines that were turned last, and so many of those that are turned now.
         self.before, self.turned, self.at = [], [], 0
+        # Of the lines before those the last one of each place, the latest at the end.
+        self.kept = {}
 
     def earlier(self):
-        """The turned lines before the one that is turned now, backwards, as far as they are at hand."""
+        """The turned lines before the one that is turned now, backwards; of those from long before, the last ones that tell who
+        runs."""
         yield from reversed(self.turned[: self.at])
         yield from reversed(self.before)
+        yield from self.older()
+
+    def older(self):
+        """The lines from long before."""
+        return reversed(self.kept.values())
+
+    def keep(self):
+        """Keeps what tells who runs of the lines that were turned last."""
+        for line in self.before:
+            for place in self.form.places(line):
+                self.kept.pop(place, None)
+                self.kept[place] = line
 
     def turn(self, text, is_last):
         """Turns whole lines; and what of them has to be seen again with those that follow."""
@@ -139,7 +158,9 @@ class Turner:
                 end = at
                 break
         self.number += end
-        self.before = turned[:end] or self.before
+        if end:
+            self.keep()
+            self.before = turned[:end]
         return b"".join(turned[:end]), b"".join(parts[-1] + b"\n" for parts in found[end:])
 
     def turn_odd(self, found, turned, at, is_last):

@@ -139,14 +139,21 @@ class Memory:
 
 
 class Before:
-    """The lines of the last blocks, backwards; they are cut only when they are looked at."""
+    """The lines of the last blocks, backwards; they are cut only when they are looked at. If these are not all, a look behind
+    them raises `Unfit`."""
 
-    def __init__(self, blocks):
-        self.blocks = blocks
+    def __init__(self, blocks, are_all):
+        self.blocks, self.are_all = blocks, are_all
 
     def __reversed__(self):
         for block in reversed(self.blocks):
             yield from reversed(bytes(block).split(b"\n"))
+        if not self.are_all:
+            raise Unfit("a line from long before is looked for")
+
+    def __iter__(self):
+        # Nothing of them is kept: they are at hand, or not.
+        return iter(())
 
 
 class Taker:
@@ -156,7 +163,7 @@ class Taker:
         self.turner, self.sink, self.memory = turner, sink, memory
         # What waits: pairs of turned lines and their count, and what the tool printed between them.
         self.waiting, self.length = [], 0
-        self.blocks, self.size = collections.deque(), 0
+        self.blocks, self.size, self.are_all = collections.deque(), 0, True
         self.is_empty = True
 
     def take(self, what, text, lines):
@@ -203,7 +210,7 @@ class Taker:
 
     def turned(self, one):
         """What the tool has printed, turned line by line. Raises `Unfit`."""
-        self.turner.before = Before(self.blocks)
+        self.turner.before = Before(self.blocks, self.are_all)
         turned, rest = self.turner.turn(self.turner.form.prepared(one.printed), True)
         if rest:
             raise Unfit(f"{one.printed} is not turned")
@@ -220,6 +227,7 @@ class Taker:
         while self.blocks and self.size - len(self.blocks[0]) > KEPT:
             block = self.blocks.popleft()
             self.size -= len(block)
+            self.are_all = False
             if isinstance(block, memoryview):
                 self.memory.free()
 

@@ -282,6 +282,31 @@ def check_pieces(seed: int) -> None:
     check(traces[0] == traces[1] and traces[0].count(b"\n") == 300, "a text in small pieces is turned otherwise")
 
 
+def check_gone() -> None:
+    """An event of a task that is gone is of the task to which its CPU has switched, however long before that was; but not if
+    the CPU has lost events since."""
+
+    def line(task: str, thread: int, cpu: int, at: int, event: str) -> str:
+        return f"{task:>16} {thread:>7} [{cpu:03}] {1000 + at // 1000000:>5}.{at % 1000000:06}000: {event}"
+
+    def switch(cpu: int, at: int) -> str:
+        fields = f"prev_comm=a prev_pid=7 prev_prio=120 prev_state=S ==> next_comm=w{cpu} [000]  next_pid=4{cpu} next_prio=120"
+        return line("a", 7, cpu, at, f"sched:sched_switch: {fields}")
+
+    waking = "sched:sched_waking: comm=b pid=8 prio=120 target_cpu=000"
+    lost = "perf     0 [002]  1000.000003: PERF_RECORD_LOST lost 5"
+    # More than is turned at once, several times.
+    others = [line("other", 5, 1, 10 + at, waking) for at in range(20000)]
+    gone = [line(":-1", -1, cpu, 30000 + cpu, waking) for cpu in (2, 3)]
+    text = "\n".join([switch(2, 1), switch(3, 2), lost, *others, *gone, ""]).encode()
+    ran = subprocess.run(
+        [os.path.join(TOOLS, "from-perf")], input=text, stdout=subprocess.PIPE, stderr=subprocess.PIPE, check=False
+    )
+    last = lines_of(ran.stdout)[-1]
+    check(last.startswith("w3 [000] -43 [003] 1000.030003: sched_waking: comm=b"), f"a task that is gone is {last}")
+    check(b"line 20004: perf knows no task of this event" in ran.stderr, f"of a CPU with losses: {ran.stderr!r}")
+
+
 def check_kept(seed: int) -> None:
     """record's script looks once at lines that differ in digits alone, and finds what its pattern finds in each."""
     from kernel_text import Kernel
@@ -394,6 +419,7 @@ for seed, name in enumerate(FORMS, first):
     check_names(name, seed)
     check_foreign(name, seed)
 check_pieces(first)
+check_gone()
 check_kept(first)
 check_ahead(first)
 for seed, names in enumerate([["", "one"], ["one", "two", ""], ["a", "longer name: "], ["one"]], first):
