@@ -431,9 +431,7 @@ class Lost(unittest.TestCase):
         self.assertEqual(
             [(stretch.pid, stretch.micros) for stretch in why.stretches], [(10, 10), (11, 10), (None, 30), (12, 20)]
         )
-        self.assertIn(
-            "What ran on CPU 1 for 30 us (43 %) isn't known: a switch there was not recorded.", str(why)
-        )
+        self.assertIn("What ran on CPU 1 for 30 us (43 %) isn't known: a switch there was not recorded.", str(why))
 
     def test_still_waits(self):
         """No switch to it follows: it waits to the last event, wherever that is."""
