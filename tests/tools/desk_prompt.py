@@ -469,6 +469,8 @@ def holds(name, test, *words):
 
 
 def main():
+    # Who runs this in the background may have interrupts ignored, and the desk would too.
+    signal.signal(signal.SIGINT, signal.default_int_handler)
     tests = [(f"{os.path.basename(row)} from a pipe", row_from_a_pipe, row) for row in ROWS]
     typed = [row for row in ROWS if lines_to_type(row) is not None]
     tests += [(f"{os.path.basename(row)} on a terminal", row_on_a_terminal, row) for row in typed]
