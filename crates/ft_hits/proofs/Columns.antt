@@ -1,5 +1,5 @@
 -- Sums of values, as a hit is put in or taken out.
-use Rattle.std.proofs.Common.{◌≡◌, ℕ, ◌+◌, ◌%◌, ◌^◌, Bool, true, false, cond, List, [], ◌∷◌, refl, sym, ap, ◌∙◌, arith, Some, None, Option}
+use Rattle.std.proofs.Common.{◌≡◌, ℕ, zero, suc, ◌<◌, ◌+◌, ◌%◌, ◌^◌, Bool, true, false, cond, List, [], ◌∷◌, refl, sym, ap, ◌∙◌, arith, Some, None, Option}
 use Rattle.std.specs.List.{sum_by}
 use Rattle.std.specs.declared.cmp.Ordering.{Ordering}
 use Rattle.std.specs.declared.cmp.Ordering.TheVariants.{Less, Equal, Greater}
@@ -7,7 +7,7 @@ use Rattle.std.specs.Ordering.{is_eq, eq_by_cmp}
 use Rattle.std.specs.Cmp.{IsTotalOrder, eq_by_cmp_equiv}
 use Rattle.std.specs.Map.{values_of}
 use Rattle.std.specs.FinMap as map
-use Rattle.std.specs.FinMap.{FinMap, IsAntisymmetric, find, put, entries-insert, get-entries, get-insert, get-remove, same_map}
+use Rattle.std.specs.FinMap.{FinMap, IsAntisymmetric, find, put, empty_of_len, entries-insert, get-empty, get-entries, get-insert, get-remove, same_map}
 use Rattle.std.proofs.lemmas.List.Sums.{sum_by-cons}
 use Rattle.std.proofs.Math.Nat.{mod-add-mod}
 use Rattle.std.specs.Prelude.{ℤ}
@@ -50,6 +50,13 @@ module _ {K X : Type 0} {R : K → K → Ordering} (total : IsTotalOrder R) (sam
   sum-remove m k v is =
       ap (λ (n : FinMap R X). sum_by h (map.values n)) (sym (put_back m k v is))
       ∙ sum-insert (map.remove m k) k v (get-remove total m k k ∙ ap (λ b. cond b None (map.get m k)) ((eq_by_cmp_equiv total).refl k))
+
+-- a map that has something has entries
+pub some-len : {K X : Type 0} {R : K → K → Ordering} (m : FinMap R X) (k : K) (v : X) → map.get m k ≡ Some v → 0 < map.len m
+some-len {R = R} m k v is = at (map.len m) refl where
+  at : (n : ℕ) → map.len m ≡ n → 0 < n
+  at zero e = absurd (not_none v (map.get m k) is (ap (λ o. map.get o k) (empty_of_len m e) ∙ get-empty R k))
+  at (suc n) e = omega arith
 
 -- ---- the three sums of an entry
 

@@ -1,3 +1,4 @@
+pub mod Before
 pub mod Columns
 pub mod Flat
 mod Whole

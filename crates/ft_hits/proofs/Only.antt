@@ -3,15 +3,14 @@ use Rattle.std.proofs.Common.{◌≡◌, ℕ, ◌+◌, ◌%◌, ◌^◌, Bool, t
 use Rattle.std.specs.Prelude.{ℤ, is_some}
 use Rattle.std.specs.List.{filter, sum_by}
 use Rattle.std.specs.Map.{values_of}
-use Rattle.std.specs.declared.cmp.Ordering.TheVariants.{Less, Equal, Greater}
-use Rattle.std.specs.Ordering.{eq_by_cmp, is_lt, ordering_reverse}
+use Rattle.std.specs.Ordering.{eq_by_cmp}
 use Rattle.std.specs.FinMap as map
 use Rattle.std.specs.FinMap.{put, entries-insert, get-empty, get-insert, get-remove, len-entries, same_map}
 use Rattle.ft_hits.specs.declared.spot.Spot.{Spot}
 use Rattle.ft_hits.specs.Spots.{spot_cmp, spot_cmp_total, spot_same}
 use Rattle.ft_maps.specs.Entries.{entries-empty}
 use Rattle.ft_hits.specs.inner.Held.{only}
-use Rattle.ft_hits.specs.Hits.{EntryHits, least_key, first_with, first_entry, hits_after, is_after, unsigned_at, sums_of, column}
+use Rattle.ft_hits.specs.Hits.{least_key, first_entry, hits_after, is_after, unsigned_at, sums_of, column}
 use Rattle.ft_hits.proofs.Columns.{column-more}
 use Rattle.ft_hits.proofs.Flat.{is_equal}
 
@@ -84,16 +83,3 @@ still hit spot q false apart tie = refl
 -- and from nowhere else
 pub remove-beside : (hit : Spot × List ℤ) (spot : Spot) → eq_by_cmp spot_cmp spot hit.0 ≡ false → map.remove (only hit) spot ≡ only hit
 remove-beside hit spot apart = same_map spot_cmp_total spot_same _ _ (λ q. get-remove spot_cmp_total (only hit) spot q ∙ still hit spot q (eq_by_cmp spot_cmp q spot) apart refl)
-
--- the first place of a list, as one is put in
-first-put : (p : Spot) (v : List ℤ) (es : List (Spot × List ℤ)) → least_key (put spot_cmp p v es) ≡ first_with (least_key es) p
-first-put p v [] = refl
-first-put p v (e ∷ es) =
-    elim (spot_cmp p e.0) as (λ o. spot_cmp p e.0 ≡ o → least_key (map.Entries.by_order o ((p, v) ∷ e ∷ es) ((e.0, v) ∷ es) (e ∷ put spot_cmp p v es)) ≡ first_with (Some e.0) p) [
-      | Less ↦ λ at. sym (ap (λ o. cond (is_lt o) (Some e.0) (Some p)) (spot_cmp_total.antisymm e.0 p ∙ ap ordering_reverse at))
-      | Equal ↦ λ at. ap (λ (q : Spot). Some q) (sym (spot_same p e.0 at)) ∙ sym (ap (λ o. cond (is_lt o) (Some e.0) (Some p)) (spot_cmp_total.antisymm e.0 p ∙ ap ordering_reverse at))
-      | Greater ↦ λ at. sym (ap (λ o. cond (is_lt o) (Some e.0) (Some p)) (spot_cmp_total.antisymm e.0 p ∙ ap ordering_reverse at))
-    ] refl
-
-pub first-insert : (hits : EntryHits) (p : Spot) (v : List ℤ) → least_key (map.entries (map.insert hits p v)) ≡ first_with (least_key (map.entries hits)) p
-first-insert hits p v = ap least_key (entries-insert spot_cmp_total hits p v) ∙ first-put p v (map.entries hits)

@@ -1,30 +1,26 @@
 -- Runs: all hits of a key, by spot.
 use Rattle.std.proofs.Common.{◌≡◌, ℕ, ◌+◌, ◌%◌, ◌^◌, ◌<◌, ◌≤◌, Bool, true, false, cond, List, [], ◌∷◌, length, drop, get_or, add-one, drop-cons, refl, sym, ap, ◌∙◌, arith, Some, None, Option}
-use Rattle.std.specs.Prelude.{ℤ, ◌&&◌, is_some}
-use Rattle.std.specs.List.{AllByRecursion, sum_by}
-use Rattle.std.specs.List.Sorted.{IsStrictlySortedBy}
+use Rattle.std.specs.Prelude.{ℤ, ◌&&◌, is_some, if◌then◌else◌}
+use Rattle.std.specs.List.{filter, sum_by}
 use Rattle.std.specs.Option.{option_or}
 use Rattle.std.specs.declared.cmp.Ordering.{Ordering}
 use Rattle.std.specs.declared.cmp.Ordering.TheVariants.{Less, Equal, Greater}
 use Rattle.std.specs.Ordering.{is_lt, eq_by_cmp}
-use Rattle.std.specs.Cmp.{eq_by_cmp_equiv}
-use Rattle.std.specs.Map.{keys_of, values_of}
-use Rattle.std.specs.BTreeMap as tree
-use Rattle.std.specs.BTreeMap.{BTreeMap}
+use Rattle.std.specs.Map.{values_of}
 use Rattle.std.specs.FinMap as map
-use Rattle.std.specs.FinMap.{find, get-empty, get-from_entries, get-insert, same_map}
+use Rattle.std.specs.FinMap.{find, get-empty, get-from_entries, get-insert, len-entries, same_map}
 use Rattle.std.proofs.Math.Nat.{mod-add-mod}
 use Rattle.std.proofs.lemmas.Grind.{common_steps}
 use Rattle.std.proofs.lemmas.List.Sums.{sum_by-cons}
-use Rattle.std.proofs.lemmas.Map.Made.{update_all_none}
-use Rattle.std.proofs.lemmas.Map.Keys.{IsDistinct-from_sorted}
+use Rattle.std.proofs.lemmas.Option.{none-some}
 use Rattle.std.proofs.option.Match.{None-if_not_some}
 use Rattle.std.proofs.lemmas.Bool.{and_parts}
-use Rattle.ft_maps.specs.Entries.{entries-from_entries}
-use Rattle.ft_maps.specs.Seen.{seen, find-lookup, seen-from_get}
+use Rattle.ft_blocks.specs.Sorted as blocks
+use Rattle.ft_blocks.specs.Sorted.{AllAbove, Ascend, first_above}
+use Rattle.ft_blocks.specs.Seen.{entries-ascend}
 use Rattle.ft_hits.specs.declared.spot.Spot.{Spot}
 use Rattle.ft_hits.specs.Spots.{spot_cmp, spot_cmp_total, spot_same}
-use Rattle.ft_hits.specs.Hits.{EntryHits, least_key, is_after, unsigned_at, column, sums_of}
+use Rattle.ft_hits.specs.Hits.{EntryHits, least_key, first_entry, hits_after, is_after, unsigned_at, column, sums_of}
 use Rattle.ft_hits.specs.inner.Held.{only}
 use Rattle.ft_hits.proofs.Flat.{is_equal}
 
@@ -52,22 +48,21 @@ and_first : (a b : Bool) → (a && b) ≡ true → a ≡ true
 and_first true b e = refl
 and_first false b e = e
 
-below_all : (a b : Spot) (qs : List Spot) → spot_cmp a b ≡ Less → AllByRecursion (λ q. spot_cmp b q ≡ Less) qs → AllByRecursion (λ q. spot_cmp a q ≡ Less) qs
-below_all a b [] lt h = tt
-below_all a b (q ∷ qs) lt h = (spot_cmp_total.trans a b q lt h.0, below_all a b qs lt h.1)
+above_all : (a b : Spot) (es : List (Spot × List ℤ)) → spot_cmp a b ≡ Less → AllAbove spot_cmp b es → AllAbove spot_cmp a es
+above_all a b [] lt h = tt
+above_all a b (e ∷ es) lt h = (spot_cmp_total.trans a b e.0 lt h.0, above_all a b es lt h.1)
 
-all_behind : (a : Spot) (es : List (Spot × List ℤ)) → rises (Some a) es ≡ true → AllByRecursion (λ q. spot_cmp a q ≡ Less) (keys_of es)
+all_behind : (a : Spot) (es : List (Spot × List ℤ)) → rises (Some a) es ≡ true → AllAbove spot_cmp a es
 all_behind a [] h = tt
 all_behind a (e ∷ es) h =
     let lt : spot_cmp a e.0 ≡ Less = is_less _ (and_first (is_lt (spot_cmp a e.0)) (rises (Some e.0) es) h) in
-    (lt, below_all a e.0 (keys_of es) lt (all_behind e.0 es ((and_parts (is_lt (spot_cmp a e.0)) (rises (Some e.0) es) h).1)))
+    (lt, above_all a e.0 es lt (all_behind e.0 es ((and_parts (is_lt (spot_cmp a e.0)) (rises (Some e.0) es) h).1)))
 
-pub rises-sorted : (before : Option Spot) (es : List (Spot × List ℤ)) → rises before es ≡ true → IsStrictlySortedBy spot_cmp (keys_of es)
-unfolding IsStrictlySortedBy
-rises-sorted before [] h = tt
-rises-sorted before (e ∷ es) h =
+pub rises-ascend : (before : Option Spot) (es : List (Spot × List ℤ)) → rises before es ≡ true → Ascend spot_cmp es
+rises-ascend before [] h = tt
+rises-ascend before (e ∷ es) h =
     let rest = (and_parts (is_after before e.0) (rises (Some e.0) es) h).1 in
-    (all_behind e.0 es rest, rises-sorted (Some e.0) es rest)
+    (all_behind e.0 es rest, rises-ascend (Some e.0) es rest)
 
 -- ---- their sums
 
@@ -104,21 +99,53 @@ all_sums a b d (e ∷ es) =
       at j n = one_more (2 ^ 64) n (unsigned_at j e.1) (total j es) (total j (e ∷ es)) (sum_by-cons (unsigned_at j) e.1 (values_of es))
 
 -- where spots ascend, they are those of the map
-pub sums-run : (run : List (Spot × List ℤ)) → IsStrictlySortedBy spot_cmp (keys_of run) → sums_behind (0 ∷ 0 ∷ 0 ∷ []) run ≡ sums_of (map.from_entries run)
-sums-run run sorted = all_sums 0 0 0 run ∙ (λ i. at 0 i ∷ at 1 i ∷ at 2 i ∷ []) where
+pub sums-run : (run : List (Spot × List ℤ)) → Ascend spot_cmp run → sums_behind (0 ∷ 0 ∷ 0 ∷ []) run ≡ sums_of (map.from_entries run)
+sums-run run up = all_sums 0 0 0 run ∙ (λ i. at 0 i ∷ at 1 i ∷ at 2 i ∷ []) where
   at : (j : ℕ) → (0 + total j run) % 2 ^ 64 ≡ column j (map.from_entries run)
-  at j = ap (λ n. n % 2 ^ 64) (from_none (total j run)) ∙ ap (λ (es : List (Spot × List ℤ)). total j es % 2 ^ 64) (sym (entries-from_entries spot_cmp_total run sorted))
+  at j = ap (λ n. n % 2 ^ 64) (from_none (total j run)) ∙ ap (λ (es : List (Spot × List ℤ)). total j es % 2 ^ 64) (sym (entries-ascend spot_cmp_total run up))
 
--- and so is the first
-pub first-run : (run : List (Spot × List ℤ)) → IsStrictlySortedBy spot_cmp (keys_of run) → least_key run ≡ least_key (map.entries (map.from_entries {R = spot_cmp} run))
-first-run run sorted = ap least_key (sym (entries-from_entries spot_cmp_total run sorted))
+-- ---- entries in order, as a map
 
--- what `collect` makes of it is seen as the map
-pub seen-run : (run : List (Spot × List ℤ)) (hits : BTreeMap Spot (List ℤ)) → IsStrictlySortedBy spot_cmp (keys_of run) → tree.IsFromIterResult spot_cmp run hits → seen spot_cmp hits ≡ map.from_entries run
-seen-run run hits sorted made = seen-from_get spot_cmp_total spot_same hits _ (λ q.
-    made.0 q
-    ∙ update_all_none (eq_by_cmp_equiv spot_cmp_total) (eq_by_cmp spot_cmp) (λ x y. refl) run q (IsDistinct-from_sorted spot_cmp (keys_of run) sorted)
-    ∙ sym (get-from_entries spot_cmp_total run q ∙ find-lookup spot_cmp q run))
+-- the first of them is the map's
+pub first-ascend : (es : List (Spot × List ℤ)) → Ascend spot_cmp es → least_key (map.entries (map.from_entries {R = spot_cmp} es)) ≡ least_key es
+first-ascend es up = ap least_key (entries-ascend spot_cmp_total es up)
+
+-- and so is how many they are
+pub len-ascend : (es : List (Spot × List ℤ)) → Ascend spot_cmp es → map.len (map.from_entries {R = spot_cmp} es) ≡ length es
+len-ascend es up = len-entries (map.from_entries es) ∙ ap length (entries-ascend spot_cmp_total es up)
+
+found_first : (b : Bool) (e : Spot × List ℤ) (o : Option (Spot × List ℤ)) (es : List (Spot × List ℤ)) → o ≡ first_entry es → (if b then Some e else o) ≡ first_entry (cond b (e ∷ es) es)
+found_first true e o es is = refl
+found_first false e o es is = is
+
+first_behind : (spot : Spot) (es : List (Spot × List ℤ)) → first_above spot_cmp spot es ≡ first_entry (filter (λ e. is_after (Some spot) e.0) es)
+first_behind spot [] = refl
+first_behind spot (e ∷ es) = found_first (is_lt (spot_cmp spot e.0)) e (first_above spot_cmp spot es) _ (first_behind spot es)
+
+-- the first above a spot is the first after it
+pub after-ascend : (spot : Spot) (es : List (Spot × List ℤ)) → Ascend spot_cmp es → first_above spot_cmp spot es ≡ first_entry (hits_after (Some spot) (map.from_entries es))
+after-ascend spot es up = first_behind spot es ∙ ap (λ l. first_entry (filter (λ e. is_after (Some spot) e.0) l)) (sym (entries-ascend spot_cmp_total es up))
+
+every : (es : List (Spot × List ℤ)) → filter (λ e. is_after None e.0) es ≡ es
+every [] = refl
+every (e ∷ es) = ap (λ (l : List (Spot × List ℤ)). e ∷ l) (every es)
+
+first_same : (es : List (Spot × List ℤ)) → blocks.first_entry es ≡ first_entry es
+first_same [] = refl
+first_same (e ∷ es) = refl
+
+pub all-ascend : (es : List (Spot × List ℤ)) → Ascend spot_cmp es → blocks.first_entry es ≡ first_entry (hits_after None (map.from_entries es))
+all-ascend es up = first_same es ∙ ap first_entry (sym (every es)) ∙ ap (λ l. first_entry (filter (λ e. is_after None e.0) l)) (sym (entries-ascend spot_cmp_total es up))
+
+least_first : (es : List (Spot × List ℤ)) (o : Option (Spot × List ℤ)) → o ≡ blocks.first_entry es → (o ≡ None → least_key es ≡ None) × ((e : Spot × List ℤ) → o ≡ Some e → least_key es ≡ Some e.0)
+least_first [] o is = (λ n. refl, λ e at. absurd (none-some e (sym is ∙ at)))
+least_first (x ∷ es) o is = (λ n. absurd (none-some x (sym n ∙ is)), λ e at. let same : Some x ≡ Some e = sym is ∙ at in cc)
+
+pub least-none : (es : List (Spot × List ℤ)) → Ascend spot_cmp es → None ≡ blocks.first_entry es → None ≡ least_key (map.entries (map.from_entries {R = spot_cmp} es))
+least-none es up is = sym (first-ascend es up ∙ (least_first es None is).0 refl)
+
+pub least-some : (es : List (Spot × List ℤ)) (e : Spot × List ℤ) → Ascend spot_cmp es → Some e ≡ blocks.first_entry es → Some e.0 ≡ least_key (map.entries (map.from_entries {R = spot_cmp} es))
+least-some es e up is = sym (first-ascend es up ∙ (least_first es (Some e) is).1 e refl)
 
 -- ---- in any order: the hits so far, and after them the rest
 

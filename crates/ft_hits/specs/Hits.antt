@@ -1,5 +1,5 @@
 -- Hits: values by spot and key.
-use Rattle.std.specs.Prelude.{◌≡◌, ℕ, ◌%◌, ◌^◌, ℤ, pos, Bool, true, List, [], ◌∷◌, Option, Some, None, option_map, map as list_map, slice_index_or, if◌then◌else◌}
+use Rattle.std.specs.Prelude.{◌≡◌, ℕ, ◌%◌, ◌^◌, ℤ, pos, Bool, true, List, [], ◌∷◌, Option, Some, None, option_map, map as list_map, slice_index_or}
 use Rattle.std.specs.List.{filter, sum_by}
 use Rattle.std.specs.Int.{w64, cast_unsigned}
 use Rattle.std.specs.Ordering.{is_lt}
@@ -53,11 +53,6 @@ least_key (e ∷ es) = Some e.0
 -- the spot of a key's first hit
 abbrev pub first_place : Hits → List Part → Option Spot
 first_place hits key = least_key (map.entries (hits_of hits key))
-
--- the first of spots, as another comes
-abbrev pub first_with : Option Spot → Spot → Option Spot
-first_with None p = Some p
-first_with (Some f) p = if is_lt (spot_cmp f p) then Some f else Some p
 
 -- the first of a list
 abbrev pub first_entry : {X : Type 0} → List X → Option X

@@ -26,7 +26,7 @@ use std::collections::BTreeMap;
 use std::marker::Model;
 
 /// The hits of one key, by spot, with the sums of their values modulo 2^64. One hit stands in the
-/// entry itself, so that a key of one hit needs no tree.
+/// entry itself, so that a key of one hit needs no blocks.
 ///
 /// Contracts see the hits alone.
 #[derive(Drop)]
@@ -75,8 +75,8 @@ fn two_hits(
     ensures { IfOk result (λ hits. hits ≡ map.insert (only first) second.0 second.1) }
 {
     let mut series = Series::new(alloc);
-    series.insert(first.0, first.1)?;
-    series.insert(second.0, second.1)?;
+    series.insert(alloc, first.0, first.1)?;
+    series.insert(alloc, second.0, second.1)?;
     Ok(series)
 }
 
@@ -164,7 +164,7 @@ impl Entry {
                 self.held = Held::Many(series);
                 Ok(())
             }
-            Held::Many(series) => series.insert(spot, values),
+            Held::Many(series) => series.insert(alloc, spot, values),
         }
     }
 
@@ -182,14 +182,19 @@ impl Entry {
         ensures first { IfOk result (λ first. IfSome first (λ at.
             least_key (map.entries self.old) ≡ Some at)) }
         ensures behind { IfOk result (λ first. IfSome first (λ at. spot_cmp at spot ≡ Less)) }
+        ensures before { IfOk result (λ first. first ≡ None → (at : Spot)
+            → least_key (map.entries self.old) ≡ Some at → spot_cmp spot at ≡ Less) }
         ensures err { OnErr result (self.new ≡ self.old) }
     {
         match self.first() {
-            Some(first) if first < spot => {
-                self.insert(alloc, spot, values)?;
-                Ok(Some(first))
+            None => Ok(None),
+            Some(first) => {
+                if first < spot {
+                    self.insert(alloc, spot, values)?;
+                    return Ok(Some(first));
+                }
+                Ok(None)
             }
-            _ => Ok(None),
         }
     }
 
@@ -300,6 +305,8 @@ pub(crate) fn put_behind(
     ensures first { IfOk result (λ first. IfSome first (λ at.
         first_place (hits_in by_key.old) hit.now.key ≡ Some at)) }
     ensures behind { IfOk result (λ first. IfSome first (λ at. spot_cmp at hit.now.spot ≡ Less)) }
+    ensures before { IfOk result (λ first. first ≡ None → (at : Spot)
+        → first_place (hits_in by_key.old) hit.now.key ≡ Some at → spot_cmp hit.now.spot at ≡ Less) }
     ensures err { OnErr result (hits_in by_key.new ≡ hits_in by_key.old) }
 {
     match by_key.get_mut(&hit.key) {

@@ -1,6 +1,7 @@
 //! All hits of a table, found by their keys.
 
-ghost use Rattle.std.specs.Prelude.{◌≡◌, OnOk, OnErr, IfOk, IfSome, MatchOption};
+ghost use Rattle.std.specs.Prelude.{◌≡◌, OnOk, OnErr, IfOk, IfSome, MatchOption, None, Some};
+ghost use Rattle.ft_hits.specs.declared.spot.Spot.{Spot};
 ghost use Rattle.std.specs.declared.cmp.Ordering.TheVariants.{Less};
 ghost use Rattle.std.specs.FinMap as map;
 ghost use Rattle.ft_hits.specs.Hits.{TakesHits, first_place, hit_after, hitcount, hits_of, sums_of};
@@ -93,6 +94,8 @@ impl HitIndex {
         ensures first { IfOk result (λ first. IfSome first (λ at.
             first_place self.old hit.now.key ≡ Some at)) }
         ensures behind { IfOk result (λ first. IfSome first (λ at. spot_cmp at hit.now.spot ≡ Less)) }
+        ensures before { IfOk result (λ first. first ≡ None → (at : Spot)
+            → first_place self.old hit.now.key ≡ Some at → spot_cmp hit.now.spot at ≡ Less) }
         ensures err { OnErr result (self.new ≡ self.old) }
     {
         put_behind(alloc, &mut self.by_key, hit)

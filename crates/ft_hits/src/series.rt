@@ -3,47 +3,46 @@
 ghost use Rattle.std.specs.Prelude.{◌≡◌, ℕ, ◌+◌, ◌%◌, ◌<◌, ◌^◌, OnOk, OnErr, IfOk, IfSome, None};
 ghost use Rattle.std.specs.Int.{w64, cast_unsigned};
 ghost use Rattle.std.specs.FinMap as map;
-ghost use Rattle.std.specs.List.Sorted.{IsStrictlySortedBy};
-ghost use Rattle.std.specs.Map.{keys_of};
+ghost use Rattle.ft_blocks.specs.Sorted.{Ascend};
 ghost use Rattle.ft_hits.specs.Spots.{spot_cmp};
-ghost use Rattle.ft_maps.specs.Seen.{seen};
-ghost use Rattle.ft_hits.specs.Hits.{sums_of, least_key, first_with, first_entry, hits_after, is_after};
+ghost use Rattle.ft_hits.specs.Hits.{sums_of, least_key, first_entry, hits_after, is_after};
 
 use crate::spot::Spot;
+use ft_blocks::Blocks;
 use std::alloc::{AllocError, Global};
-use std::collections::BTreeMap;
 use std::marker::Model;
-use std::ops::Bound;
 
-/// The hits of one key in a tree, by spot, with the sums of their values modulo 2^64 and the spot
-/// of the first, for which a way down the tree would be dear.
+/// How many hits a key has at most.
+const MOST: usize = usize::MAX / 2;
+
+/// The hits of one key in blocks, by spot, with how many they are and the sums of their values
+/// modulo 2^64.
 ///
 /// Contracts see the hits alone.
 #[derive(Drop)]
 pub(crate) struct Series {
-    hits: BTreeMap<Spot, [i64; 3]>,
+    hits: Blocks<Spot, [i64; 3]>,
+    count: usize,
     sums: [u64; 3],
-    first: Option<Spot>,
 }
 
 impl Model for Series {
+    ghost use Rattle.std.specs.FinMap as map;
     ghost use Rattle.ft_hits.specs.Spots.{spot_cmp};
     ghost use Rattle.ft_hits.specs.Hits.{EntryHits};
-    ghost use Rattle.ft_maps.specs.Seen.{seen};
     ghost use Rattle.ft_hits.specs.Codes.{entry_code};
 
     ghost Value = { EntryHits };
 
     ghost coded = { entry_code };
 
-    ghost view = { λ e. seen spot_cmp e.hits };
+    ghost view = { λ e. map.from_entries e.hits };
 
-    ghost use Rattle.std.specs.Prelude.{◌≡◌};
-    ghost use Rattle.std.specs.FinMap as map;
-    ghost use Rattle.ft_hits.specs.Hits.{sums_of, least_key};
+    ghost use Rattle.std.specs.Prelude.{◌≡◌, ◌<◌, ◌^◌};
+    ghost use Rattle.ft_hits.specs.Hits.{sums_of};
 
-    ghost invariant = { λ e. (e.sums ≡ sums_of (seen spot_cmp e.hits))
-        × (e.first ≡ least_key (map.entries (seen spot_cmp e.hits))) };
+    ghost invariant = { λ e. (e.sums ≡ sums_of (map.from_entries e.hits))
+        × (e.count ≡ map.len (map.from_entries {R = spot_cmp} e.hits)) × (e.count < 2 ^ 63) };
 }
 
 /// A sum and a value, modulo 2^64.
@@ -71,33 +70,9 @@ pub(crate) fn is_after(place: Option<Spot>, spot: Spot) -> bool
     }
 }
 
-/// The first of spots, as another comes.
-fn first_with(first: Option<Spot>, spot: Spot) -> Option<Spot>
-    ensures { result ≡ first_with first spot }
-{
-    match first {
-        Some(before) if before < spot => Some(before),
-        _ => Some(spot),
-    }
-}
-
-/// The first spot in a tree.
-fn least(hits: &BTreeMap<Spot, [i64; 3]>) -> Option<Spot>
-    ensures { result ≡ least_key (map.entries (seen spot_cmp hits.now)) }
-{
-    if hits.len() == 0 {
-        return None;
-    }
-    match hits.first_key_value() {
-        Some((spot, _)) => Some(*spot),
-        // A tree that isn't empty has a first spot.
-        None => None,
-    }
-}
-
 /// The sums of the values of a run whose spots ascend, and none of another.
 fn sums_of_run(run: &[(Spot, [i64; 3])]) -> Option<[u64; 3]>
-    ensures rise { IfSome result (λ _. IsStrictlySortedBy spot_cmp (keys_of run.now)) }
+    ensures rise { IfSome result (λ _. Ascend spot_cmp run.now) }
     ensures sums { IfSome result (λ sums. sums ≡ sums_of (map.from_entries run.now)) }
 {
     let mut sums = [0, 0, 0];
@@ -116,27 +91,6 @@ fn sums_of_run(run: &[(Spot, [i64; 3])]) -> Option<[u64; 3]>
     Some(sums)
 }
 
-/// The spot of a run's first hit.
-fn first_of(run: &[(Spot, [i64; 3])]) -> Option<Spot>
-    ensures { result ≡ least_key run.now }
-{
-    match run.first() {
-        Some(hit) => Some(hit.0),
-        None => None,
-    }
-}
-
-/// The tree of a run whose spots ascend. Refused for memory.
-fn collected(
-    alloc: Global,
-    run: Vec<(Spot, [i64; 3])>,
-) -> Result<BTreeMap<Spot, [i64; 3]>, AllocError>
-    requires { IsStrictlySortedBy spot_cmp (keys_of run.items) }
-    ensures { IfOk result (λ hits. seen spot_cmp hits ≡ map.from_entries run.items) }
-{
-    run.into_iter().collect(alloc)
-}
-
 /// The hits of a run in any order, of those at one spot the first. Refused for memory.
 fn one_by_one(alloc: Global, run: &[(Spot, [i64; 3])]) -> Result<Series, AllocError>
     ensures { IfOk result (λ hits. hits ≡ map.from_entries run.now) }
@@ -144,7 +98,7 @@ fn one_by_one(alloc: Global, run: &[(Spot, [i64; 3])]) -> Result<Series, AllocEr
     let mut series = Series::new(alloc);
     for hit in run {
         if !series.contains(hit.0) {
-            series.insert(hit.0, hit.1)?;
+            series.insert(alloc, hit.0, hit.1)?;
         }
     }
     Ok(series)
@@ -156,23 +110,23 @@ impl Series {
         ensures { result ≡ map.empty }
     {
         Series {
-            hits: BTreeMap::new(alloc),
+            hits: Blocks::new(alloc),
+            count: 0,
             sums: [0, 0, 0],
-            first: None,
         }
     }
 
     /// The hits of a run, of those at one spot the first. Refused for memory.
     ///
-    /// A run whose spots ascend is made a tree at once.
+    /// A run whose spots ascend is cut up as it stands.
     pub(crate) fn of(alloc: Global, run: Vec<(Spot, [i64; 3])>) -> Result<Series, AllocError>
         ensures { IfOk result (λ hits. hits ≡ map.from_entries run.items) }
     {
         match sums_of_run(&run) {
             Some(sums) => {
-                let first = first_of(&run);
-                let hits = collected(alloc, run)?;
-                Ok(Series { hits, sums, first })
+                let count = run.len();
+                let hits = Blocks::of(alloc, run)?;
+                Ok(Series { hits, count, sums })
             }
             None => one_by_one(alloc, &run),
         }
@@ -183,38 +137,46 @@ impl Series {
         ensures len { result ≡ map.len self.now }
         ensures small { result < 2 ^ 63 }
     {
-        self.hits.len()
+        self.count
     }
 
     /// The spot of its first hit.
     pub(crate) fn first(&self) -> Option<Spot>
         ensures { result ≡ least_key (map.entries self.now) }
     {
-        self.first
+        match self.hits.first() {
+            None => None,
+            Some((spot, _)) => Some(spot),
+        }
     }
 
     /// Its first hit after a spot, or its first.
     pub(crate) fn after(&self, place: Option<Spot>) -> Option<(Spot, [i64; 3])>
         ensures { result ≡ first_entry (hits_after place self.now) }
     {
-        let from = match place {
-            None => Bound::Unbounded,
-            Some(spot) => Bound::Excluded(spot),
-        };
-        match self.hits.range((from, Bound::Unbounded)).next() {
-            Some((spot, values)) => Some((*spot, *values)),
-            None => None,
+        match place {
+            None => self.hits.first(),
+            Some(spot) => self.hits.after(&spot),
         }
     }
 
     /// Puts a hit at a spot. Refused for memory, and then it is as it was.
-    pub(crate) fn insert(&mut self, spot: Spot, values: [i64; 3]) -> Result<(), AllocError>
+    pub(crate) fn insert(
+        &mut self,
+        alloc: Global,
+        spot: Spot,
+        values: [i64; 3],
+    ) -> Result<(), AllocError>
         requires { map.get self.old spot ≡ None }
         ensures ok { OnOk result (self.new ≡ map.insert self.old spot values) }
         ensures err { OnErr result (self.new ≡ self.old) }
     {
-        self.hits.insert(spot, values)?;
-        self.first = first_with(self.first, spot);
+        // There is no memory for so many.
+        if self.count >= MOST {
+            return Err(AllocError);
+        }
+        self.hits.insert(alloc, spot, values)?;
+        self.count += 1;
         self.sums = [
             added(self.sums[0], values[0]),
             added(self.sums[1], values[1]),
@@ -234,7 +196,7 @@ impl Series {
     pub(crate) fn contains(&self, spot: Spot) -> bool
         ensures { result ≡ map.contains_key self.now spot }
     {
-        self.hits.contains_key(&spot)
+        self.hits.get(&spot).is_some()
     }
 
     /// Takes the hit at a spot.
@@ -245,7 +207,7 @@ impl Series {
         match self.hits.remove(&spot) {
             None => false,
             Some(values) => {
-                self.first = least(&self.hits);
+                self.count -= 1;
                 self.sums = [
                     taken(self.sums[0], values[0]),
                     taken(self.sums[1], values[1]),

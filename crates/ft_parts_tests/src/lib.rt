@@ -3,6 +3,8 @@
 #![tactic(auto)]
 
 #[cfg(test)]
+mod blocks;
+#[cfg(test)]
 mod event;
 #[cfg(test)]
 mod files;
@@ -12,6 +14,8 @@ mod filter;
 mod glob;
 #[cfg(test)]
 mod hist;
+#[cfg(test)]
+mod hits;
 #[cfg(test)]
 mod holds;
 #[cfg(test)]

@@ -10,7 +10,7 @@ use Rattle.ft_hits.specs.Hits.{EntryHits}
 abbrev pub only : Spot × List ℤ → EntryHits
 only hit = map.insert map.empty hit.0 hit.1
 
--- none, one, or those of a tree
+-- none, one, or those of a series
 abbrev pub hits_held : Held → EntryHits
 hits_held Nothing = map.empty
 hits_held (One hit) = only hit

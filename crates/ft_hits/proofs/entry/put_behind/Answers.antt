@@ -1,7 +1,10 @@
 -- The entry that `get_mut` finds is the one that the finite map has.
 use Rattle.std.proofs.Common.{◌≡◌, sym, ◌∙◌, ap, unwrap_or, Some, None, Option}
-use Rattle.std.specs.Prelude.{option_and_then, IfSome, MatchOption}
+use Rattle.ft_maps.specs.Entries.{entries-empty}
+use Rattle.ft_hits.specs.Spots.{spot_cmp}
+use Rattle.std.specs.Prelude.{List, ℤ, option_and_then, IfSome, MatchOption}
 use Rattle.std.specs.FinMap as map
+use Rattle.std.proofs.lemmas.Option.{none-some}
 use Rattle.std.proofs.lemmas.Result.{IfOk-weaker, on_err_weaker}
 use Rattle.ft_hits.specs.declared.spot.Spot.{Spot}
 use Rattle.ft_fields.specs.Parts.{key_cmp}
@@ -51,3 +54,19 @@ pub returns-in-Some-clause-err : goal.returns-in-Some-clause-err
 returns-in-Some-clause-err c =
     on_err_weaker c.insert_behind.result (λ e.
     ap flat (seen-kept key_cmp_total key_same c.args.by_key.now (c.get_mut.follows.lender c.insert_behind.new.self) c.args.hit.now.key c.in-Some.entry.now c.insert_behind.new.self c.in-Some.ensures.value (c.get_mut.follows.holds c.insert_behind.new.self) e)) c.insert_behind.ensures.err
+
+pub returns-in-Some-clause-before : goal.returns-in-Some-clause-before
+returns-in-Some-clause-before c =
+    let m = c.args.by_key.now in
+    let key = c.args.hit.now.key in
+    let at : map.get (seen key_cmp m) key ≡ Some c.in-Some.entry.now = get-seen key_cmp_total m key ∙ sym c.in-Some.ensures.value in
+    IfOk-weaker c.insert_behind.result _ _ (λ o before none spot is. before none spot
+    (sym (ap (λ (l : EntryHits). least_key (map.entries l)) (hits_of-flat (seen key_cmp m) key ∙ ap (λ o. unwrap_or o map.empty) at)) ∙ is)) c.insert_behind.ensures.before
+
+pub returns-in-None-clause-before : goal.returns-in-None-clause-before
+returns-in-None-clause-before c _ spot is =
+    let m = c.args.by_key.now in
+    let key = c.args.hit.now.key in
+    let at : map.get (seen key_cmp m) key ≡ None = get-seen key_cmp_total m key ∙ sym c.in-None.ensures.value in
+    let none : least_key (map.entries {X = List ℤ} {R = spot_cmp} map.empty) ≡ None = ap (λ (es : List (Spot × List ℤ)). least_key es) (entries-empty {X = List ℤ} spot_cmp) in
+    absurd (none-some spot (sym none ∙ sym (ap (λ (l : EntryHits). least_key (map.entries l)) (hits_of-flat (seen key_cmp m) key ∙ ap (λ o. unwrap_or o map.empty) at)) ∙ is))

@@ -1,12 +1,11 @@
 use Rattle.std.proofs.Common.{◌≡◌, ℕ, ◌+◌, ◌%◌, ◌^◌, true, List, [], ◌∷◌, drop, get_or, sym, ap, ◌∙◌, arith, Some, None}
 use Rattle.std.specs.Prelude.{ℤ, ◌&&◌}
-use Rattle.std.specs.List.Sorted.{IsStrictlySortedBy}
-use Rattle.std.specs.Map.{keys_of}
+use Rattle.ft_blocks.specs.Sorted.{Ascend}
 use Rattle.std.proofs.lemmas.Int.{to_z-of_z}
 use Rattle.ft_hits.specs.declared.spot.Spot.{Spot}
 use Rattle.ft_hits.specs.Spots.{spot_cmp}
 use Rattle.ft_hits.specs.Hits.{is_after, unsigned_at}
-use Rattle.ft_hits.proofs.Runs.{rises, rises-sorted, sums_behind, sums-run, next_hit, none_left}
+use Rattle.ft_hits.proofs.Runs.{rises, rises-ascend, sums_behind, sums-run, next_hit, none_left}
 use Rattle.ft_hits.proofs.series.sums_of_run.Goals as goal
 
 pub loop-hit-preserved : goal.loop-hit-preserved
@@ -27,10 +26,10 @@ loop-hit-preserved c =
 pub returns-clause-rise : goal.returns-clause-rise
 returns-clause-rise c =
     let left : drop c.loop-hit.hit-index c.args.run.now ≡ [] = none_left c.args.run.now c.loop-hit.hit-index c.loop-hit-test.false in
-    rises-sorted None c.args.run.now (sym c.loop-hit.invariant.rise ∙ ap (rises c.loop-hit.before) left)
+    rises-ascend None c.args.run.now (sym c.loop-hit.invariant.rise ∙ ap (rises c.loop-hit.before) left)
 
 pub returns-clause-sums : goal.returns-clause-sums
 returns-clause-sums c =
     let left : drop c.loop-hit.hit-index c.args.run.now ≡ [] = none_left c.args.run.now c.loop-hit.hit-index c.loop-hit-test.false in
-    let sorted : IsStrictlySortedBy spot_cmp (keys_of c.args.run.now) = rises-sorted None c.args.run.now (sym c.loop-hit.invariant.rise ∙ ap (rises c.loop-hit.before) left) in
-    ap (sums_behind c.loop-hit.sums) (sym left) ∙ c.loop-hit.invariant.sums ∙ sums-run c.args.run.now sorted
+    let up : Ascend spot_cmp c.args.run.now = rises-ascend None c.args.run.now (sym c.loop-hit.invariant.rise ∙ ap (rises c.loop-hit.before) left) in
+    ap (sums_behind c.loop-hit.sums) (sym left) ∙ c.loop-hit.invariant.sums ∙ sums-run c.args.run.now up

@@ -1,23 +1,14 @@
 -- No values have no sums.
-use Rattle.std.proofs.Common.{◌≡◌, ℕ, ◌%◌, ◌^◌, List, [], ◌∷◌, sym, ap, ◌∙◌}
-use Rattle.std.specs.Prelude.{ℤ}
-use Rattle.std.specs.List.{sum_by}
-use Rattle.std.specs.Map.{values_of}
+use Rattle.std.proofs.Common.{◌≡◌, sym, ap, ◌∙◌, arith}
+use Rattle.std.specs.Prelude.{ℤ, List}
 use Rattle.std.specs.FinMap as map
-use Rattle.ft_hits.specs.declared.spot.Spot.{Spot}
+use Rattle.std.specs.FinMap.{len-empty}
 use Rattle.ft_hits.specs.Spots.{spot_cmp}
-use Rattle.ft_hits.specs.Hits.{EntryHits, unsigned_at, sums_of, least_key}
-use Rattle.ft_maps.specs.Seen.{seen, seen-empty}
-use Rattle.ft_maps.specs.Entries.{entries-empty}
+use Rattle.ft_hits.specs.Hits.{EntryHits, sums_of}
+use Rattle.ft_hits.proofs.Only.{sums-empty}
 use Rattle.ft_hits.proofs.series.Series.new.Goals as goal
-
-abbrev total : ℕ → List (Spot × List ℤ) → ℕ
-total j es = sum_by (unsigned_at j) (values_of es) % 2 ^ 64
 
 pub invariant_of-result : goal.invariant_of-result
 invariant_of-result c =
-    let none : EntryHits = map.empty in
-    let empty : seen spot_cmp c.new.result ≡ none = seen-empty spot_cmp c.new.result c.new.ensures.empty in (
-      sym (ap sums_of empty ∙ ap (λ (es : List (Spot × List ℤ)). total 0 es ∷ total 1 es ∷ total 2 es ∷ []) (entries-empty {X = List ℤ} spot_cmp)),
-      sym (ap (λ (l : EntryHits). least_key (map.entries l)) empty ∙ ap least_key (entries-empty {X = List ℤ} spot_cmp)),
-    )
+    let empty : map.from_entries {R = spot_cmp} c.new.result ≡ map.empty = ap (λ es. map.from_entries {R = spot_cmp} es) c.new.ensures in
+    (sym (ap sums_of empty ∙ sums-empty), sym (ap (λ (h : EntryHits). map.len h) empty ∙ len-empty spot_cmp (List ℤ)), omega arith)

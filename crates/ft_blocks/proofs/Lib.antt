@@ -1,0 +1,12 @@
+pub mod Cuts
+pub mod Puts
+pub mod Appends
+pub mod Joined
+pub mod Edited
+pub mod Taken
+pub mod Split
+pub mod Order
+pub mod Lasts
+pub mod Nexts
+pub mod Froms
+pub mod Shifts

@@ -1,0 +1,4 @@
+pub mod Sorted
+pub mod Blocks
+pub mod Seen
+pub mod inner

@@ -1,0 +1,2 @@
+-- Words of private functions: what stands around an entry that moves.
+pub mod Moves
