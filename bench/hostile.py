@@ -27,7 +27,7 @@ def switch(micros, pid):
     return f" sim-1 [000] d.h.. {stamp(micros)}: sched_switch: {said} next_pid={pid} next_prio=120"
 
 
-# Each of these gives, for a size: a script that is measured, one that is taken off, and the trace of both.
+# Each of these gives, for a size: a script that is measured, one that is taken off, and the traces of both.
 
 
 def filtered(text, events=2000, again=100):
@@ -86,6 +86,30 @@ def first_of_many(keys, edits=500):
     return front + edited(edits, "strike 1:{}", f"insert {waking(0, 0, cpu=1)}", "totals 1"), front, trace
 
 
+def other_keys(keys):
+    """A lane that wakes so many tasks, and one that then wakes one more, all others."""
+    return [waking(n, n) for n in range(keys)], [waking(10**7 + n, keys + n, cpu=1) for n in range(keys + 1)]
+
+
+def unloaded(keys):
+    """The first of two lanes goes, all of whose keys are its own."""
+    front = ["load @1", "attach sched_waking hist:keys=pid"]
+    return [*front, "unload 0", "totals 1"], [*front, "totals 1"], [line for lane in other_keys(keys) for line in lane]
+
+
+def loaded(keys):
+    """The first of two lanes comes, all of whose keys are its own."""
+    front = ["load @2", "attach sched_waking hist:keys=pid"]
+    return [*front, "load @1", "totals 1"], [*front, "totals 1"], *other_keys(keys)
+
+
+def edited_among(keys, edits=2000):
+    """In a table with room for so many keys, the first one goes and comes."""
+    trace = [waking(0, 0, cpu=1), *(waking(n, n) for n in range(1, keys))]
+    front = ["load @1", "attach sched_waking hist:keys=pid:size=131072", "totals 1"]
+    return front + edited(edits, "strike 1:{}", f"insert {waking(0, 0, cpu=1)}", "totals 1"), front, trace
+
+
 CASES = [
     ("stars of a pattern, then b, against 31 bytes", 1000, lambda n: filtered(f'comm ~ "{"*" * n}b"')),
     ("bytes of a class after a star, against 31 bytes", 1000, lambda n: filtered(f'comm ~ "*[{"x" * n}]"')),
@@ -104,6 +128,9 @@ CASES = [
     ("edits by which such a key of 10,000 operations moves", 5, lambda n: hot_key(10000, n)),
     ("keys of a full table whose first event goes and comes", 32768, first_of_many),
     ("edits by which such a table of 32,768 keys moves", 500, lambda n: first_of_many(32768, n)),
+    ("keys of a lane that is unloaded", 100000, unloaded),
+    ("keys of a lane that is loaded", 100000, loaded),
+    ("keys among which the first one goes and comes", 100000, edited_among),
 ]
 
 
@@ -113,9 +140,10 @@ def write(path, lines):
     return path
 
 
-def least(program, folder, script, trace):
+def least(program, folder, script, traces):
     """The least processor time of some runs."""
-    words = [program, write(f"{folder}/script", script), write(f"{folder}/trace1", trace)]
+    words = [program, write(f"{folder}/script", script)]
+    words += [write(f"{folder}/trace{number}", trace) for number, trace in enumerate(traces, 1)]
     times = []
     for _ in range(TIMES):
         before = resource.getrusage(resource.RUSAGE_CHILDREN)
@@ -133,8 +161,8 @@ def main():
     for what, first, make in CASES:
         times = []
         for size in first, 2 * first, 4 * first:
-            script, without, trace = make(size)
-            times.append(least(program, folder, script, trace) - least(program, folder, without, trace))
+            script, without, *traces = make(size)
+            times.append(least(program, folder, script, traces) - least(program, folder, without, traces))
         print(f"{what:60} {first:8} {1:6} {times[1] / times[0]:6.2f} {times[2] / times[0]:10.2f}", flush=True)
 
 

@@ -1,12 +1,14 @@
 #!/usr/bin/env bash
 # hostile.sh [HISTDESK [PLAINDESK [ASKAGAIN [HISTWATCH]]]]: a part of the hostile bytes, of which HISTDESK and
-# PLAINDESK print what the plain model does. program.sh says more of these words.
+# PLAINDESK print what the plain model does; and lanes of many distinct keys that go and come in HISTDESK. program.sh
+# says more of these words.
 set -uo pipefail
 
 tests=$(dirname -- "$(dirname -- "$(realpath -- "${BASH_SOURCE[0]}")")")
 . "$tests/counts.sh"
 . "$tests/program/common.sh"
 
+holds "$tests/program/keys.py" "$program"
 holds "$tests/program/hostile.py" --part 1 "$program" ${plaindesk:+"$plaindesk"}
 
 echo "$passed passed, $failed failed"

@@ -1,5 +1,6 @@
 mod Fronts
 pub mod Leading
+mod FromMark
 mod NearEdge
 mod Others
 mod SomeRivals

@@ -1,12 +1,12 @@
 //! The rivals of some keys, found near the table's edge, without a walk over its whole order.
 
-ghost use Rattle.std.specs.Prelude.{◌≡◌, IfOk, length, take, drop, map as list_map};
+ghost use Rattle.std.specs.Prelude.{◌≡◌, IfOk, not, length, take, drop, map as list_map};
 ghost use Rattle.std.specs.List.{filter, IsDistinct};
 ghost use Rattle.ft_fields.specs.Parts.{same_key};
-ghost use Rattle.ft_table.specs.Tabled.{order_of};
+ghost use Rattle.ft_table.specs.Tabled.{is_before};
 ghost use Rattle.ft_changes.specs.Rivals.{is_of, rivals};
-ghost use Rattle.ft_changes.specs.inner.Edge.{inside, others_of};
 
+use ft_blocks::Entries;
 use ft_fields::Key;
 use ft_table::{Mark, Table};
 use std::alloc::{AllocError, Global};
@@ -17,44 +17,42 @@ pub fn rivals(alloc: Global, table: &Table, keys: &[Key]) -> Result<Vec<Key>, Al
     requires { IsDistinct same_key keys.now }
     ensures { IfOk result (λ found. found.items ≡ rivals table.now keys.now) }
 {
-    let size = table.size() as usize;
-    let order = table.order();
-    let few = keys.len().min(size);
-    let start = (size - few).min(order.len());
-    let behind = &order[start..];
-    if behind.is_empty() {
+    let few = keys.len().min(table.size() as usize);
+    match table.mark_near_edge(few) {
         // The table has room, so that no key is near its edge.
-        return Ok(Vec::new(alloc));
+        None => Ok(Vec::new(alloc)),
+        Some(start) => {
+            // Without those of the keys that stand in front of the last places, as many others move up.
+            let passed = count_before(table, keys, &start);
+            other_keys(alloc, table.marks_from(&start), keys, passed, few)
+        }
     }
-    // Without those of the keys that stand in front of the last places, as many others move up.
-    let moved = count_among(table, keys, start);
-    other_keys(alloc, behind, keys, moved, few)
 }
 
-/// How many of some keys are among the first so many of a table.
-fn count_among(table: &Table, keys: &[Key], place: usize) -> usize
-    ensures { result ≡ length (filter (is_of (inside (order_of table.now.hits) place)) keys.now) }
+/// How many of some keys have their first hit before a mark.
+fn count_before(table: &Table, keys: &[Key], mark: &Mark) -> usize
+    ensures { result
+        ≡ length (filter (λ key. is_before table.now.hits key mark.now) keys.now) }
 {
-    keys.iter().filter(|key| table.is_among(key, place)).count()
+    keys.iter().filter(|key| table.is_before(key, mark)).count()
 }
 
 /// The keys of marks except for some keys: the first `few`, after `passed` that are left out.
 fn other_keys(
     alloc: Global,
-    marks: &[Mark],
+    marks: Entries<'_, Mark, ()>,
     keys: &[Key],
     passed: usize,
     few: usize,
 ) -> Result<Vec<Key>, AllocError>
-    ensures { IfOk result (λ found. found.items
-        ≡ list_map (λ mark. mark.key) (take few (drop passed (others_of keys.now marks.now)))) }
+    ensures { IfOk result (λ found. found.items ≡ list_map (λ entry. entry.0.key)
+        (take few (drop passed (filter (λ entry. not (is_of keys.now entry.0.key)) marks.entry)))) }
 {
     marks
-        .iter()
-        .filter(|mark| !has_key(keys, &mark.key))
+        .filter(|entry| !has_key(keys, &entry.0.key))
         .skip(passed)
         .take(few)
-        .map(|mark| mark.key)
+        .map(|entry| entry.0.key)
         .collect(alloc)
 }
 

@@ -1,5 +1,5 @@
 -- The first hits of all keys, as those of one key change.
-use Rattle.std.proofs.Common.{◌≡◌, ℕ, ◌<◌, Bool, true, false, cond, List, [], ◌∷◌, length, get_or, refl, sym, ap, subst, ◌∙◌, Some, None, Option}
+use Rattle.std.proofs.Common.{◌≡◌, ℕ, ◌<◌, Bool, true, false, cond, List, [], ◌∷◌, length, get_or, refl, sym, ap, ◌∙◌, Some, None, Option}
 use Rattle.std.specs.Prelude.{ℤ, ◌&&◌, not}
 use Rattle.std.specs.List.{insert, remove}
 use Rattle.std.specs.Option.{option_map_or}
@@ -13,12 +13,12 @@ use Rattle.ft_fields.specs.Parts.{same_key}
 use Rattle.ft_hits.specs.declared.mark.Mark.{Mark}
 use Rattle.ft_hits.specs.Spots.{spot_cmp, spot_cmp_total, spot_same}
 use Rattle.ft_hits.specs.Marks.{mark_cmp, mark_cmp_total, mark_same}
-use Rattle.ft_table.specs.inner.Ascending.{Rises, IsRank}
+use Rattle.ft_table.specs.inner.Ascending.{IsRank}
 use Rattle.ft_hits.specs.Hits.{Hits, hits_of, least_key, first_place}
 use Rattle.ft_table.specs.Tabled.{is_first, first_hits, order_of}
 use Rattle.ft_table.specs.inner.Moves.{others, order_without, order_with}
 use Rattle.ft_hits.proofs.Flat.{mark, is_equal, marks_tie, same_itself, same_is, get-hits_of}
-use Rattle.ft_table.proofs.Sorted.{rises-keys, keys-insert, keys-without, keys-found, keys-insert-any}
+use Rattle.ft_table.proofs.Sorted.{keys-insert, keys-without, keys-found, keys-insert-any}
 
 pub get-first_hits : (hits : Hits) (q : Mark) → map.get (first_hits hits) q ≡ cond (is_first hits q) (map.get hits q) None
 unfolding first_hits
@@ -117,14 +117,6 @@ others-beside hits after key same = same_map mark_cmp_total mark_same _ _ (λ q.
     get-others after key q ∙ ap (λ o. cond (not (same_key q.key key)) o None) (get-first_hits after q)
     ∙ others_at hits after key same q (same_key q.key key) refl
     ∙ sym (get-others hits key q ∙ ap (λ o. cond (not (same_key q.key key)) o None) (get-first_hits hits q)))
-
--- an order that a mark stands in
-module _ (hits : Hits) (m : Mark) (order : List Mark) (is : order ≡ order_with hits m) where
-  pub order-rises : Rises mark_cmp order
-  order-rises = subst (Rises mark_cmp) (sym is) (rises-keys (map.insert (others hits m.key) m []))
-
-  pub order-rank : (i : ℕ) → IsRank mark_cmp order m i → IsRank mark_cmp (order_with hits m) m i
-  order-rank i = subst (λ ms. IsRank mark_cmp ms m i) is
 
 pub order-found : (hits : Hits) (m : Mark) (i : ℕ) → IsRank mark_cmp (order_with hits m) m i → (i < length (order_with hits m)) × ((d : Mark) → get_or (order_with hits m) i d ≡ m)
 order-found hits m i at = keys-found mark_cmp_total (others hits m.key) m [] i (not_among_others hits m) at

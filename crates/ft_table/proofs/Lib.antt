@@ -1,5 +1,9 @@
 mod Appends
+pub mod AtEdge
+pub mod Edits
+pub mod Orders
 pub mod Changes
+pub mod Comings
 mod Counts
 pub mod Distinct
 mod Edges
@@ -9,7 +13,7 @@ pub mod Firsts
 mod Fits
 mod Growths
 mod KeyedRows
-mod Members
+pub mod Members
 mod OneKeys
 mod Outside
 mod Ranks
@@ -17,6 +21,7 @@ pub mod Retained
 pub mod Runs
 mod Sorted
 mod Splits
+pub mod Standings
 mod Tallies
 mod Windows
 mod Added

@@ -107,7 +107,7 @@ module _ (hits after : Hits) (key q : List Part) (apart : same_key q key ≡ fal
       ∙ ap (λ (n : ℕ). Some (get_or (insert (order_without hits key) at.0 (mark a key)) n d).key) e
       ∙ ap (λ (m : Mark). Some m.key) (get_or-insert_above (order_without hits key) at.0 (mark a key) d t le w)) _ refl
 
-first_put : (p f : Spot) (v : List ℤ) (es : List (Spot × List ℤ)) → least_key es ≡ Some f → (o : Ordering) → spot_cmp p f ≡ o → least_key (put spot_cmp p v es) ≡ map.Entries.by_order o (Some p) (Some f) (Some f)
+pub first_put : (p f : Spot) (v : List ℤ) (es : List (Spot × List ℤ)) → least_key es ≡ Some f → (o : Ordering) → spot_cmp p f ≡ o → least_key (put spot_cmp p v es) ≡ map.Entries.by_order o (Some p) (Some f) (Some f)
 first_put p f v [] is o at = cc
 first_put p f v (e ∷ es) is o at =
     let same : e.0 ≡ f = cc in

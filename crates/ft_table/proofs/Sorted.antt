@@ -1,25 +1,17 @@
 -- Edits of a list in order, as edits of the finite map whose keys it lists.
 use Rattle.std.proofs.Common.{◌≡◌, ℕ, zero, suc, ◌<◌, ◌≤◌, cond, T, List, [], ◌∷◌, length, get_or, refl, sym, ap, subst, ◌∙◌, arith, Some, None, ◌⊎◌, inl, inr}
-use Rattle.std.specs.Prelude.{◌-◌, slice_get}
 use Rattle.std.specs.List.{insert, remove}
 use Rattle.std.specs.declared.cmp.Ordering.{Ordering}
 use Rattle.std.specs.declared.cmp.Ordering.TheVariants.{Less, Equal, Greater}
-use Rattle.std.specs.Ordering.{is_eq, ordering_reverse, ordering_index}
-use Rattle.std.specs.List.Sorted.{IsNonDecreasingBy, IsPartitionPoint}
+use Rattle.std.specs.Ordering.{is_eq, ordering_reverse}
 use Rattle.std.specs.Cmp.{IsTotalOrder}
 use Rattle.std.specs.Map.{keys_of}
 use Rattle.std.specs.FinMap as map
 use Rattle.std.specs.FinMap.{FinMap, find, put, is_sorted, entries-insert, entries_sorted, get-entries}
 use Rattle.std.proofs.lemmas.Cmp.{tied_itself, alike_right}
-use Rattle.std.proofs.lemmas.Option.{get_or_from_slice_get, slice_get_within}
 use Rattle.ft_hits.proofs.Columns.{not_none}
 use Rattle.ft_maps.specs.Entries.{and_left, and_right, is_less}
 use Rattle.ft_table.specs.inner.Ascending.{Rises, IsRank}
-
-at_most_two : (o : Ordering) → ordering_index o ≤ 2
-at_most_two Less = omega arith
-at_most_two Equal = omega arith
-at_most_two Greater = omega arith
 
 le_split : (i j : ℕ) → i ≤ j → (i < j) ⊎ (i ≡ j)
 le_split zero zero h = inr refl
@@ -80,40 +72,9 @@ module _ {K : Type 0} {R : K → K → Ordering} (total : IsTotalOrder R) where
     ];
   }
 
-  index_below : (a b k : K) → R a b ≡ Less → ordering_index (R a k) ≤ ordering_index (R b k)
-  index_below a b k less =
-      elim (R b k) as (λ o. R b k ≡ o → ordering_index (R a k) ≤ ordering_index o) [
-        | Less ↦ λ is. let e : R a k ≡ Less = total.trans a b k less is in rw e (omega arith)
-        | Equal ↦ λ is. let e : R a k ≡ Less = sym (alike_right total b k a is) ∙ less in rw e (omega arith)
-        | Greater ↦ λ is. at_most_two (R a k)
-      ] refl
-
-  -- and one that doesn't, where a search of it ended
-  pub rank-missed : (ks : List K) (k : K) (i : ℕ) → Rises R ks → i ≤ length ks → (IsNonDecreasingBy (λ y. ordering_index (R y k)) ks → IsPartitionPoint (λ y. R y k ≡ Less) (λ y. R y k ≡ Greater) ks i) → IsRank R ks k i
-  rank-missed ks k i rises within parts =
-      let p = parts (λ a b d le lt. elim (le_split a b le) [
-        | inl before ↦ index_below (get_or ks a d) (get_or ks b d) k (rises a b d before lt)
-        | inr same ↦ subst (λ n. ordering_index (R (get_or ks a d) k) ≤ ordering_index (R (get_or ks n d) k)) same (omega arith)
-      ]) in
-      record {
-        within = within;
-        below = λ j d lt. p.0 j d (omega arith) lt;
-        above = λ j d le lt less. let greater : R (get_or ks j d) k ≡ Greater = p.1 j d le lt in cc;
-      }
-
 -- after all stands what all are below
 pub rank-end : {K : Type 0} (R : K → K → Ordering) (ks : List K) (k : K) → ((j : ℕ) (d : K) → j < length ks → R (get_or ks j d) k ≡ Less) → IsRank R ks k (length ks)
 rank-end R ks k all = record { within = omega arith; below = λ j d lt. all j d lt; above = λ j d le lt. absurd (omega arith) }
-
--- and after a list in order what its last item is below
-pub rank-behind : {K : Type 0} {R : K → K → Ordering} → IsTotalOrder R → (ks : List K) (k last : K) → Rises R ks → slice_get ks (length ks - 1) ≡ Some last → R last k ≡ Less → IsRank R ks k (length ks)
-rank-behind {R = R} total ks k last rises is less =
-    let n : ℕ = length ks - 1 in
-    let within : n < length ks = slice_get_within ks n last is in
-    rank-end R ks k (λ j d lt. elim (le_split j n (omega (arith, within, lt))) [
-      | inl before ↦ total.trans (get_or ks j d) last k (subst (λ y. R (get_or ks j d) y ≡ Less) (get_or_from_slice_get ks n last d is) (rises j n d before within)) less
-      | inr same ↦ subst (λ y. R y k ≡ Less) (sym (ap (λ i. get_or ks i d) same ∙ get_or_from_slice_get ks n last d is)) less
-    ])
 
 module _ {K X : Type 0} (R : K → K → Ordering) where
   -- the keys after a key are above it
@@ -134,7 +95,7 @@ rises-keys {R = R} m = rises R (map.entries m) (entries_sorted m)
 
 module _ {K X : Type 0} {R : K → K → Ordering} (total : IsTotalOrder R) where
   -- an entry that is put in stands at its key's rank
-  put-rank : (k : K) (v : X) (es : List (K × X)) (i : ℕ) → find R k es ≡ None → IsRank R (keys_of es) k i → keys_of (put R k v es) ≡ insert (keys_of es) i k
+  pub put-rank : (k : K) (v : X) (es : List (K × X)) (i : ℕ) → find R k es ≡ None → IsRank R (keys_of es) k i → keys_of (put R k v es) ≡ insert (keys_of es) i k
   put-rank k v [] zero none h = refl
   put-rank k v [] (suc i) none h = absurd (let w = h.within in omega arith)
   put-rank k v (e ∷ es) zero none h =

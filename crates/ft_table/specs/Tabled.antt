@@ -1,14 +1,15 @@
 -- Which keys are in a table.
-use Rattle.std.specs.Prelude.{ℕ, ◌-◌, Bool, false, List, length, take, drop, slice_get, Option, map as list_map}
-use Rattle.std.specs.List.{list_any}
+use Rattle.std.specs.Prelude.{ℕ, ◌-◌, Bool, false, not, List, length, take, drop, slice_get, Option, map as list_map}
+use Rattle.std.specs.List.{filter, list_any}
 use Rattle.std.specs.Option.{option_map_or}
-use Rattle.std.specs.Ordering.{eq_by_cmp}
+use Rattle.std.specs.Ordering.{eq_by_cmp, is_lt}
 use Rattle.std.specs.FinMap as map
 use Rattle.ft_hits.specs.Spots.{spot_cmp}
 use Rattle.ft_fields.specs.declared.key.Part.{Part}
 use Rattle.ft_fields.specs.Parts.{same_key}
 use Rattle.ft_hits.specs.declared.mark.Mark.{Mark}
 use Rattle.ft_hits.specs.Hits.{Hits, first_place}
+use Rattle.ft_hits.specs.Marks.{mark_cmp}
 
 -- whether a hit is the first of its key
 abbrev pub is_first : Hits → Mark → Bool
@@ -46,3 +47,11 @@ last_in table = slice_get (keys_in table) (length (keys_in table) - 1)
 -- the key outside whose first hit is first
 abbrev pub first_out : Tabled → Option (List Part)
 first_out table = slice_get (keys_out table) 0
+
+-- the marks that don't stand before a mark
+abbrev pub marks_from : Mark → List Mark → List Mark
+marks_from mark = filter (λ m. not (is_lt (mark_cmp m mark)))
+
+-- whether a key's first hit stands before a mark
+abbrev pub is_before : Hits → List Part → Mark → Bool
+is_before hits key mark = option_map_or (λ spot. is_lt (mark_cmp (record { spot = spot; key = key }) mark)) (first_place hits key) false

@@ -3,3 +3,4 @@ pub mod Ascending
 pub mod Cut
 pub mod InStep
 pub mod Moves
+pub mod Ordered

@@ -43,9 +43,11 @@
 //!   is there, without memory. `insert` lets through: running out of memory at any time.
 //! - `Table::put_key`: a key that has no hits yet has those of a list, at a tick of `puts` for each;
 //!   a refusal changes nothing (`specs/Runs.antt`). Lets through: running out of memory at any time.
-//! - `Table::is_empty`, `is_in`, `is_among`, `size`, `order`, `edge` (an `Edge`), `holds`,
-//!   `hit_after`: whether there are hits, which keys are in, in what order, and which hits there are
-//!   (`specs/Tabled.antt`); exact.
+//! - `Table::is_empty`, `is_in`, `size`, `edge` (an `Edge`), `holds`, `hit_after`: whether there are
+//!   hits, which keys are in, and which hits there are (`specs/Tabled.antt`); exact.
+//! - `Table::mark_near_edge`, `marks_from`, `is_before`: the keys in the order of their first hits
+//!   around the edge: the mark so many places before the first one outside, all marks from one on,
+//!   and whether a key's first hit stands before a mark (`specs/Tabled.antt`); exact.
 //! - `Table::row`, `rows`, `totals`: the `Row` of a key that is in, all of them by sort items, and
 //!   the `Totals` (`specs/Rows.antt`); exact. `rows` lets through: running out of memory at any
 //!   time.

@@ -1,16 +1,16 @@
 //! Tables: the hits of one trigger, by key, and the order of the keys.
 
-ghost use Rattle.std.specs.Prelude.{◌≡◌, ◌↔◌, ◌+◌, ◌<◌, ◌++◌, length, OnOk, OnErr, IfOk, IsTrue};
+ghost use Rattle.std.specs.Prelude.{◌≡◌, ◌↔◌, ◌+◌, ◌-◌, ◌<◌, ◌≤◌, ◌++◌, length, take, slice_get, option_map, OnOk, OnErr, IfOk, IsTrue};
 ghost use Rattle.std.specs.Prelude.{map as list_map};
 ghost use Rattle.std.specs.FinMap as map;
 ghost use Rattle.ft_text.specs.Fronts.{IsFront};
 ghost use Rattle.ft_table.specs.Rows.{counted_row};
 
-use crate::order::rank_of;
 use crate::ranked::Ranked;
 use crate::row::{Row, Totals};
 use crate::sorting::sort_rows;
 use crate::text::{write_heading, write_rows};
+use ft_blocks::Entries;
 use ft_hist::{Key, SortItem, Trigger, Work};
 use ft_hits::{Entry, Hit, HitIndex, Mark, Spot, count_puts};
 use std::alloc::{AllocError, Global};
@@ -52,9 +52,8 @@ impl Model for Table {
 }
 
 impl Table {
-    ghost use Rattle.std.specs.Prelude.{None, take};
-    ghost use Rattle.std.specs.List.{list_any};
-    ghost use Rattle.ft_fields.specs.Parts.{same_key};
+    ghost use Rattle.std.specs.Prelude.{None};
+    ghost use Rattle.std.specs.Map.{keys_of};
     ghost use Rattle.ft_table.specs.Growth.{with_hit};
     ghost use Rattle.ft_table.specs.OneKey.{without_hit};
     ghost use Rattle.ft_hits.specs.Hits.{hit_after};
@@ -62,7 +61,7 @@ impl Table {
     ghost use Rattle.ft_table.specs.Rows.{AllFit, table_text};
     ghost use Rattle.ft_table.specs.Runs.{HasNone, TakesRun};
     ghost use Rattle.ft_table.specs.Text.{heading};
-    ghost use Rattle.ft_table.specs.Tabled.{order_of, is_in, last_in, first_out};
+    ghost use Rattle.ft_table.specs.Tabled.{order_of, marks_from, is_before, is_in, last_in, first_out};
 
     /// A table without hits, with room for at least one key. It takes no memory.
     pub fn new(alloc: Global, size: u32) -> Table
@@ -133,30 +132,38 @@ impl Table {
     pub fn is_empty(&self) -> bool
         ensures { IsTrue result ↔ self.now.hits ≡ map.empty }
     {
-        self.ranked.order.is_empty()
+        self.ranked.order.inside() == 0
     }
 
     /// For how many keys there is room.
     pub fn size(&self) -> u32
         ensures { result ≡ self.now.size }
     {
-        self.ranked.size
+        self.ranked.order.size()
     }
 
-    /// Where the first hits of all keys stand, in order.
-    pub fn order(&self) -> &[Mark]
-        ensures { result.now ≡ order_of self.now.hits }
+    /// The mark of the key that stands so many places before the first one outside, in order of
+    /// first hits, if there is one. It takes a step for each place.
+    pub fn mark_near_edge(&self, places: usize) -> Option<Mark>
+        requires { places ≤ self.now.size }
+        ensures { result ≡ slice_get (order_of self.now.hits) (self.now.size - places) }
     {
-        &self.ranked.order
+        self.ranked.order.mark_near_edge(places)
     }
 
-    /// Whether a key is among the first so many, in order of their first hits.
-    pub fn is_among(&self, key: &Key, place: usize) -> bool
-        ensures { result ≡ list_any (same_key key.now)
-            (list_map (λ mark. mark.key) (take place (order_of self.now.hits))) }
+    /// Where the first hits of all keys stand, in order, from a mark on.
+    pub fn marks_from(&self, mark: &Mark) -> Entries<'_, Mark, ()>
+        ensures { keys_of result ≡ marks_from mark.now (order_of self.now.hits) }
+    {
+        self.ranked.order.marks_from(mark)
+    }
+
+    /// Whether a key's first hit stands before a mark.
+    pub fn is_before(&self, key: &Key, mark: &Mark) -> bool
+        ensures { result ≡ is_before self.now.hits key.now mark.now }
     {
         match self.hits.first_at(key) {
-            Some(spot) => rank_of(&self.ranked.order, &Mark { spot, key: *key }) < place,
+            Some(spot) => Mark { spot, key: *key } < *mark,
             None => false,
         }
     }
@@ -165,7 +172,10 @@ impl Table {
     pub fn is_in(&self, key: &Key) -> bool
         ensures { result ≡ is_in self.now key.now }
     {
-        self.is_among(key, self.ranked.size as usize)
+        match self.hits.first_at(key) {
+            Some(spot) => self.ranked.order.is_inside(&Mark { spot, key: *key }),
+            None => false,
+        }
     }
 
     /// The row of a key, if it is in the table.
@@ -184,8 +194,8 @@ impl Table {
     pub fn rows(&self, sort: &[SortItem]) -> Result<Vec<Row>, AllocError>
         ensures { IfOk result (λ rows. rows.items ≡ rows_of self.now sort.now) }
     {
-        let inside = self.ranked.order.len().min(self.ranked.size as usize);
-        let mut rows = rows_at(self.alloc, &self.hits, &self.ranked.order[..inside])?;
+        let order = &self.ranked.order;
+        let mut rows = first_rows(self.alloc, &self.hits, order.marks(), order.inside())?;
         sort_rows(&mut rows, sort);
         Ok(rows)
     }
@@ -237,10 +247,9 @@ impl Table {
     pub fn totals(&self) -> Totals
         ensures { result ≡ totals_of self.now }
     {
-        let keys = self.ranked.order.len().min(self.ranked.size as usize);
         Totals {
             hits: self.ranked.hits,
-            entries: keys as u64,
+            entries: self.ranked.order.inside() as u64,
             dropped: self.ranked.dropped,
         }
     }
@@ -250,19 +259,10 @@ impl Table {
         ensures last { result.last_in ≡ last_in self.now }
         ensures first { result.first_out ≡ first_out self.now }
     {
-        let size = self.ranked.size as usize;
-        let inside = self.ranked.order.len().min(size);
-        let last_in = if inside == 0 {
-            None
-        } else {
-            Some(self.ranked.order[inside - 1].key)
-        };
-        let first_out = if self.ranked.order.len() > size {
-            Some(self.ranked.order[size].key)
-        } else {
-            None
-        };
-        Edge { last_in, first_out }
+        Edge {
+            last_in: key_of(&self.ranked.order.last_inside()),
+            first_out: key_of(&self.ranked.order.first_outside()),
+        }
     }
 
     /// The first hit of a key after a spot, or its first of all.
@@ -284,14 +284,28 @@ fn row_of(hits: &HitIndex, key: &Key) -> Row
     }
 }
 
-/// What the hits of each of some keys come to.
-fn rows_at(alloc: Global, hits: &HitIndex, marks: &[Mark]) -> Result<Vec<Row>, AllocError>
+/// What the hits of each of the first so many keys come to.
+fn first_rows(
+    alloc: Global,
+    hits: &HitIndex,
+    marks: Entries<'_, Mark, ()>,
+    count: usize,
+) -> Result<Vec<Row>, AllocError>
     ensures { IfOk result (λ rows. rows.items
-        ≡ list_map (λ mark. counted_row hits.now mark.key) marks.now) }
+        ≡ list_map (λ entry. counted_row hits.now entry.0.key) (take count marks.entry)) }
 {
-    let mut rows = Vec::with_capacity(alloc, marks.len())?;
-    for mark in marks {
-        rows.push(row_of(hits, &mark.key))?;
+    marks
+        .take(count)
+        .map(|entry| row_of(hits, &entry.0.key))
+        .collect(alloc)
+}
+
+/// The key of a mark, if there is one.
+fn key_of(mark: &Option<Mark>) -> Option<Key>
+    ensures { result ≡ option_map (λ mark. mark.key) mark.now }
+{
+    match mark {
+        Some(mark) => Some(mark.key),
+        None => None,
     }
-    Ok(rows)
 }

@@ -1,5 +1,5 @@
 -- An order of keys, cut at a table's size, and the hits on both sides.
-use Rattle.std.specs.Prelude.{◌≡◌, ℕ, ◌+◌, ◌<◌, ◌^◌, List, drop, vec_len, vec_capacity}
+use Rattle.std.specs.Prelude.{◌≡◌, ℕ, ◌+◌, ◌<◌, ◌^◌, List, drop}
 use Rattle.std.specs.List.{sum_by}
 use Rattle.ft_fields.specs.declared.key.Part.{Part}
 use Rattle.ft_hits.specs.declared.mark.Mark.{Mark}
@@ -13,12 +13,8 @@ pub record IsSplit (count : List Part → ℕ) (size : ℕ) (order : List Mark) 
 
 -- the order of a table is cut at its size, and the counts are those of the keys on both sides
 abbrev pub IsCutAtSize : (List Part → ℕ) → Ranked → Type 0
-IsCutAtSize count ranked = IsSplit count ranked.size ranked.order.items ranked.hits ranked.dropped
+IsCutAtSize count ranked = IsSplit count ranked.order.size ranked.order.marks ranked.hits ranked.dropped
 
 -- how many hits are counted on both sides
 abbrev pub all_counted : Ranked → ℕ
 all_counted ranked = ranked.hits + ranked.dropped
-
--- one more key goes into the order without memory
-abbrev pub OrderHasRoom : Ranked → Type 0
-OrderHasRoom ranked = vec_len ranked.order < vec_capacity ranked.order

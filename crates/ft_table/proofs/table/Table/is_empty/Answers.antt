@@ -1,5 +1,5 @@
 -- Without first hits there are none, and without hits no first ones.
-use Rattle.std.proofs.Common.{◌≡◌, ◌+◌, List, [], ◌∷◌, length, take, drop, map as list_map, refl, sym, ap, ◌∙◌}
+use Rattle.std.proofs.Common.{◌≡◌, ◌+◌, List, [], ◌∷◌, length, take, drop, map as list_map, refl, sym, ap, ◌∙◌, arith}
 use Rattle.std.specs.List.{sum_by}
 use Rattle.std.specs.FinMap as map
 use Rattle.std.specs.FinMap.{empty_of_len}
@@ -23,8 +23,11 @@ no_hits hits none =
 pub returns : goal.returns
 returns c =
     let order = c.self.invariant.order in
-    let len = c.self.inside.ranked.order.ok.0 in
+    let room = c.self.invariant.room in
+    let inside = c.inside.ensures in
     let same : c.self.inside.hits ≡ c.args.self.now.hits = ap (λ (t : Tabled). t.hits) c.self.view_is in (
-      λ is. sym same ∙ no_hits c.self.inside.hits (sym order ∙ no_marks c.self.inside.ranked.order.items (sym len ∙ eqb-true _ 0 (sym c.is_empty.ensures ∙ is))),
-      λ none. c.is_empty.ensures ∙ eq-eqb _ 0 (len ∙ ap (λ (ms : List Mark). length ms) (order ∙ ap order_of (same ∙ none) ∙ order-empty)),
+      λ is. let none : c.inside.result ≡ 0 = eqb-true _ 0 is in sym same ∙ no_hits c.self.inside.hits (sym order ∙ no_marks c.self.inside.ranked.order.marks (omega (arith, none, room, inside))),
+      λ none.
+          let empty : length c.self.inside.ranked.order.marks ≡ 0 = ap (λ (ms : List Mark). length ms) (order ∙ ap order_of (same ∙ none) ∙ order-empty) in
+          eq-eqb _ 0 (omega (arith, empty, inside)),
     )

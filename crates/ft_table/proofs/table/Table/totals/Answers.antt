@@ -25,13 +25,14 @@ pub returns : goal.returns
 returns c =
     let count : List Part → ℕ = hitcount c.self.inside.hits in
     let weight : Mark → ℕ = λ m. count m.key in
-    let size : ℕ = c.self.inside.ranked.size in
-    let order : List Mark = c.self.inside.ranked.order.items in
+    let size : ℕ = c.self.inside.ranked.order.size in
+    let order : List Mark = c.self.inside.ranked.order.marks in
     let is = c.self.invariant.cut in
     let both : sum_by weight (take size order) + sum_by weight (drop size order) ≡ sum_by weight order = sum_by-take-drop weight order size in
     let hits : c.self.inside.ranked.hits ≡ sum_by count (list_map key_of (take size order)) =
     (let before : c.self.inside.ranked.hits ≡ sum_by weight (take size order) = omega (arith, is.behind, is.whole) in before) ∙ sym (sum-map count key_of (take size order)) in
-    let entries : c.min-keys.result ≡ length (list_map key_of (take size order)) = omega (arith, length-take size order, length-map (take size order) key_of) in
+    let inside = c.inside.ensures in
+    let entries : c.inside.result ≡ length (list_map key_of (take size order)) = omega (arith, inside, length-take size order, length-map (take size order) key_of) in
     let dropped : c.self.inside.ranked.dropped ≡ sum_by count (list_map key_of (drop size order)) = is.behind ∙ sym (sum-map count key_of (drop size order)) in
     totals_is hits entries dropped
     ∙ ap (λ (ms : List Mark). shown count size ms) c.self.invariant.order
