@@ -8,6 +8,7 @@ use Rattle.std.proofs.lemmas.Option.{same_Some}
 use Rattle.ft_filter.specs.Tree.{Tree}
 use Rattle.ft_hist.specs.Hist.{Hist, with_filter}
 use Rattle.ft_fields.specs.Traced.{Traced}
+use Rattle.ft_maps.specs.Entries.{get-insert_same}
 use Rattle.ft_base.specs.After.{after_load, after_refilter}
 use Rattle.ft_base.specs.Base.{Base, Triggers}
 use Rattle.ft_base.specs.OneTrigger.{GetsFilter}
@@ -40,14 +41,21 @@ insert_nothing : (triggers : Triggers) (id : ℕ) (was : Hist) (filter : Option 
 insert_nothing triggers id was filter there (inl none) = inl (each_refiltered ReadsAndMakesNone triggers id was filter there (λ is. is) none)
 insert_nothing triggers id was filter there (inr none) = inr (each_refiltered (λ (hist : Hist). counts_made hist ≡ false) triggers id was filter there (λ is. is) none)
 
+-- the triggers of the base that an edit gives
+abbrev triggers_in : Base → Result (Base × ℕ) Refused → Triggers
+triggers_in base (Ok given) = given.0.triggers
+triggers_in base other = base.triggers
+
+-- the trigger has the new filter, and is else as it was
+pub refiltered_as : (base new : Base) (id same : ℕ) (filter : Option Tree) → after_refilter base id filter ≡ Ok (new, same) → (gets : GetsFilter id base new) → gets.hist ≡ with_filter gets.was filter
+refiltered_as base new id same filter answer gets =
+    let is : ◌≡◌ {A = Result (Base × ℕ) Refused} (Ok (record base { triggers = map.insert base.triggers id (with_filter gets.was filter) }, id)) (Ok (new, same)) = sym (refilter-ok base id filter gets.was gets.attached_before) ∙ answer in
+    same_Some _ _ (sym gets.attached ∙ ap (λ (r : Result (Base × ℕ) Refused). map.get (triggers_in base r) id) (sym is) ∙ get-insert_same nat_cmp_total base.triggers id (with_filter gets.was filter))
+
 pub refiltered_nothing : (base new : Base) (id same : ℕ) (filter : Option Tree) → after_refilter base id filter ≡ Ok (new, same) → GetsFilter id base new → MakesNothing base.triggers → MakesNothing new.triggers
 refiltered_nothing base new id same filter answer gets none =
     let is : ◌≡◌ {A = Result (Base × ℕ) Refused} (Ok (record base { triggers = map.insert base.triggers id (with_filter gets.was filter) }, id)) (Ok (new, same)) = sym (refilter-ok base id filter gets.was gets.attached_before) ∙ answer in
-    subst MakesNothing (ap (λ (r : Result (Base × ℕ) Refused). triggers_in r) is) (insert_nothing base.triggers id gets.was filter gets.attached_before none)
-  where
-    triggers_in : Result (Base × ℕ) Refused → Triggers
-    triggers_in (Ok given) = given.0.triggers
-    triggers_in other = base.triggers
+    subst MakesNothing (ap (triggers_in base) is) (insert_nothing base.triggers id gets.was filter gets.attached_before none)
 
 -- a load leaves the triggers
 pub loaded_triggers : (base new : Base) (es : List Traced) (count : ℕ) → after_load base es ≡ Ok (new, count) → base.triggers ≡ new.triggers

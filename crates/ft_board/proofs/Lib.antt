@@ -6,7 +6,7 @@ pub mod Mending
 pub mod Turning
 pub mod CountingNone
 pub mod StillMade
-pub mod LeavingMade
+pub mod MadeStays
 pub mod MendedEdits
 pub mod Reports
 pub mod TurnedRows

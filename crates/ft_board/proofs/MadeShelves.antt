@@ -107,7 +107,7 @@ module _ (triggers : Triggers) (events : Events) (found : Findings) where
 
 -- ---- where no event is made
 
-no_event : (hist : Hist) (at : Pos) (event : Traced) → hist.onmatch ≡ None → (saved : Option Pos) → option_and_then (made_of hist at event) saved ≡ None
+pub no_event : (hist : Hist) (at : Pos) (event : Traced) → hist.onmatch ≡ None → (saved : Option Pos) → option_and_then (made_of hist at event) saved ≡ None
 no_event hist at event none None = refl
 no_event hist at event none (Some saved) = ap (λ (o : Option Onmatch). option_map (made_event at event saved) o) none
 

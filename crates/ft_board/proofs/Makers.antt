@@ -45,10 +45,6 @@ module _ (test : Hist → Bool) (triggers : Triggers) where
   pub all_but : ((id : ℕ) (hist : Hist) → map.get triggers id ≡ Some hist → test hist ≡ false) → list_any (λ e. test e.1) (map.entries triggers) ≡ false
   all_but each = none_of each (map.entries triggers) (entries_found nat_cmp nat_cmp_total triggers)
 
--- a trigger makes events, and so reads
-abbrev pub makes : Hist → Bool
-makes hist = is_some hist.onmatch && is_reader hist.variable
-
 pub makes_none : (onmatch : Option Onmatch) → is_some onmatch ≡ false → onmatch ≡ None
 makes_none None none = refl
 makes_none (Some part) none = let both : ◌≡◌ {A = Bool} true false = none in absurd cc

@@ -78,7 +78,7 @@ module _ (triggers : Triggers) (events more : Events) (among : AreAmong events m
     | Some hist ↦ λ there. ap (option_and_then (made_of hist spot.pos event)) (are spot.maker hist there spot.pos)
   ] refl
 
-  same_made : (spot : Spot) → made_by triggers more found spot ≡ made_by triggers events finds spot
+  pub same_made : (spot : Spot) → made_by triggers more found spot ≡ made_by triggers events finds spot
   same_made spot =
       elim (map.get events spot.pos) as (λ (o : Option Traced). map.get events spot.pos ≡ o → made_by triggers more found spot ≡ option_and_then (λ event. made_here finds spot event (map.get triggers spot.maker)) o) [
         | None ↦ λ gone. nothing_of _ (map.get more spot.pos)

@@ -1,3 +1,4 @@
+pub mod Makers
 pub mod MadeShelves
 pub mod inner
 pub use Rattle.ft_kept.specs.Shelves

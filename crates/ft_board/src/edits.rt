@@ -1,6 +1,6 @@
 //! What is kept, as events come and go, and as triggers join and leave.
 
-ghost use Rattle.std.specs.Prelude.{◌≡◌, ◌+◌, ◌≤◌, None, Some, IfSome};
+ghost use Rattle.std.specs.Prelude.{◌≡◌, ◌⊎◌, ◌+◌, ◌≤◌, None, Some, IfSome};
 ghost use Rattle.std.specs.FinMap as map;
 ghost use Rattle.ft_hist.specs.Steps.{StepsGrow};
 ghost use Rattle.ft_lanes.specs.Held.{Lane};
@@ -15,9 +15,11 @@ ghost use Rattle.ft_repair.specs.Outside.{AreKeptOutside};
 ghost use Rattle.ft_repair.specs.SomeLanes.{count_coming};
 ghost use Rattle.ft_kept.specs.Repairs.{IsHeldAt};
 ghost use Rattle.ft_repair.specs.OneEvent.{ChangeCosts, EventNeedsNoMemory};
+ghost use Rattle.ft_board.specs.Makers.{LeavesMade, LeavesMakers};
 ghost use Rattle.ft_board.specs.inner.Edits.{CanChange, Edit, IsEdit, ReportsEdit, pos_at};
-ghost use Rattle.ft_board.specs.inner.Views.{AreFresh, AreOf, EndsAs};
+ghost use Rattle.ft_board.specs.inner.Views.{AreFresh, AreOf, AwaitTrigger, EndsAs, made_in};
 
+use crate::laws::made_events_stay;
 use crate::report::reported_edits;
 use crate::views::Views;
 use ft_answers::{Done, Edited, Kept};
@@ -125,17 +127,20 @@ impl Views {
     }
 
     /// A trigger that was attached, or got another filter, joins what is kept, with those that read
-    /// what it saves: whether there are shelves then.
+    /// what it saves: whether there are shelves then. The tables of made events stay as they are if
+    /// it neither counts such events nor bears on those that make them.
     pub(crate) fn join(&mut self, id: u32, content: &Content) -> Kept
-        requires { IfSome self.old.shelves (AreKeptOutside (is_in_family content.now.triggers id)
-            content.now.triggers content.now.lanes) }
+        requires shelves { IfSome self.old.shelves (AreKeptOutside
+            (is_in_family content.now.triggers id) content.now.triggers content.now.lanes) }
+        requires made { AwaitTrigger id content.now self.old }
         ensures fresh { AreFresh content.now self.new }
         ensures ends { EndsAs result self.old self.new }
-        ensures evals { MakesNothing content.now.triggers → self.new.work.evals
+        ensures evals { MakesNothing content.now.triggers ⊎ LeavesMade content.now.triggers id
+            → self.new.work.evals
             ≤ self.old.work.evals + family_tests content.now.triggers content.now.lanes id }
     {
         join(&mut self.shelves, self.alloc, content, id, &mut self.work);
-        self.remake(content)
+        self.refit(id, content)
     }
 
     /// What a trigger reads that is to get another filter goes from what is kept.
@@ -145,26 +150,28 @@ impl Views {
         ensures missing { map.get content.now.triggers id ≡ None → self.new ≡ self.old }
         ensures gone { self.old.shelves ≡ None → self.new.shelves ≡ None }
         ensures none { ReadsNothing content.now.triggers id → self.new.work ≡ self.old.work }
+        ensures made { made_in self.new ≡ made_in self.old }
         ensures grow { StepsGrow self.old.work self.new.work }
     {
         make_way(&mut self.shelves, self.alloc, content, id, &mut self.work);
     }
 
     /// A trigger that is still attached, and that no other reads, leaves what is kept. One that
-    /// reads nothing takes no memory, and leaves what is kept of the others as it is; where it
-    /// reads, the tables of made events are to be made anew.
+    /// reads nothing takes no memory. The tables of made events are those of the others then, unless
+    /// it bears on those that make them.
     pub(crate) fn leave(&mut self, id: u32, content: &Content)
         requires unread { IsUnread content.now.triggers id }
         requires fresh { AreFresh content.now self.old }
         ensures kept { IfSome self.new.shelves (AreKeptBut id content.now) }
-        ensures fresh { ReadsNothing content.now.triggers id
+        ensures fresh { LeavesMakers content.now.triggers id
             → AreFresh (base_without content.now id) self.new }
         ensures gone { self.old.shelves ≡ None → self.new.shelves ≡ None }
         ensures now { ReadsNothing content.now.triggers id
             → self.new.shelves ≡ None → self.old.shelves ≡ None }
+        ensures none { ReadsNothing content.now.triggers id → self.new.work ≡ self.old.work }
         ensures grow { StepsGrow self.old.work self.new.work }
     {
-        kept_shelves();
+        made_events_stay();
         leave(&mut self.shelves, self.alloc, content, id, &mut self.work);
         take(&mut self.made, &id);
     }

@@ -2,6 +2,8 @@
 
 ghost use Rattle.std.specs.Prelude.{◌≡◌, true, false};
 
+use crate::laws::made_events_stay;
+use crate::making::bears_on_makers;
 use crate::readings::pairs_of;
 use crate::views::Views;
 use ft_answers::{
@@ -13,7 +15,7 @@ use ft_fields::{Event, Name};
 use ft_filter::Filter;
 use ft_hist::{Key, Trigger};
 use ft_kept::Sign;
-use ft_repair::{cpus_before, reads};
+use ft_repair::cpus_before;
 use ft_store::Store;
 use ft_table::Totals;
 use std::alloc::Global;
@@ -119,12 +121,14 @@ impl Board for KeptBoard {
     }
 
     fn attach(&mut self, trigger: Trigger) -> Result<Done<u32>, Refused> {
+        made_events_stay();
         let id = self.content.attach(trigger)?;
         let kept = self.views.join(id, &self.content);
         Ok(Done { value: id, kept })
     }
 
     fn refilter(&mut self, id: u32, filter: Option<Filter>) -> Result<Done<u32>, Refused> {
+        made_events_stay();
         self.views.make_way(id, &self.content);
         let value = self.content.refilter(id, filter)?;
         let kept = self.views.join(id, &self.content);
@@ -133,14 +137,14 @@ impl Board for KeptBoard {
 
     fn remove(&mut self, id: u32) -> Result<Done<u32>, Refused> {
         self.content.removable(id)?;
-        let reading = reads(&self.content, id);
+        let bears = bears_on_makers(self.content.triggers(), id);
         self.views.leave(id, &self.content);
         self.content.remove(id);
-        if reading {
+        if bears {
             let kept = self.views.remake(&self.content);
             return Ok(Done { value: id, kept });
         }
-        let kept = self.views.kept();
+        let kept = self.views.settle();
         Ok(Done { value: id, kept })
     }
 

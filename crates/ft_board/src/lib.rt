@@ -4,8 +4,9 @@
 //! What is kept is one value, `Views`: a shelf of each trigger, and beside the shelves the tables of
 //! events that readings make. Each edit of the board calls one of its methods, or two. The shelves
 //! follow the base by `ft_repair`, which tells what readings had found and what they find; by that the
-//! tables of made events are mended, as events come or go, and else they are made anew. Where memory
-//! runs out for any of it, the edit stands, and the next answer builds it.
+//! tables of made events are mended, as events come or go. As a trigger comes, goes or gets another
+//! filter, they stay, unless it bears on made events: then its own is made anew, or all are. Where
+//! memory runs out for any of it, the edit stands, and the next answer builds it.
 //!
 //! An event that is inserted or struck may change a few rows of each trigger that counts held
 //! events, and these are reported. The rows of triggers that count made events are named apart
@@ -40,19 +41,27 @@
 //! **Made events.** Where no reading changed, mending never gives the shelves up. Where no made event
 //! is counted, it leaves them, and takes no step; and nothing is told of readings (clauses of the
 //! private `mend` and `asked`). No clause bounds the steps of mending or of making anew where made
-//! events are counted. Where memory for either, or for the readings that changed, runs out, the
-//! shelves are given up too. Where an accepted edit leaves no shelves, no table of made events is
-//! left either (clauses `ends` and `made` of the private edits of `Views`), so that what is built
-//! anew finds their memory.
+//! events are counted, except as a trigger bears on none (below). Where memory for either, or for
+//! the readings that changed, runs out, the shelves are given up too. Where an accepted edit leaves
+//! no shelves, no table of made events is left either (clauses `ends` and `made` of the private edits
+//! of `Views`), so that what is built anew finds their memory.
 //!
 //! **Which tables an edit touches** is how the source does it: `insert` and `strike` repair the
 //! tables by the one event, `attach` and `remove` add or take one trigger's, `refilter` builds anew
 //! those of a trigger and of its readers, and `unload` and `load` let the events of lanes go or
 //! come one by one where these are fewer than stay, else build all anew. Tables of made events are
-//! made anew where the shelves are, at `attach` and `refilter`, and at `remove` of a trigger that
-//! reads. Where no made event is counted, the clause `costs` shuts out that `refilter` of a trigger
-//! that reads nothing builds all anew, and the clause `repairs` that the `unload` of a smaller lane
-//! does, or the `load` of fewer events than are held, where that takes more tests.
+//! made anew where all shelves are, and at `attach`, `refilter` and `remove` of a trigger that makes
+//! such events, or saves or reads what one reads that does. `attach` and `refilter` of one that
+//! counts them make its own. Where no made event is counted, the clause `costs` shuts out that
+//! `refilter` of a trigger that reads nothing builds all anew, and the clause `repairs` that the
+//! `unload` of a smaller lane does, or the `load` of fewer events than are held, where that takes
+//! more tests.
+//!
+//! Law `made_events_stay` (`specs/Makers.antt`): whatever other triggers come, go or get another
+//! filter, the same events are made, where each trigger that makes any stays with its saver, and the
+//! same triggers read that; so as one comes, goes or gets another filter that bears on none of these.
+//! By the clauses `evals`, `none` and `apart` of the private `join`, `leave` and `refit`, the tables
+//! of made events take no step then, however many such events are counted.
 //!
 //! **Reports.** `insert` and `strike` are one method, `Views::change`. What they name is `ft_kept`'s
 //! report of the keys that the repair told, which the private law `reported_edits` proves to be a
@@ -69,6 +78,7 @@ mod edits;
 mod kept;
 pub mod laws;
 mod made;
+mod making;
 mod mend;
 mod readings;
 mod report;
@@ -76,4 +86,4 @@ mod views;
 
 pub use ft_answers::{Board, PlainBoard};
 pub use kept::KeptBoard;
-pub use laws::{kept_board_keeps, kept_shelves, others_stay, readers_stay};
+pub use laws::{kept_board_keeps, kept_shelves, made_events_stay, others_stay, readers_stay};

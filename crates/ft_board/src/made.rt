@@ -1,10 +1,13 @@
-//! Tables of the events that readings make, beside the shelves: made anew where the shelves are
-//! built anew, or a trigger comes, gets another filter, or goes that read.
+//! Tables of the events that readings make, beside the shelves: made anew where all shelves are, or
+//! a trigger comes, goes or gets another filter that bears on such events; one where it counts them.
 
 ghost use Rattle.std.specs.Prelude.{◌≡◌, ◌⊎◌, true, false, is_some, IfOk, OnErr};
 ghost use Rattle.std.specs.Ordering.{nat_cmp};
 ghost use Rattle.ft_hist.specs.Steps.{StepsGrow};
 ghost use Rattle.ft_maps.specs.Seen.{seen};
+ghost use Rattle.ft_replay.specs.Found.{saving_found};
+ghost use Rattle.ft_replay.specs.Merged.{merged};
+ghost use Rattle.ft_made.specs.MadeTables.{IsMadeTable};
 ghost use Rattle.ft_made.specs.Making.{MakeNone};
 ghost use Rattle.ft_answers.specs.Counting.{CountNone, MakesNothing};
 ghost use Rattle.ft_base.specs.Roles.{is_reader};
@@ -50,6 +53,25 @@ pub(crate) fn made_tables(
         }
     }
     Ok(made)
+}
+
+/// The table of one trigger among those that count made events. Refused for memory.
+pub(crate) fn made_table_of(
+    alloc: Global,
+    content: &Content,
+    tables: &Tables,
+    trigger: &Trigger,
+    work: &mut Work,
+) -> Result<Table, AllocError>
+    requires { AreKeptOf content.now tables.now }
+    ensures made { IfOk result (IsMadeTable content.now.triggers (merged content.now.lanes)
+        (saving_found content.now.triggers (merged content.now.lanes)) trigger.now) }
+    ensures grow { StepsGrow work.old work.new }
+{
+    laws::kept_shelves();
+    let (lanes, triggers) = (content.lanes(), content.triggers());
+    let readings = ShelfReadings { alloc, tables };
+    made_table(alloc, lanes, triggers, &readings, trigger, work)
 }
 
 /// Whether events are made that are counted: some attached trigger makes events of its readings,

@@ -1,20 +1,23 @@
 //! What is kept of a base, so that no answer replays its events.
 
-ghost use Rattle.std.specs.Prelude.{◌≡◌, false, None, IfSome};
+ghost use Rattle.std.specs.Prelude.{◌≡◌, ◌⊎◌, false, None, IfSome};
 ghost use Rattle.std.specs.FinMap as map;
 ghost use Rattle.std.specs.Option.{is_none};
 ghost use Rattle.ft_hist.specs.Steps.{StepsGrow};
 ghost use Rattle.ft_answers.specs.Counting.{MakesNothing};
 ghost use Rattle.ft_answers.specs.Edited.{kept_of};
-ghost use Rattle.ft_base.specs.Base.{empty_base};
+ghost use Rattle.ft_base.specs.Base.{Base, empty_base};
 ghost use Rattle.ft_repair.specs.KeptShelves.{AreKeptOf};
-ghost use Rattle.ft_board.specs.inner.Views.{AreFresh, EndsAs, made_in};
+ghost use Rattle.ft_board.specs.Makers.{LeavesMade};
+ghost use Rattle.ft_board.specs.inner.Views.{AreFresh, AreMadeBut, AwaitTrigger, EndsAs, made_in};
 
-use crate::made::made_tables;
+use crate::made::{are_made, made_table_of, made_tables};
+use crate::making::{bears_on_makers, counts_made};
 use ft_answers::Kept;
 use ft_base::Content;
 use ft_hist::Work;
 use ft_kept::Tables;
+use ft_maps::put;
 use ft_repair::{renew, restore};
 use ft_table::Table;
 use std::alloc::Global;
@@ -116,6 +119,84 @@ impl Views {
                 Kept::Now
             }
             Err(_) => Kept::Later,
+        }
+    }
+
+    /// Makes the tables of made events right as a trigger has come or got another filter, all anew
+    /// if it bears on those that make such events, its own if it counts them: whether there are
+    /// shelves then. Else the tables stay, and it takes neither memory nor steps.
+    pub(crate) fn refit(&mut self, id: u32, content: &Content) -> Kept
+        requires kept { IfSome self.old.shelves (AreKeptOf content.now) }
+        requires made { AwaitTrigger id content.now self.old }
+        ensures fresh { AreFresh content.now self.new }
+        ensures ends { EndsAs result self.old self.new }
+        ensures nothing { MakesNothing content.now.triggers → self.new.work ≡ self.old.work }
+        ensures apart { LeavesMade content.now.triggers id
+            → (self.new.shelves ≡ self.old.shelves) × (self.new.work ≡ self.old.work) }
+    {
+        let triggers = content.triggers();
+        if bears_on_makers(triggers, id) {
+            return self.remake(content);
+        }
+        if counts_made(triggers, id) {
+            return self.remake_table(id, content);
+        }
+        self.settle()
+    }
+
+    /// Makes one trigger's table of made events anew, as the others' are right: whether there are
+    /// shelves then. Where memory runs out, they are given up too; where no made event is counted,
+    /// it takes no step.
+    fn remake_table(&mut self, id: u32, content: &Content) -> Kept
+        requires kept { IfSome self.old.shelves (AreKeptOf content.now) }
+        requires made { IfSome self.old.shelves (λ _. AreMadeBut id content.now
+            (made_in self.old)) }
+        ensures fresh { AreFresh content.now self.new }
+        ensures ends { EndsAs result self.old self.new }
+        ensures nothing { MakesNothing content.now.triggers → self.new.work ≡ self.old.work }
+    {
+        let triggers = content.triggers();
+        if !are_made(triggers) {
+            return self.remake(content);
+        }
+        let Some(trigger) = triggers.get(id) else {
+            return self.remake(content);
+        };
+        let Some(tables) = &self.shelves else {
+            return self.give_up();
+        };
+        match made_table_of(self.alloc, content, tables, trigger, &mut self.work) {
+            Ok(table) => self.put_table(id, table),
+            Err(_) => self.give_up(),
+        }
+    }
+
+    /// Puts a trigger's table of made events among the others: whether there are shelves then.
+    /// Where memory runs out, they are given up.
+    fn put_table(&mut self, id: u32, table: Table) -> Kept
+        ensures shelves { (self.new.shelves ≡ self.old.shelves) ⊎ (self.new.shelves ≡ None) }
+        ensures made { IfSome self.new.shelves (λ _.
+            made_in self.new ≡ map.insert (made_in self.old) id table) }
+        ensures ends { EndsAs result self.old self.new }
+        ensures work { self.new.work ≡ self.old.work }
+    {
+        match put(&mut self.made, id, table) {
+            Ok(()) => self.settle(),
+            Err(_) => self.give_up(),
+        }
+    }
+
+    /// Leaves the tables of made events as they are, or gives them up where there are no shelves:
+    /// whether there are some.
+    pub(crate) fn settle(&mut self) -> Kept
+        ensures fresh { (base : Base) → AreFresh base self.old → AreFresh base self.new }
+        ensures ends { EndsAs result self.old self.new }
+        ensures same { (self.new.shelves ≡ self.old.shelves) × (self.new.work ≡ self.old.work) }
+        ensures made { IfSome self.new.shelves (λ _. made_in self.new ≡ made_in self.old) }
+    {
+        match self.kept() {
+            Kept::Now => Kept::Now,
+            Kept::Later => self.give_up(),
         }
     }
 }

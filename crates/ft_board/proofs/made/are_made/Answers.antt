@@ -7,7 +7,8 @@ use Rattle.std.proofs.lemmas.Iterator.Search.{any_from_yields_List}
 use Rattle.ft_hist.specs.Hist.{Hist}
 use Rattle.ft_hist.specs.Made.{counts_made}
 use Rattle.ft_hist.specs.Triggers.{Triggers}
-use Rattle.ft_board.proofs.Makers.{all_but, makes, makes_none, none_attached, reads_and_makes_none}
+use Rattle.ft_board.specs.Makers.{makes}
+use Rattle.ft_board.proofs.Makers.{all_but, makes_none, none_attached, reads_and_makes_none}
 use Rattle.ft_board.proofs.made.are_made.Goals as goal
 
 pub returns-then-any-clause-none : goal.returns-then-any-clause-none

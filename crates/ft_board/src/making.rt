@@ -1,0 +1,75 @@
+//! Which triggers bear on the events that triggers make of their readings. As any other comes, goes
+//! or gets another filter, the tables of made events stay as they are.
+
+ghost use Rattle.std.specs.Prelude.{◌≡◌, false, Some};
+ghost use Rattle.std.specs.FinMap as map;
+ghost use Rattle.ft_hist.specs.Hist.{Hist};
+ghost use Rattle.ft_hist.specs.Made.{counts_made};
+ghost use Rattle.ft_base.specs.OneTrigger.{reads_from};
+ghost use Rattle.ft_base.specs.Roles.{role_at};
+ghost use Rattle.ft_board.specs.Makers.{LeavesMakers, makes_with, shares_read};
+
+use ft_base::role_of;
+use ft_hist::{Trigger, Triggers};
+use ft_pairs::Role;
+
+/// Whether the trigger with an id makes events, saves what one reads that does, or reads that too:
+/// since a reading unsets its variable, what one reader finds another may miss.
+pub(crate) fn bears_on_makers(triggers: &Triggers, id: u32) -> bool
+    ensures none { result ≡ false → LeavesMakers triggers.now id }
+    ensures some { LeavesMakers triggers.now id → result ≡ false }
+{
+    triggers
+        .iter()
+        .any(|(_, maker)| makes_with(triggers, id, maker))
+}
+
+/// Whether the trigger with an id, if there is one, counts made events.
+pub(crate) fn counts_made(triggers: &Triggers, id: u32) -> bool
+    ensures none { result ≡ false → (hist : Hist) → map.get triggers.now id ≡ Some hist
+        → counts_made hist ≡ false }
+    ensures some { ((hist : Hist) → map.get triggers.now id ≡ Some hist
+        → counts_made hist ≡ false) → result ≡ false }
+{
+    match triggers.get(id) {
+        Some(trigger) => trigger.counts_made(),
+        None => false,
+    }
+}
+
+/// Whether a trigger makes events of a variable that the one with an id saves or reads.
+fn makes_with(triggers: &Triggers, id: u32, maker: &Trigger) -> bool
+    ensures { result ≡ makes_with triggers.now id maker.now }
+{
+    maker.onmatch().is_some() && shares_read(triggers, id, role_of(triggers, maker.variable()))
+}
+
+/// Whether the trigger with an id saves what one with this role reads, or reads it too.
+fn shares_read(triggers: &Triggers, id: u32, role: Role) -> bool
+    ensures { result ≡ shares_read triggers.now id role }
+{
+    match role {
+        Role::Plain | Role::Saves => false,
+        Role::Reads(saver) => id == saver || reads_from(saver, role_at(triggers, id)),
+    }
+}
+
+/// What the trigger with an id, if there is one, does with its variable.
+fn role_at(triggers: &Triggers, id: u32) -> Role
+    ensures { result ≡ role_at triggers.now id }
+{
+    match triggers.get(id) {
+        Some(trigger) => role_of(triggers, trigger.variable()),
+        None => Role::Plain,
+    }
+}
+
+/// Whether a trigger with this role reads what the one with an id saves.
+fn reads_from(id: u32, role: Role) -> bool
+    ensures { result ≡ reads_from id role }
+{
+    match role {
+        Role::Plain | Role::Saves => false,
+        Role::Reads(saver) => saver == id,
+    }
+}
