@@ -12,7 +12,7 @@ ghost use Rattle.ft_desk.specs.inner.Reading.{in_front};
 use ft_answers::Refused;
 use ft_event::{Event, Line, read_cut_line, read_line};
 use ft_fields::EventRef;
-use ft_quick::cut_line;
+use ft_quick::put_line;
 use ft_script::next_line;
 use ft_store::Store;
 use std::alloc::Global;
@@ -45,18 +45,28 @@ pub(crate) fn events_in(alloc: Global, text: &[u8]) -> Result<Store, Refused>
     let mut events = store_for(alloc, text.len());
     // The event of a line that is not of the usual form is put here, and stored from here.
     let mut event = Event::blank();
+    // That of a line of the usual form is put here, its names where they lie in the line.
+    let blank = Event::blank();
+    let mut told = blank.borrowed();
     let mut rest = text;
     let mut number = 1;
     while let Some((line, behind)) = next_line(rest) {
-        add_line(&mut events, &mut event, number, line)?;
+        add_line(&mut events, &mut told, &mut event, number, line)?;
         rest = behind;
         number += 1;
     }
     Ok(events)
 }
 
-/// Adds the event of the line of this number, if the line is not skipped. `event` may be overwritten.
-fn add_line(events: &mut Store, event: &mut Event, number: u64, line: &[u8]) -> Result<(), Refused>
+/// Adds the event of the line of this number, if the line is not skipped. `told` and `event` may be
+/// overwritten.
+fn add_line<'a>(
+    events: &mut Store,
+    told: &mut EventRef<'a>,
+    event: &mut Event,
+    number: u64,
+    line: &'a [u8],
+) -> Result<(), Refused>
     requires { list_any (λ b. b == 10) line.now ≡ false }
     ensures ok { OnOk result ((behind : Result (List Traced) Refused) →
         in_front events.old (line_in_front number (line_of line.now) behind)
@@ -65,9 +75,10 @@ fn add_line(events: &mut Store, event: &mut Event, number: u64, line: &[u8]) -> 
         ⊎ ((behind : Result (List Traced) Refused) →
         line_in_front number (line_of line.now) behind ≡ Err refused)) }
 {
-    match cut_line(line) {
-        Some(told) => keep(events, &told),
-        None => add_other(events, event, number, line),
+    if put_line(line, told) {
+        keep(events, told)
+    } else {
+        add_other(events, event, number, line)
     }
 }
 

@@ -240,7 +240,7 @@ fn add_found(
     let Some(saved) = found else {
         return Ok(());
     };
-    let values = sums_at(trigger, &event.1, Some(saved.pos));
+    let values = sums_at(trigger, event, Some(saved.pos));
     hits.push((Spot::traced(event.0), values))?;
     readings.push((event.0, saved.pos))?;
     Ok(())

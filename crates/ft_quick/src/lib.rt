@@ -19,7 +19,7 @@
 //!
 //! # Contracts
 //!
-//! - `cut_line`: where it gives an event, that is the line's, by both clauses of
+//! - `cut_line`, and `put_line` in place: where it gives an event, that is the line's, by both clauses of
 //!   `ft_event::read_cut_line`. Lets through: for which lines it gives none; a body that gave none for
 //!   any would meet it. A test has lines of the usual form.
 //!
@@ -39,4 +39,4 @@ mod same;
 #[cfg(test)]
 mod tests;
 
-pub use line::cut_line;
+pub use line::{cut_line, put_line};

@@ -1,6 +1,6 @@
 //! One line of a trace, fast where it is of the usual form.
 
-ghost use Rattle.std.specs.Prelude.{◌≡◌, ◌==◌, ◌≤◌, false, length, Ok, IfSome};
+ghost use Rattle.std.specs.Prelude.{◌≡◌, ◌==◌, ◌≤◌, true, false, length, Ok, IfSome};
 ghost use Rattle.std.specs.List.{list_any};
 ghost use Rattle.ft_event.specs.declared.fault.Line.TheVariants as lines;
 ghost use Rattle.ft_event.specs.Line.{line_of};
@@ -10,9 +10,9 @@ ghost use Rattle.ft_quick.specs.inner.Lines.{HasColumns};
 
 use crate::columns::{Columns, is_plain};
 use crate::front::Front;
-use crate::payload::event_of;
+use crate::payload::put_event;
 use ft_event::one_answer;
-use ft_fields::{EventRef, NameRef};
+use ft_fields::{BodyRef, EventRef, NameRef};
 
 /// The columns of a line, where they are of the usual form.
 #[inline(never)]
@@ -54,5 +54,29 @@ pub fn cut_line(line: &[u8]) -> Option<EventRef<'_>>
     let front = front_of(line)?;
     // Its one answer, so the general reader's too.
     one_answer();
-    event_of(&front, line)
+    let mut event = front.with(BodyRef::Other);
+    if put_event(&front, line, &mut event) {
+        Some(event)
+    } else {
+        None
+    }
+}
+
+/// The same in place: puts the event of such a line, if the line is of the usual form, and whether it
+/// is. An event is large to move.
+#[inline(always)]
+pub fn put_line<'a>(line: &'a [u8], event: &mut EventRef<'a>) -> bool
+    requires { list_any (λ b. b == 10) line.now ≡ false }
+    // The line's answer, as the function that the definitions compute.
+    ensures exact { result ≡ true → line_of line.now ≡ Ok (lines.Event (event_told event.new)) }
+    // What the answer says of the whole line's bytes.
+    ensures meaning { result ≡ true → LineIs line.now (Ok (lines.Event (event_told event.new))) }
+{
+    match front_of(line) {
+        Some(front) => {
+            one_answer();
+            put_event(&front, line, event)
+        }
+        None => false,
+    }
 }

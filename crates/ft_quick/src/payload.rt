@@ -130,32 +130,41 @@ fn turn_of(line: &[u8], at: usize) -> Option<TurnRef<'_>>
     })
 }
 
-/// The wake event of this name, where its payload is of the usual form.
-// Apart from the columns, each keeps its registers.
+/// Puts the wake event of this name, if its payload is of the usual form: whether it is.
+// Apart from the columns, each keeps its registers. The event is put in place: it is large to move.
 #[inline(never)]
-fn wake_event<'a>(
+fn put_wake<'a>(
     front: &Front<'a>,
     name: WakeName,
     line: &'a [u8],
     at: usize,
-) -> Option<EventRef<'a>>
+    event: &mut EventRef<'a>,
+) -> bool
     requires { at ≤ length line.now }
-    ensures { IfSome result (λ event.
-        IsPutWake name (drop at line.now) front.now (event_told event)) }
+    ensures { result ≡ true → IsPutWake name (drop at line.now) front.now (event_told event.new) }
 {
-    let wake = wake_of(line, at)?;
-    Some(front.with(name.body(wake)))
+    match wake_of(line, at) {
+        Some(wake) => {
+            *event = front.with(name.body(wake));
+            true
+        }
+        None => false,
+    }
 }
 
-/// The switch, where its payload is of the usual form.
+/// Puts the switch, if its payload is of the usual form: whether it is.
 #[inline(never)]
-fn turn_event<'a>(front: &Front<'a>, line: &'a [u8], at: usize) -> Option<EventRef<'a>>
+fn put_turn<'a>(front: &Front<'a>, line: &'a [u8], at: usize, event: &mut EventRef<'a>) -> bool
     requires { at ≤ length line.now }
-    ensures { IfSome result (λ event.
-        IsPutTurn (drop at line.now) front.now (event_told event)) }
+    ensures { result ≡ true → IsPutTurn (drop at line.now) front.now (event_told event.new) }
 {
-    let turn = turn_of(line, at)?;
-    Some(front.with(BodyRef::Switch(turn)))
+    match turn_of(line, at) {
+        Some(turn) => {
+            *event = front.with(BodyRef::Switch(turn));
+            true
+        }
+        None => false,
+    }
 }
 
 /// Whether an event without a name surely begins here: `wakeup_latency`, which no line names, is asked
@@ -191,39 +200,35 @@ fn is_other(line: &[u8], at: usize) -> bool
     }
 }
 
-/// The event of a line with these columns, where it surely is one without a name.
+/// Puts the event of a line with these columns, if it surely is one without a name: whether it is.
 #[inline(always)]
-fn other_event<'a>(front: &Front<'a>, line: &'a [u8]) -> Option<EventRef<'a>>
+fn put_other<'a>(front: &Front<'a>, line: &'a [u8], event: &mut EventRef<'a>) -> bool
     requires { front.now.rest ≤ length line.now }
-    ensures { IfSome result (λ event.
-        IsPut (drop front.now.rest line.now) front.now (event_told event)) }
+    ensures { result ≡ true → IsPut (drop front.now.rest line.now) front.now (event_told event.new) }
 {
-    if !is_other(line, front.rest) {
-        return None;
-    }
-    Some(front.with(BodyRef::Other))
+    *event = front.with(BodyRef::Other);
+    is_other(line, front.rest)
 }
 
-/// The event of a line with these columns, where it is of the usual form.
+/// Puts the event of a line with these columns, if it is of the usual form: whether it is.
 #[inline(always)]
-pub(crate) fn event_of<'a>(front: &Front<'a>, line: &'a [u8]) -> Option<EventRef<'a>>
+pub(crate) fn put_event<'a>(front: &Front<'a>, line: &'a [u8], event: &mut EventRef<'a>) -> bool
     requires { front.now.rest ≤ length line.now }
-    ensures { IfSome result (λ event.
-        IsPut (drop front.now.rest line.now) front.now (event_told event)) }
+    ensures { result ≡ true → IsPut (drop front.now.rest line.now) front.now (event_told event.new) }
 {
     if let Some(label) = behind(b" sched_", line, front.rest) {
         if let Some(at) = behind(b"switch: ", line, label) {
-            return turn_event(front, line, at);
+            return put_turn(front, line, at, event);
         }
         if let Some(at) = behind(b"waking: ", line, label) {
-            return wake_event(front, WakeName::Waking, line, at);
+            return put_wake(front, WakeName::Waking, line, at, event);
         }
         if let Some(at) = behind(b"wakeup: ", line, label) {
-            return wake_event(front, WakeName::Wakeup, line, at);
+            return put_wake(front, WakeName::Wakeup, line, at, event);
         }
         if let Some(at) = behind(b"wakeup_new: ", line, label) {
-            return wake_event(front, WakeName::WakeupNew, line, at);
+            return put_wake(front, WakeName::WakeupNew, line, at, event);
         }
     }
-    other_event(front, line)
+    put_other(front, line, event)
 }

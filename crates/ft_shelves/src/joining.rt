@@ -84,7 +84,7 @@ fn hits_of(joining: &Joining<'_, '_>, key: &Key) -> Result<Vec<(Spot, [i64; 3])>
     let run = joining.groups.run(key);
     let mut hits = Vec::with_capacity(joining.alloc, run.len())?;
     for event in run {
-        let values = sums_at(joining.trigger, &event.1, None);
+        let values = sums_at(joining.trigger, *event, None);
         hits.push((Spot::traced(event.0), values))?;
     }
     Ok(hits)

@@ -40,8 +40,8 @@
 //! - `Shelf::join`, `put_run`: of a trigger that joins, the hits of all events that it counts, by
 //!   their groups, and of a saver a save at each event whose key is in the table; the hits of one key
 //!   (`specs/Joining.antt`).
-//! - `sums_at`: what a trigger's hit at an event adds to its sums, by the event's stamp and what it
-//!   read; exact.
+//! - `sums_at`: what a trigger's hit at an event adds to its sums, by the stamp of the event's place,
+//!   which is the event's own, and by what it read; exact.
 //! - `Shelf::has_no_hits`, `has_no_ops`: where it says so, there are no hits; no operation stands on
 //!   what is saved. Lets through: saying no.
 #![tactic(auto)]

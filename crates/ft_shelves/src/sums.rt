@@ -2,9 +2,8 @@
 
 ghost use Rattle.std.specs.Prelude.{◌≡◌};
 ghost use Rattle.std.specs.List.{list_any};
-ghost use Rattle.ft_hist.specs.Values.{values_of};
 ghost use Rattle.ft_store.specs.Stored.{held};
-ghost use Rattle.ft_table.specs.Values.{own_value};
+ghost use Rattle.ft_table.specs.Values.{values_at};
 ghost use Rattle.ft_shelves.specs.inner.Sums.{is_field};
 
 use ft_fields::{Event, Pos};
@@ -13,16 +12,19 @@ use ft_store::Stored;
 use ft_table::own_value;
 
 /// What a trigger's hit at an event adds to its sums, where it read what was saved at a place, or
-/// read nothing. The event is looked at only where the trigger sums a field of it, and its stamp only
-/// where it sums something.
-pub fn sums_at(trigger: &Trigger, stored: &Stored<'_>, read: Option<Pos>) -> [i64; 3]
-    ensures { result ≡ values_of trigger.now (held stored.now)
-        (own_value (held stored.now).stamp read) }
+/// read nothing. The event's stamp is that of its place, so the event is looked at only if the
+/// trigger sums a field of it.
+pub fn sums_at(trigger: &Trigger, event: &(Pos, Stored<'_>), read: Option<Pos>) -> [i64; 3]
+    requires { (held event.now.1).stamp ≡ event.now.0.stamp }
+    ensures { result ≡ values_at trigger.now event.now.0 (held event.now.1) read }
 {
     if trigger.values().is_empty() {
         return [0, 0, 0];
     }
-    let own = own_value(stored.stamp(), read);
+    let (pos, stored) = *event;
+    // A law, by which the stamp of its place is at most an event's.
+    stored.stamp_fits();
+    let own = own_value(pos.stamp, read);
     if sums_field(trigger.values()) {
         return trigger.values_of(&stored.bare(), own);
     }

@@ -2,8 +2,9 @@
 use Rattle.std.proofs.Common.{◌≡◌, ◌+◌, ◌<◌, ◌≤◌, ◌++◌, ℕ, zero, suc, List, [], ◌∷◌, length, get_or, take, drop, map, refl, sym, ap, subst, ◌∙◌, arith, length-append}
 use Rattle.std.proofs.lemmas.List.{take-append-drop, length-take-le, take-map, map-append}
 use Rattle.std.proofs.Math.Seq.{drop-append-add}
-use Rattle.ft_fields.specs.Traced.{Traced}
+use Rattle.ft_fields.specs.Traced.{Traced, last_stamp}
 use Rattle.ft_store.specs.declared.packed.Packed.{Packed}
+use Rattle.ft_store.specs.Stored.{stored_at}
 use Rattle.ft_store.specs.inner.Packing.{moved, width, event_of, unpacked, all_unpacked, IsSoundPacked, AreLaid}
 use Rattle.ft_store.proofs.Names.{added_names, names_stay}
 
@@ -29,6 +30,12 @@ laid_at begins [] ends n event laid at = absurd (omega arith)
 laid_at begins (first ∷ events) ends zero event laid at =
     subst (λ (e : Packed). IsSoundPacked e × (e.begins + width e ≤ ends)) (sym at.1) (laid.0, omega (arith, laid_forward (begins + width first) events ends laid.2))
 laid_at begins (first ∷ events) ends (suc n) event laid at = laid_at (begins + width first) events ends n event laid.2 (omega arith, at.1)
+
+-- the stamp at each place is an event's
+pub stamps_laid : (text : List ℕ) (begins : ℕ) (events : List Packed) (ends n : ℕ) → AreLaid begins events ends → (stored_at (all_unpacked text events) n).stamp ≤ last_stamp
+stamps_laid text begins [] ends n laid = omega arith
+stamps_laid text begins (event ∷ events) ends zero laid = laid.0.stamp
+stamps_laid text begins (event ∷ events) ends (suc n) laid = stamps_laid text (begins + width event) events ends n laid.2
 
 -- the names of the first events end where those of the next one begin
 pub laid_front : (begins : ℕ) (events : List Packed) (ends n : ℕ) (event : Packed) → AreLaid begins events ends → StandsAt events n event

@@ -25,6 +25,7 @@
 //! - `Store::get`, `bare`, `len`, `cpu`, and `Stored::event`, `bare`, `name`, `stamp`, `number`,
 //!   `place`: exact (`specs/Stored.antt`). A place past the last event gives the blank event. A bare
 //!   event is the event without its names.
+//! - `Stored::stamp_fits`: a law, which does nothing: a stamp is at most an event's.
 //! - `Store::room`: no clause. It only tells lanes when to copy what is held.
 #![tactic(auto)]
 

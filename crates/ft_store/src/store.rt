@@ -1,6 +1,6 @@
 //! `Store` and its calls: events packed one after the other.
 
-ghost use Rattle.std.specs.Prelude.{◌≡◌, ◌≤◌, ◌++◌, ◌∷◌, [], length, map, take, OnOk, OnErr, IfOk};
+ghost use Rattle.std.specs.Prelude.{◌≡◌, ◌≤◌, ◌++◌, ◌∷◌, ℕ, [], length, map, take, OnOk, OnErr, IfOk};
 ghost use Rattle.ft_fields.specs.Borrowed.{event_told};
 ghost use Rattle.ft_store.specs.inner.Packing.{event_names, event_of, packed, moved, width, IsSoundPacked};
 
@@ -291,6 +291,14 @@ impl Store {
             Some(packed) => packed.stamp,
             None => 0,
         }
+    }
+
+    /// A law: the stamp at each place is at most an event's.
+    #[inline(always)]
+    pub(crate) fn stamps_fit(&self)
+        ensures { (place : ℕ) → (stored_at self.now place).stamp ≤ last_stamp }
+    {
+        let _ = &self.events;
     }
 
     /// The number that a field of the event at a place holds. No name is read.

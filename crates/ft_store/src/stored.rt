@@ -59,6 +59,14 @@ impl<'a> Stored<'a> {
         self.store.stamp_at(self.place as usize)
     }
 
+    /// A law: its stamp is at most an event's. It reads nothing.
+    #[inline(always)]
+    pub fn stamp_fits(&self)
+        ensures { (held self.now).stamp ≤ last_stamp }
+    {
+        self.store.stamps_fit();
+    }
+
     /// The number that a field of it holds, or `None` where it has no such field or the field holds
     /// a text. No event is made of it, and no name is read.
     pub fn number(&self, field: Field) -> Option<i64>

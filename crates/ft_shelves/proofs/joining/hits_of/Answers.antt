@@ -1,15 +1,12 @@
 -- Each event of the run gives its hit.
-use Rattle.std.proofs.Common.{◌≡◌, ◌++◌, ℕ, List, [], drop, sym, ap, subst, ◌∙◌, None}
+use Rattle.std.proofs.Common.{◌≡◌, ◌++◌, List, [], drop, sym, ap, subst, ◌∙◌, None}
 use Rattle.std.specs.Borrow.{Bor}
 use Rattle.std.specs.List.{AllByRecursion}
 use Rattle.std.proofs.lemmas.List.{drop_all}
 use Rattle.ft_fields.specs.Traced.{Traced}
 use Rattle.ft_fields.specs.declared.pos.Pos.{Pos}
 use Rattle.ft_groups.specs.Grouped.{referenced_events}
-use Rattle.ft_hist.specs.Values.{values_of}
-use Rattle.ft_store.specs.Stored.{held}
 use Rattle.ft_store.specs.declared.stored.Stored.{Stored}
-use Rattle.ft_table.specs.Values.{own_value}
 use Rattle.ft_shelves.specs.Joining.{hits_of_run}
 use Rattle.ft_shelves.proofs.KeyByKey.{first_event, made_all, made_more, stamped_run}
 use Rattle.ft_shelves.proofs.joining.hits_of.Goals as goal
@@ -27,16 +24,20 @@ loop-event-init c =
       stamped = subst (AllByRecursion HasStamp) (sym c.run-run.ensures) (stamped_run hist groups c.requires c.args.key.now);
     }
 
+pub sums_at-values-requires : goal.sums_at-values-requires
+sums_at-values-requires c =
+    let first = first_event c.run-run.result.now c.loop-event.event-index c.event-item.result c.loop-event-test.true c.event-item.is in
+    (subst (AllByRecursion HasStamp) first c.loop-event.invariant.stamped).0
+
 pub loop-event-preserved : goal.loop-event-preserved
 loop-event-preserved c =
     let hist = c.args.joining.now.trigger.now in
     let e = c.event-item.result in
     let first = first_event c.run-run.result.now c.loop-event.event-index e c.loop-event-test.true c.event-item.is in
     let stamped = subst (AllByRecursion HasStamp) first c.loop-event.invariant.stamped in
-    let values = c.sums_at-values.ensures ∙ ap (λ (stamp : ℕ). values_of hist (held e.now.1) (own_value stamp None)) stamped.0 in
     record {
       made = made_more c.loop-event.hits.items c.push.new.self.items _ _ _ _ _ c.in_ok-push.ensures.items
-          (λ i. (c.traced.ensures i, values i))
+          (λ i. (c.traced.ensures i, c.sums_at-values.ensures i))
           (ap (hits_of_run hist) first)
           c.loop-event.invariant.made;
       stamped = stamped.1;
