@@ -1,8 +1,8 @@
 /* histdesk: the scheduler trace desk, for C.
  *
  * A desk holds the events of texts of the kernel's tracefs `trace` file, by CPU and line number, and the hist triggers
- * that are attached to them. It answers what replaying the events that it holds now gives for the triggers that are
- * attached now. The forms of texts, and what they mean, are in REFERENCE.md, one of histdesk's documents.
+ * attached to them. Its answers are what replaying the events that it holds now gives for the triggers that are attached
+ * now. REFERENCE.md, one of histdesk's documents, defines the forms of texts and what they mean.
  *
  *     histdesk desk = {0};
  *     uint64_t events;
@@ -10,40 +10,41 @@
  *         ..
  *     histdesk_free(&desk);
  *
- * Codes. A call that can be refused answers a code: HISTDESK_OK, the number of the refusal, or HISTDESK_CLOSED where the
- * handle has no desk. Unless the code is HISTDESK_OK, what is held, attached and was asked for before stays, and nothing
- * is written that the call hands out. Each call says which codes it has, in the order in which they are tested.
- * HISTDESK_MEMORY may come in place of any answer, except where a call never has it; the same call may be made again.
- * HISTDESK_CLOSED comes from each call with a code except histdesk_new.
+ * Codes. A call that can be refused returns a code: HISTDESK_OK, the number of the refusal, or HISTDESK_CLOSED if the handle
+ * has no desk. If the code isn't HISTDESK_OK, what is held and attached, and what was asked for before, stays as it was, and
+ * none of the call's outputs is written; only histdesk_strike_events may have struck some events, and says how many. The
+ * comment of each call lists its codes in the order in which they are tested. Two
+ * codes are not listed: any call may return HISTDESK_MEMORY instead of an answer, unless its comment says never, and may then
+ * be repeated; and each call with a code, except histdesk_new, may return HISTDESK_CLOSED.
  *
- * Answers. What is larger than a number is asked for by one call, which says how much it is, and copied by another one. The
+ * Answers. Anything larger than a number is asked for by one call, which says how large it is, and copied by another. The
  * desk keeps one answer of each kind (a text, rows, latencies, places, triggers, lines, losses) as it was when it was asked
- * for, also over edits, until the next of its kind is asked for, or histdesk_forget. It is copied a part at a time: a
- * .._copy call takes the items from number `from` on, counted from 0, writes as many as there are and as `room` allows to
- * `to`, and answers how many that was. It answers 0 from the end on, where nothing was asked for, and without a desk. What
- * is after the items in `to` stays as it was. It needs no memory and changes nothing.
+ * for, even across edits, until the next of its kind is asked for or histdesk_forget is called. It is copied a part at a
+ * time: a .._copy call takes the items from number `from` on, counted from 0, writes to `to` as many of them as there are and
+ * as fit into `room`, and returns how many it wrote. It returns 0 at the end, if nothing was asked for, and if there is no
+ * desk. The memory after the items in `to` stays as it was. A copy needs no memory and changes nothing.
  *
  *     for (uint64_t from = 0; (count = histdesk_rows_copy(&desk, from, rows, 64)) > 0; from += count)
  *         ..
  *
- * Units. Stamps and differences of stamps are microseconds; lengths and places in texts are bytes, places from 0; lines and
- * ids count from 1. Texts are bytes of no encoding, and none ends with a zero byte, neither those that are handed in nor
- * those that come back.
+ * Units. Stamps and differences of stamps are microseconds. Lengths and places in texts are bytes; places count from 0, lines
+ * and ids from 1. Texts are bytes without an encoding. They have no terminating zero byte, neither when they are passed in
+ * nor when they are returned.
  *
  * What the caller owes.
- * - A handle is all zero before its first call. Then only the library writes it, and no copy of it is used.
- * - One call at a time has a handle: it is used by the thread that made the desk, or under one lock. Desks have nothing
- *   in common, so each thread may have its own.
- * - No pointer is null, also where its length or room is 0: any other pointer does then. Each points to as much as is
- *   said, and what a call reads and what it writes don't overlap. Lengths are at most PTRDIFF_MAX.
- * - A bool that a call reads is 0 or 1: the has_place of a refusal that is handed to histdesk_refusal_text or
- *   histdesk_refusal_words, and those of histdesk_waits_new and histdesk_waits_part. What a call only writes may hold anything
- *   before.
- * - The two handles of histdesk_waits_join are different ones, and each is used as said here.
+ * - A handle is all zero before its first call. After that, only the library writes to it, and no copy of it is used.
+ * - Only one call at a time uses a handle: it is used by the thread that made the desk, or under one lock. Desks share
+ *   nothing, so each thread may have its own.
+ * - No pointer is null, even if its length or room is 0: any other pointer is good then. Each points to as much memory as
+ *   stated, and memory that a call reads doesn't overlap memory that it writes. Lengths are at most PTRDIFF_MAX.
+ * - A bool that a call reads is 0 or 1: the has_place of a refusal that is passed to histdesk_refusal_text or
+ *   histdesk_refusal_words, and those of histdesk_strike_events, histdesk_waits_new and histdesk_waits_part. Memory that a call only writes may hold
+ *   anything before.
+ * - The two handles of histdesk_waits_join are different, and each is used as described here.
  * - One allocator: malloc, realloc and free, which the library takes from the program, belong together and stay the same
- *   while there is a desk, and all calls of one handle come to one copy of the library.
+ *   while there is a desk, and all calls with one handle go to one copy of the library.
  * - No call is made from a signal handler, nor in a forked child of a process that had several threads.
- * - histdesk_free ends a desk. What is copied is the caller's; the library keeps no pointer that it is handed. */
+ * - histdesk_free ends a desk. Copied data belongs to the caller; the library keeps no pointer that is passed to it. */
 #ifndef HISTDESK_H
 #define HISTDESK_H
 
@@ -64,34 +65,34 @@ typedef struct histdesk {
 enum {
     HISTDESK_OK = 0,
     HISTDESK_MEMORY = 1,             /* memory ran out */
-    HISTDESK_NO_FILE = 2,            /* of scripts alone: no such trace file */
+    HISTDESK_NO_FILE = 2,            /* only in scripts: no such trace file */
     HISTDESK_BAD_LINE = 3,           /* a trace line has a fault: line, fault */
     HISTDESK_LANE_HELD = 4,          /* events of the CPU are held already: cpu */
     HISTDESK_NO_LANE = 5,            /* no lane of the CPU is held: cpu */
     HISTDESK_NO_EVENT = 6,           /* no event is there, or the line to insert is one that is skipped */
     HISTDESK_FULL = 7,               /* over 1,048,576 events would be held, or a line number would pass 4,294,967,295 */
-    HISTDESK_BAD_TRIGGER = 8,        /* the trigger's text has a fault: fault; place or filter_fault, where it has one */
-    HISTDESK_BAD_FILTER = 9,         /* the filter's text has a fault: filter_fault; place, where it has one */
+    HISTDESK_BAD_TRIGGER = 8,        /* the trigger's text has a fault: fault; place or filter_fault, if it has one */
+    HISTDESK_BAD_FILTER = 9,         /* the filter's text has a fault: filter_fault; place, if it has one */
     HISTDESK_NO_TRIGGER = 10,        /* no attached trigger has the id */
-    HISTDESK_IN_USE = 11,            /* a trigger reads what this one saves: trigger, the least such id */
-    HISTDESK_NAME_TAKEN = 12,        /* a trigger saves a variable of that name already: trigger */
+    HISTDESK_IN_USE = 11,            /* a trigger reads what this one saves: trigger, the smallest such id */
+    HISTDESK_NAME_TAKEN = 12,        /* a trigger already saves a variable of that name: trigger */
     HISTDESK_NO_VARIABLE = 13,       /* no attached trigger saves the variable that is read, or not on the event named */
     HISTDESK_KEY_MISMATCH = 14,      /* the keys don't match those of the trigger that saves what is read */
     HISTDESK_TOO_MANY_TRIGGERS = 15, /* 64 triggers are attached, or the ids are used up */
-    HISTDESK_BAD_COMMAND = 16,       /* no such event, or of scripts: no such command */
+    HISTDESK_BAD_COMMAND = 16,       /* no such event; in scripts also: no such command */
     HISTDESK_NOT_READING = 17,       /* the trigger reads no variable, so it has no latencies */
-    HISTDESK_BACKWARDS = 18,         /* of waits: a stamp is before that of the event above: line */
-    HISTDESK_NO_STREAM = 19,         /* of waits: no stream takes pieces, none has ended, or it has taken a piece */
-    HISTDESK_NOT_JOINED = 20,        /* of waits: the part doesn't fit behind the text: fault */
+    HISTDESK_BACKWARDS = 18,         /* of waits: a stamp is earlier than that of the event above: line */
+    HISTDESK_NO_STREAM = 19,         /* of waits: no stream takes pieces, none has ended, or it has already taken a piece */
+    HISTDESK_NOT_JOINED = 20,        /* of waits: the part can't follow the text: fault */
     HISTDESK_CLOSED = 255            /* the handle has no desk */
 };
 
-/* Why a part doesn't fit behind the text that another stream has read: the fault of HISTDESK_NOT_JOINED. */
+/* Why a part can't follow the text that another stream has read: the fault of HISTDESK_NOT_JOINED. */
 enum {
     HISTDESK_PART_REFUSED = 1, /* the part was refused */
     HISTDESK_UNENDED = 2,      /* the text doesn't end with a line break */
-    HISTDESK_DIFFERS = 3,      /* bad lines are skipped in one of the two, or not as many calls left events out */
-    HISTDESK_SUMMED = 4,       /* the text is summed up */
+    HISTDESK_DIFFERS = 3,      /* only one of the two skips bad lines, or not as many calls left events out */
+    HISTDESK_SUMMED = 4,       /* the text is being summed up */
     HISTDESK_TOO_LONG = 5,     /* over 4,294,967,295 lines together */
     HISTDESK_OVERLAPS = 6,     /* the part's first event has the stamp of the text's last one, or an earlier one */
     HISTDESK_TORN = 7          /* a CPU has lost events and has had none since */
@@ -104,14 +105,14 @@ enum {
     HISTDESK_PREEMPTED = 3 /* the CPU was taken from it while it could run: sched_switch */
 };
 
-/* How sure a wait is, by the events that were lost in its time. */
+/* How sure a wait is, given the events that were lost during it. */
 enum {
-    HISTDESK_SURE = 0,    /* no CPU lost events in its time */
-    HISTDESK_LIKELY = 1,  /* the CPUs on which it began and ended lost none */
+    HISTDESK_SURE = 0,    /* no CPU lost events during it */
+    HISTDESK_LIKELY = 1,  /* some CPU did, but not those on which it began and ended */
     HISTDESK_DOUBTFUL = 2 /* one of these CPUs lost events: the wait may be false */
 };
 
-/* Names of events. Triggers are attached to the first five; of any other event the task, PID, CPU and stamp are held. */
+/* Names of events. Triggers are attached to the first five. For any other event, only the task, PID, CPU and stamp are held. */
 enum {
     HISTDESK_WAKING = 0,         /* sched_waking */
     HISTDESK_WAKEUP = 1,         /* sched_wakeup */
@@ -119,10 +120,10 @@ enum {
     HISTDESK_SWITCH = 3,         /* sched_switch */
     HISTDESK_WAKEUP_LATENCY = 4, /* wakeup_latency, which triggers make; none is ever held */
     HISTDESK_OTHER = 5,          /* any other event */
-    HISTDESK_NONE = 255          /* of histdesk_event: no event is held at the place any more */
+    HISTDESK_NONE = 255          /* in a histdesk_event: no event is held at the place any more */
 };
 
-/* What stands in place of an event's name if a line of a text has no event that can be read. */
+/* Used instead of an event's name if a line of a text has no event that can be read. */
 enum {
     HISTDESK_LINE_SKIPPED = 253, /* it holds no event, and nothing is wrong with it */
     HISTDESK_LINE_BAD = 254      /* it can't be read */
@@ -130,19 +131,19 @@ enum {
 
 /* Kinds of a key's parts. */
 enum {
-    HISTDESK_NUMBER = 0, /* number is the field's value, also where it is printed as .hex */
+    HISTDESK_NUMBER = 0, /* number is the field's value, also if it is printed as .hex */
     HISTDESK_LOG2 = 1,   /* number is the power n of .log2, from 0 to 64 */
-    HISTDESK_BUCKET = 2, /* bucket is the least value of the bucket of .buckets=N */
+    HISTDESK_BUCKET = 2, /* bucket is the smallest value of the bucket of .buckets=N */
     HISTDESK_TEXT = 3    /* text is the field's text */
 };
 
-/* The name of a task, or a state: `length` bytes; those after them are zero, of which there may be none. */
+/* The name of a task, or a state: `length` bytes. The bytes after them are zero; there may be none. */
 typedef struct histdesk_name {
     uint8_t bytes[31];
     uint8_t length;
 } histdesk_name;
 
-/* Where an event stands: its CPU, and its line number in the CPU's lane. */
+/* Where an event is: its CPU, and its line number in the CPU's lane. */
 typedef struct histdesk_line {
     uint32_t cpu;
     uint32_t line;
@@ -155,14 +156,14 @@ typedef struct histdesk_place {
     uint32_t line;
 } histdesk_place;
 
-/* Of one trigger: the hits that were counted, the keys in its table, the hits for which the table had no room. */
+/* Of one trigger: the hits that were counted, the keys in its table, the hits for which the table had no space. */
 typedef struct histdesk_totals {
     uint64_t hits;
     uint64_t entries;
     uint64_t dropped;
 } histdesk_totals;
 
-/* One part of a key; what its kind doesn't have is zero. */
+/* One part of a key. Members that its kind doesn't use are zero. */
 typedef struct histdesk_part {
     int64_t number;
     uint64_t bucket;
@@ -170,28 +171,28 @@ typedef struct histdesk_part {
     uint64_t kind;
 } histdesk_part;
 
-/* A key of 1 to 3 parts, in the trigger's order; the others are zero. Equal keys have equal bytes. */
+/* A key of 1 to 3 parts, in the trigger's order; unused parts are zero. Equal keys have equal bytes. */
 typedef struct histdesk_key {
     uint64_t parts;
     histdesk_part part[3];
 } histdesk_key;
 
-/* A row of a table: the key, its hits, and the sum modulo 2^64 of each value besides hitcount in the trigger's order; the
- * other sums are zero. Equal rows have equal bytes. */
+/* A row of a table: the key, its hits, and the sum modulo 2^64 of each value besides hitcount, in the trigger's order; unused
+ * sums are zero. Equal rows have equal bytes. */
 typedef struct histdesk_row {
     histdesk_key key;
     uint64_t hitcount;
     uint64_t sums[3];
 } histdesk_row;
 
-/* A latency: where the event stood whose stamp was saved and the one that read it, and the difference of their stamps. */
+/* A latency: the places of the event whose stamp was saved and of the one that read it, and the difference of their stamps. */
 typedef struct histdesk_latency {
     histdesk_place saved;
     histdesk_place read;
     uint64_t micros;
 } histdesk_latency;
 
-/* An event. What its name doesn't have is zero; where the name is HISTDESK_NONE, all but the place. */
+/* An event. Members that its name doesn't have are zero; if the name is HISTDESK_NONE, all but the place are. */
 typedef struct histdesk_event {
     histdesk_place place;
     uint32_t name;             /* HISTDESK_WAKING .. */
@@ -204,7 +205,7 @@ typedef struct histdesk_event {
     histdesk_name task;        /* of the task that ran */
     histdesk_name comm;        /* of the task woken, or switched to */
     histdesk_name prev_comm;   /* of the task switched from */
-    histdesk_name prev_state;  /* its state, as R+ */
+    histdesk_name prev_state;  /* its state, such as R+ */
 } histdesk_event;
 
 /* An attached trigger: its id, and the name of the event that it is attached to. */
@@ -219,9 +220,10 @@ typedef struct histdesk_changed {
     histdesk_key key;
 } histdesk_changed;
 
-/* How many rows the last accepted insert or strike may have changed. `rows`: of the triggers that count held events, each
- * row that changed, came or went is among them; `made`: likewise of those on wakeup_latency. Where has_rows or has_made
- * is false there is no such list, its number is 0, and any row may have changed. */
+/* How many rows the last accepted insert or strike may have changed, or the strikes of one histdesk_strike_events together.
+ * `rows` is about the triggers that count held events: each
+ * of their rows that changed, appeared or disappeared is among the reported ones. `made` is the same for the triggers on
+ * wakeup_latency. If has_rows or has_made is false, there is no such list, its number is 0, and any row may have changed. */
 typedef struct histdesk_report {
     bool has_rows;
     bool has_made;
@@ -229,7 +231,7 @@ typedef struct histdesk_report {
     uint64_t made;
 } histdesk_report;
 
-/* Why a call was refused. number is its code, 0 where it was accepted. What the number doesn't have is 0. */
+/* Why a call was refused. number is its code, 0 if it was accepted. Members that the number doesn't use are 0. */
 typedef struct histdesk_refusal {
     uint32_t number;
     uint32_t fault;        /* of 3: the line's; of 8: the trigger's; both as in REFERENCE.md, Line faults and Trigger faults;
@@ -239,7 +241,7 @@ typedef struct histdesk_refusal {
     uint32_t trigger;      /* of 11 and 12 */
     bool has_place;        /* of 8 and 9: whether the fault has a place */
     uint64_t line;         /* of 3 and 18: the text's line, from 1 */
-    uint64_t place;        /* of 8 and 9: the byte, from 0; in the filter's own text where the fault is the filter's */
+    uint64_t place;        /* of 8 and 9: the byte, from 0; in the filter's own text if the fault is the filter's */
 } histdesk_refusal;
 
 /* A wait for a processor: a switch runs a task that something made runnable before. */
@@ -250,18 +252,18 @@ typedef struct histdesk_wait {
     int32_t pid;            /* not 0 */
     int32_t prio;           /* with which the task runs */
     uint32_t cause;         /* HISTDESK_WOKEN .. */
-    uint32_t awoken_cause;  /* 0; or if the cause is HISTDESK_PREEMPTED and the task was woken or created besides, how */
-    uint32_t doubt;         /* HISTDESK_SURE ..; histdesk_waits_copy writes 0, and histdesk_waits_doubt tells it */
+    uint32_t awoken_cause;  /* if the cause is HISTDESK_PREEMPTED and the task was also woken or created: how; else 0 */
+    uint32_t doubt;         /* HISTDESK_SURE ..; histdesk_waits_copy writes 0, and histdesk_waits_doubt the actual value */
     uint32_t zero;          /* 0 */
     histdesk_name name;     /* of the task, as the switch has it */
 } histdesk_wait;
 
-/* A stretch of time in which a CPU's events were lost, as lines of the text report it. What it doesn't have is 0. */
+/* A stretch of time in which a CPU lost events, as reported by lines of the text. Members that it doesn't have are 0. */
 typedef struct histdesk_hole {
     uint64_t line;   /* of the first line that reports it, from 1 */
     uint64_t after;  /* the stamp of the CPU's last event before it; has_after is false if there is none */
     uint64_t before; /* the stamp of the CPU's first event after it; has_before is false if there is none */
-    uint64_t count;  /* how many events were lost; has_count is false if no line tells it */
+    uint64_t count;  /* how many events were lost; has_count is false if no line says */
     uint32_t cpu;
     bool has_after;
     bool has_before;
@@ -273,10 +275,10 @@ typedef struct histdesk_waits_read {
     uint64_t lines;            /* how many lines it has */
     uint64_t bad;              /* how many of them can't be read, if such lines are skipped */
     uint64_t bad_line;         /* the first of these, from 1 */
-    uint64_t missing;          /* how many events show that a switch is missing before them, though no line reports it */
+    uint64_t missing;          /* how many events show that a switch is missing before them, though no line reports a loss */
     uint64_t holes;            /* how many holes there are */
-    uint64_t held;             /* if has_written: of the events that the kernel wrote to its buffers, how many they held */
-    uint64_t written;          /* if has_written: how many it wrote */
+    uint64_t held;             /* if has_written: how many events the kernel's buffers held, of those written to them */
+    uint64_t written;          /* if has_written: how many events the kernel wrote to its buffers */
     uint64_t first;            /* if has_first: the stamp of the first event */
     uint64_t last;             /* if has_first: that of the last event */
     histdesk_place missing_at; /* of the first event that shows a missing switch */
@@ -287,32 +289,32 @@ typedef struct histdesk_waits_read {
 
 /* A line of a text. */
 typedef struct histdesk_text_line {
-    uint64_t end;   /* how many bytes the text has up to the line's end, with its line break */
+    uint64_t end;   /* how many bytes the text has up to the line's end, including its line break */
     uint64_t stamp; /* of its event; 0 if it has none */
     uint32_t cpu;   /* of its event; 0 if it has none */
     uint32_t event; /* HISTDESK_WAKING .. HISTDESK_OTHER; HISTDESK_LINE_SKIPPED, HISTDESK_LINE_BAD */
-    uint32_t fault; /* of one that can't be read, as in REFERENCE.md, Line faults; else 0 */
+    uint32_t fault; /* of a line that can't be read, as in REFERENCE.md, Line faults; else 0 */
     uint32_t zero;  /* 0 */
 } histdesk_text_line;
 
-/* What the lines of a text report lost. What isn't there is 0. */
+/* What the lines of a text report as lost. What isn't there is 0. */
 typedef struct histdesk_losses_read {
     uint64_t holes;   /* how many holes there are */
-    uint64_t held;    /* if has_written: of the events that the kernel wrote to its buffers, how many they held */
-    uint64_t written; /* if has_written: how many it wrote */
+    uint64_t held;    /* if has_written: how many events the kernel's buffers held, of those written to them */
+    uint64_t written; /* if has_written: how many events the kernel wrote to its buffers */
     bool has_written; /* whether the text has the kernel's header with both numbers */
 } histdesk_losses_read;
 
-/* How many events were left out of a text by one histdesk_waits_without. */
+/* How many events one histdesk_waits_without left out of a text. */
 typedef struct histdesk_left_out {
     uint64_t events;   /* how many events of the name it has */
     uint64_t left_out; /* how many of them pass the filter */
 } histdesk_left_out;
 
-/* What a text sums up to for a task. Each figure stops at the greatest number of 64 bits. */
+/* The sums of a text for one task. Each figure stops at the largest 64-bit number. */
 typedef struct histdesk_task_sum {
-    uint64_t run_time;  /* how long it ran, in microseconds: in runs of which both switches are known */
-    uint64_t switches;  /* how often a CPU went to it */
+    uint64_t run_time;  /* how long it ran, in microseconds: in runs whose two switches are both known */
+    uint64_t switches;  /* how often a CPU switched to it */
     uint64_t preempted; /* how often a switch to another task left it while it could run: in state R or R+ */
     uint64_t slept;     /* how often one left it asleep: in a state that begins with S or I */
     uint64_t blocked;   /* how often one left it blocked: in a state that begins with D */
@@ -321,10 +323,10 @@ typedef struct histdesk_task_sum {
     uint32_t zero;      /* 0 */
 } histdesk_task_sum;
 
-/* What a text sums up to for a CPU. Each figure stops at the greatest number of 64 bits. */
+/* The sums of a text for one CPU. Each figure stops at the largest 64-bit number. */
 typedef struct histdesk_cpu_sum {
-    uint64_t idle;              /* how long it ran task 0, in microseconds: in runs of which both switches are known */
-    uint64_t idle_with_waiters; /* how much of that time some task waited for a processor */
+    uint64_t idle;              /* how long it ran task 0, in microseconds: in runs whose two switches are both known */
+    uint64_t idle_with_waiters; /* for how much of that time some task waited for a processor */
     uint32_t cpu;               /* the CPU */
     uint32_t zero;              /* 0 */
 } histdesk_cpu_sum;
@@ -335,49 +337,58 @@ typedef struct histdesk_cpu_sum {
  * HISTDESK_MEMORY: the handle is as it was. */
 uint32_t histdesk_new(histdesk *desk);
 
-/* Frees the desk with all that it keeps, and leaves the handle zero. Without a desk it does nothing. */
+/* Frees the desk with everything that it keeps, and sets the handle to zero. Without a desk, it does nothing. */
 void histdesk_free(histdesk *desk);
 
 /* ---- Edits. */
 
-/* Loads the text of a trace: a lane for each CPU that has events in it. `events` is how many were loaded.
+/* Loads the text of a trace: a lane for each CPU that has events in it. `events` is how many events were loaded.
  * HISTDESK_BAD_LINE (the first line with a fault), HISTDESK_LANE_HELD, HISTDESK_FULL. */
 uint32_t histdesk_load(histdesk *desk, const uint8_t *trace, size_t length, uint64_t *events);
 
-/* Takes a CPU's lane away. `events` is how many it had. HISTDESK_NO_LANE; never HISTDESK_MEMORY. */
+/* Removes a CPU's lane. `events` is how many events it had. HISTDESK_NO_LANE; never HISTDESK_MEMORY. */
 uint32_t histdesk_unload(histdesk *desk, uint32_t cpu, uint64_t *events);
 
-/* Inserts the event of one trace line without a line break at the next line number of its CPU's lane, which is made where
- * there is none. `at` is where it stands. HISTDESK_BAD_LINE, HISTDESK_NO_EVENT, HISTDESK_FULL. */
+/* Inserts the event of one trace line, passed without a line break, at the next line number of its CPU's lane. If the CPU has
+ * no lane, one is made. `at` is where the event is then. HISTDESK_BAD_LINE, HISTDESK_NO_EVENT, HISTDESK_FULL. */
 uint32_t histdesk_insert(histdesk *desk, const uint8_t *line, size_t length, histdesk_line *at);
 
-/* Takes one event away; its line number is not given again while the lane is held. HISTDESK_NO_LANE, HISTDESK_NO_EVENT;
+/* Removes one event. Its line number is not given again while the lane is held. HISTDESK_NO_LANE, HISTDESK_NO_EVENT;
  * never HISTDESK_MEMORY. */
 uint32_t histdesk_strike(histdesk *desk, uint32_t cpu, uint32_t line);
 
-/* Attaches the trigger of the text to the event of that name, HISTDESK_WAKING to HISTDESK_WAKEUP_LATENCY. `id` is its id.
+/* Removes the events at `count` places, one after the other, each by its CPU and line as histdesk_strike does; stamps are not
+ * looked at, so that the places may be those of histdesk_matching. It stops at the first event that is refused, such as one
+ * that is among them twice, and the code is that refusal's; `struck` is how many events are struck then, and they stay struck.
+ * HISTDESK_NO_LANE, HISTDESK_NO_EVENT; never HISTDESK_MEMORY. If `reports`, the report has each row that these strikes together
+ * may have changed; otherwise there is no report, which takes less memory. If no event is struck, the last report stays. Many
+ * events take the least time from the last one to the first. */
+uint32_t histdesk_strike_events(histdesk *desk, const histdesk_place *places, size_t count, bool reports, uint64_t *struck);
+
+/* Attaches the trigger in the text to the event of that name, HISTDESK_WAKING to HISTDESK_WAKEUP_LATENCY. `id` is its id.
  * HISTDESK_BAD_COMMAND (no such name), HISTDESK_BAD_TRIGGER, HISTDESK_TOO_MANY_TRIGGERS, HISTDESK_NAME_TAKEN,
  * HISTDESK_NO_VARIABLE, HISTDESK_KEY_MISMATCH. */
 uint32_t histdesk_attach(histdesk *desk, uint32_t event, const uint8_t *trigger, size_t length, uint32_t *id);
 
-/* Gives an attached trigger the filter of the text, which stands without `if`, or none.
- * HISTDESK_NO_TRIGGER, HISTDESK_BAD_FILTER (histdesk_refilter alone, of an empty text too). */
+/* Gives an attached trigger the filter in the text, which is without `if`; or removes its filter.
+ * HISTDESK_NO_TRIGGER, HISTDESK_BAD_FILTER (only histdesk_refilter, also for an empty text). */
 uint32_t histdesk_refilter(histdesk *desk, uint32_t id, const uint8_t *filter, size_t length);
 uint32_t histdesk_unfilter(histdesk *desk, uint32_t id);
 
 /* Removes an attached trigger. HISTDESK_NO_TRIGGER, HISTDESK_IN_USE; never HISTDESK_MEMORY. */
 uint32_t histdesk_remove(histdesk *desk, uint32_t id);
 
-/* How many rows the last accepted insert or strike may have changed; before the first one there is no list. They stay
- * until the next one that is accepted, or histdesk_forget. Never HISTDESK_MEMORY. */
+/* How many rows the last accepted insert or strike may have changed, or the last strikes of many events; before the first one,
+ * there is no list. The lists stay
+ * until the next one is accepted, or until histdesk_forget. Never HISTDESK_MEMORY. */
 uint32_t histdesk_report_of(histdesk *desk, histdesk_report *report);
 
-/* Copies the rows that the report counts as `rows`, and as `made`; none twice. */
+/* Copy the rows that the report counts as `rows`, and those that it counts as `made`, without duplicates. */
 size_t histdesk_rows_changed_copy(histdesk *desk, uint64_t from, histdesk_changed *to, size_t room);
 size_t histdesk_made_changed_copy(histdesk *desk, uint64_t from, histdesk_changed *to, size_t room);
 
-/* Whether the last edits found no memory for the tables: the edits stand, and the next histdesk_totals_of, histdesk_hist,
- * histdesk_rows or histdesk_latencies builds the tables anew. False without a desk. */
+/* Whether the last edits found no memory for the tables: the edits took effect, and the next histdesk_totals_of,
+ * histdesk_hist, histdesk_rows or histdesk_latencies builds the tables anew. False without a desk. */
 bool histdesk_is_deferred(histdesk *desk);
 
 /* ---- Questions about triggers. */
@@ -385,18 +396,17 @@ bool histdesk_is_deferred(histdesk *desk);
 /* The totals of a trigger. HISTDESK_NO_TRIGGER. */
 uint32_t histdesk_totals_of(histdesk *desk, uint32_t id, histdesk_totals *totals);
 
-/* Asks for the text of a trigger's table, as the kernel's `hist` file has it. `length` is its length in bytes.
+/* Asks for the text of a trigger's table, in the form of the kernel's `hist` file. `length` is its length in bytes.
  * HISTDESK_NO_TRIGGER. */
 uint32_t histdesk_hist(histdesk *desk, uint32_t id, uint64_t *length);
 
-/* Asks for the text of a trigger with all that was left out, as the third line of its table shows it.
- * HISTDESK_NO_TRIGGER. */
+/* Asks for the text of a trigger including all defaults, as shown in the third line of its table. HISTDESK_NO_TRIGGER. */
 uint32_t histdesk_trigger_text(histdesk *desk, uint32_t id, uint64_t *length);
 
 /* Asks for the text of a CPU's lane: each event's line, by line number. HISTDESK_NO_LANE. */
 uint32_t histdesk_list(histdesk *desk, uint32_t cpu, uint64_t *length);
 
-/* Copies from the text that was asked for last, by one of these three calls. */
+/* Copies from the text that one of these three calls asked for last. */
 size_t histdesk_text_copy(histdesk *desk, uint64_t from, uint8_t *to, size_t room);
 
 /* Asks for the rows of a trigger's table, in the order of its text. `count` is how many. HISTDESK_NO_TRIGGER. */
@@ -420,44 +430,44 @@ uint32_t histdesk_event_at(histdesk *desk, uint32_t cpu, uint32_t line, histdesk
 /* Asks for the places of all held events, in merged order. No refusal but HISTDESK_MEMORY. */
 uint32_t histdesk_events(histdesk *desk, uint64_t *count);
 
-/* Asks for the places of a CPU's events from a line on, by line number; from line 1 on they are all. HISTDESK_NO_LANE. */
+/* Asks for the places of a CPU's events from a line on, by line number; from line 1 on, these are all. HISTDESK_NO_LANE. */
 uint32_t histdesk_lane(histdesk *desk, uint32_t cpu, uint32_t line, uint64_t *count);
 
-/* Asks for the places of the events of that name on which the filter holds, in merged order; one that always holds is
- * common_cpu >= 0. HISTDESK_BAD_COMMAND (no name that triggers are attached to), HISTDESK_BAD_FILTER. */
+/* Asks for the places of the events of that name that pass the filter, in merged order. A filter that every event passes is
+ * common_cpu >= 0. HISTDESK_BAD_COMMAND (not a name that triggers are attached to), HISTDESK_BAD_FILTER. */
 uint32_t histdesk_matching(histdesk *desk, uint32_t event, const uint8_t *filter, size_t length, uint64_t *count);
 
-/* Copies the places that were asked for last, by one of these three calls. */
+/* Copies the places that one of these three calls asked for last. */
 size_t histdesk_places_copy(histdesk *desk, uint64_t from, histdesk_place *to, size_t room);
 
-/* Copies the events that are held now at these places, each with its place; HISTDESK_NONE where none is any more, also if
- * an event of another stamp is now at the CPU and line. */
+/* Copies the events that are held at these places now, each with its place; HISTDESK_NONE if none is there any more, also if
+ * the event now at the CPU and line has another stamp. */
 size_t histdesk_events_copy(histdesk *desk, uint64_t from, histdesk_event *to, size_t room);
 
-/* ---- Questions about a text, of which the desk holds nothing: its lines may stand in any order of time, some may be such that
- * they can't be read, and there may be any number of them. */
+/* ---- Questions about a text, which the desk doesn't keep: its lines may be in any order of time, some may be unreadable, and
+ * there may be any number of them. */
 
-/* Asks for the lines of a text: what each is, and where it ends. A last line needs no line break. `count` is how many. No
+/* Asks for the lines of a text: what each is, and where it ends. The last line needs no line break. `count` is how many. No
  * refusal but HISTDESK_MEMORY. */
 uint32_t histdesk_lines(histdesk *desk, const uint8_t *text, size_t length, uint64_t *count);
 size_t histdesk_lines_copy(histdesk *desk, uint64_t from, histdesk_text_line *to, size_t room);
 
-/* Asks where events were lost, as the lines of a text report it: each hole is between two events of a CPU that follow one
+/* Asks where events were lost, as reported by the lines of a text: each hole is between two events of a CPU that follow one
  * another in the text, whatever their stamps. A line that can't be read reports nothing. Holes come in the order of
  * histdesk_waits_holes. No refusal but HISTDESK_MEMORY. */
 uint32_t histdesk_losses(histdesk *desk, const uint8_t *text, size_t length, histdesk_losses_read *read);
 size_t histdesk_losses_copy(histdesk *desk, uint64_t from, histdesk_hole *to, size_t room);
 
-/* Gives back the memory of all that was asked for, lines and losses of texts too, and of the report. What is held and attached
- * stays. */
+/* Frees the memory of everything that was asked for, including lines and losses of texts, and of the report. What is held and
+ * attached stays. */
 void histdesk_forget(histdesk *desk);
 
 /* ---- Waits of a recording.
  *
- * A stream reads the text of a trace in pieces of any size and tells who waited for a processor: each time that a switch
- * runs a task which was woken, created, or left while it could run. A desk has one stream, which keeps what the waits to
- * come need, and no events. But for histdesk_waits_held it has nothing to do with what the desk holds, and its calls touch
- * nothing else.
+ * A stream reads the text of a trace in pieces of any size and reports who waited for a processor: each time that a switch
+ * runs a task which was woken, created, or left while it could run. Each desk has one stream. It keeps what it needs for
+ * waits to come, and no events. Except for histdesk_waits_held, the stream is independent of what the desk holds, and its
+ * calls change nothing else.
  *
  *     histdesk_waits_new(&desk, false);
  *     while ((length = fread(piece, 1, sizeof piece, file)) > 0)
@@ -470,91 +480,93 @@ void histdesk_forget(histdesk *desk);
  * Waits come in the order of their ends, by stamp, CPU and line, however the text is cut. Those of the last microsecond
  * come once it is over.
  *
- * A long text may be read in parts, each by a stream of another desk, side by side in several threads; each part but the
- * first is begun by histdesk_waits_part, and all are joined in order. They are cut where a line ends after which the stamp
- * changes. What the first stream and the parts tell, and what each join tells, are together the waits that one stream tells
- * of the whole text, each once. They don't come in order:
+ * A long text may be read in parts, each by a stream of another desk, side by side in several threads. Each part except the
+ * first is begun with histdesk_waits_part, and all parts are joined in order. The text must be cut at the end of a line after
+ * which the stamp changes. The waits that the first stream, the parts and the joins report are together those that one stream
+ * would report for the whole text, each once. They don't come in order:
  *
  *     histdesk_waits_new(&desk, false), histdesk_waits_part(&part, false);
  *     ..                                            feed both
- *     histdesk_waits_events(&desk, 0, before, 8192); by which the places of the part's waits move
+ *     histdesk_waits_events(&desk, 0, before, 8192); how far the places of the part's waits move
  *     histdesk_waits_join(&desk, &part, &count);     and then histdesk_waits_copy(&desk, ..)
  *     histdesk_waits_finish(&desk, &read, &count); */
 
-/* Begins a stream, and ends the one that was there. Lines that can't be read are skipped and counted, or the first one
- * refuses the text. HISTDESK_MEMORY: the stream that was there stays. */
+/* Begins a stream, and ends the one that was there. Lines that can't be read are skipped and counted, or else the first of
+ * them makes the text refused. HISTDESK_MEMORY: the stream that was there stays. */
 uint32_t histdesk_waits_new(histdesk *desk, bool skips_bad_lines);
 
-/* Begins a stream whose text is a part of a longer one, not its beginning, and ends the one that was there. It takes pieces,
- * leaves events out and tells the events and the last stamp so far as any stream. A wait that ends with the first switch to
- * its task is not told: its beginning may stand before the part, so it comes by histdesk_waits_join. The others are told at
- * places with lines that are counted from the part's own start. histdesk_waits_sum_up and histdesk_waits_finish answer
+/* Begins a stream whose text is a part of a longer one, not its beginning, and ends the one that was there. Like any stream, it
+ * takes pieces, leaves events out, and reports the events and the last stamp so far. It doesn't report a wait that ends with
+ * the first switch to its task: that wait may have begun before the part, so histdesk_waits_join reports it. In the waits that
+ * it reports, lines are counted from the part's own start. histdesk_waits_sum_up and histdesk_waits_finish return
  * HISTDESK_NO_STREAM. HISTDESK_MEMORY: the stream that was there stays. */
 uint32_t histdesk_waits_part(histdesk *desk, bool skips_bad_lines);
 
-/* Joins the part that the stream of another desk has read behind the text that this one has read, as if it had been fed here.
- * `count` is how many waits became known, which are copied from `desk`: first those that end in the last microsecond before
- * the part, then those that end with a task's first switch in the part, each in the order of their ends, with lines of the
- * whole text. Of the waits that the part told before only the places move: by as many lines as the CPU had events in this
- * stream before the join, up to line 4,294,967,295. They may end before or after those that are told now. The other desk has
- * no stream then; the waits that it told last are still copied. The two must leave out the same events, by the same calls:
- * only their number is compared.
- * Of a text that is refused here it is refused as histdesk_waits_feed is. HISTDESK_NO_STREAM: no stream of a whole text takes
- * pieces here, or none of a part there. HISTDESK_NOT_JOINED: its fault says why. After these both streams go on as before, and
- * histdesk_waits_refused of `desk` says why. HISTDESK_MEMORY, if the text wasn't refused before: it is refused for that from
- * then on, and the part is gone. HISTDESK_CLOSED: one of the handles has no desk, and nothing happens. */
+/* Joins a part, which the stream of another desk has read, to the text that this stream has read, as if the part had been fed
+ * here. `count` is how many waits became known. They are copied from `desk`: first those that end in the last microsecond
+ * before the part, then those that end with a task's first switch in the part, each in the order of their ends, with lines of
+ * the whole text. Of the waits that the part reported before, only the places move: by as many lines as the CPU had events in
+ * this stream before the join, up to line 4,294,967,295. These waits may end before or after the ones that are reported now.
+ * The other desk then has no stream, but the waits that it reported last can still be copied. The two streams must leave out
+ * the same events, by the same calls; only the number of calls is compared.
+ * If the text here has been refused, the code is that of histdesk_waits_feed. HISTDESK_NO_STREAM: no stream of a whole text
+ * takes pieces here, or no stream of a part takes them there. HISTDESK_NOT_JOINED: its fault says why. After these, both
+ * streams go on as before, and histdesk_waits_refused of `desk` says why. HISTDESK_MEMORY, if the text wasn't refused before:
+ * from then on, the text is refused for that, and the part is gone. HISTDESK_CLOSED: one of the handles has no desk, and
+ * nothing happens. */
 uint32_t histdesk_waits_join(histdesk *desk, histdesk *part, uint64_t *count);
 
-/* Leaves events out of the text: those of a name that pass the filter of a text of `length` bytes, or all of the name if that
- * is 0. They wake, create and switch nothing, as if they weren't in the text; but they keep their numbers, and all that is told
- * of the text itself counts them: lines, events, stamps, holes and missing switches. Each further call leaves out more.
- * HISTDESK_NO_STREAM: no stream takes pieces, or it has taken one. HISTDESK_BAD_COMMAND: no such event, or HISTDESK_OTHER.
- * HISTDESK_BAD_FILTER. Of a text that is refused it is refused as histdesk_waits_feed is. After a refusal, HISTDESK_MEMORY too,
- * the stream goes on as before. */
+/* Leaves events out of the text: those of a name that pass the filter in a text of `length` bytes, or all of the name if
+ * `length` is 0. They wake, create and switch nothing, as if they weren't in the text. But they keep their line numbers, and
+ * everything reported about the text itself counts them: lines, events, stamps, holes and missing switches. Each further call
+ * leaves out more. HISTDESK_NO_STREAM: no stream takes pieces, or it has already taken one. HISTDESK_BAD_COMMAND: no such
+ * event, or HISTDESK_OTHER. HISTDESK_BAD_FILTER. If the text has been refused, the code is that of histdesk_waits_feed. After
+ * a refusal, even HISTDESK_MEMORY, the stream goes on as before. */
 uint32_t histdesk_waits_without(histdesk *desk, uint32_t event, const uint8_t *filter, size_t length);
 
-/* Sums up the text by task and by CPU as well, without the events that are left out. HISTDESK_NO_STREAM: no stream takes pieces,
- * or it has taken one. Of a text that is refused it is refused as histdesk_waits_feed is. Never HISTDESK_MEMORY. */
+/* Also sums up the text by task and by CPU, without the events that are left out. HISTDESK_NO_STREAM: no stream takes pieces, or
+ * it has already taken one. If the text has been refused, the code is that of histdesk_waits_feed. Never HISTDESK_MEMORY. */
 uint32_t histdesk_waits_sum_up(histdesk *desk);
 
 /* Takes the next piece of the text. `count` is how many waits became known; they are copied until the next feed, finish or join.
- * HISTDESK_NO_STREAM, HISTDESK_BAD_LINE, HISTDESK_BACKWARDS, HISTDESK_FULL (over 4,294,967,295 lines). But for
- * HISTDESK_NO_STREAM, a refusal, HISTDESK_MEMORY too, leaves no waits, and the stream answers the same from then on. */
+ * HISTDESK_NO_STREAM, HISTDESK_BAD_LINE, HISTDESK_BACKWARDS, HISTDESK_FULL (over 4,294,967,295 lines). Except for
+ * HISTDESK_NO_STREAM, a refusal, even HISTDESK_MEMORY, leaves no waits, and the stream returns the same code from then on. */
 uint32_t histdesk_waits_feed(histdesk *desk, const uint8_t *piece, size_t length, uint64_t *count);
 
 /* Ends the text: a line that has not ended is its last. `count` is how many waits were left; `read` is what was read of the
- * text. The stream has ended then. Refused as histdesk_waits_feed is. */
+ * text. The stream has then ended. Refused like histdesk_waits_feed. */
 uint32_t histdesk_waits_finish(histdesk *desk, histdesk_waits_read *read, uint64_t *count);
 
-/* Copies the waits that the last feed, finish, join or histdesk_waits_held told. */
+/* Copies the waits that the last feed, finish, join or histdesk_waits_held reported. */
 size_t histdesk_waits_copy(histdesk *desk, uint64_t from, histdesk_wait *to, size_t room);
 
-/* Once the stream has ended, copies the holes of the text: those of CPUs that begin late, by CPU, if only the header says that
- * events were overwritten; those that an event ended, the first one first; and those that last to the end, by CPU. */
+/* Once the stream has ended, copies the holes of the text, in this order: those of CPUs that begin late, by CPU, if only the
+ * header says that events were overwritten; those that an event ended, the first one first; and those that last to the end, by
+ * CPU. */
 size_t histdesk_waits_holes(histdesk *desk, uint64_t from, histdesk_hole *to, size_t room);
 
-/* Once the stream has ended, copies how many events were left out: item n is of the n-th histdesk_waits_without, from 0. An
+/* Once the stream has ended, copies how many events were left out: item n is for the n-th histdesk_waits_without, from 0. An
  * event that passes several filters counts for each. */
 size_t histdesk_waits_left_out(histdesk *desk, uint64_t from, histdesk_left_out *to, size_t room);
 
-/* Once the stream has ended, copies the sums of each task that a waking, a creation or a switch names, but task 0, by PID; and
+/* Once the stream has ended, copy the sums of each task that a waking, a creation or a switch names, except task 0, by PID; and
  * those of each CPU that has a switch, by number. There are none if histdesk_waits_sum_up was not called. */
 size_t histdesk_waits_tasks(histdesk *desk, uint64_t from, histdesk_task_sum *to, size_t room);
 size_t histdesk_waits_cpus(histdesk *desk, uint64_t from, histdesk_cpu_sum *to, size_t room);
 
-/* Copies how many events each CPU had so far: item n is of CPU n, and there are 8192. While the stream runs these are the
- * events in lines that have ended. There are none of a text that is refused, or if no stream has begun. */
+/* Copies how many events each CPU has had so far: item n is for CPU n, and there are 8192 items. While the stream runs, only
+ * events in lines that have ended are counted. There are no items if the text is refused, or if no stream has begun. */
 size_t histdesk_waits_events(histdesk *desk, uint64_t from, uint32_t *to, size_t room);
 
 /* Writes the stamp of the last event so far, in the same lines. `has` is false, and `stamp` 0, if there is no event.
- * HISTDESK_NO_STREAM: no stream has begun. Of a text that is refused it is refused as histdesk_waits_feed is. */
+ * HISTDESK_NO_STREAM: no stream has begun. If the text has been refused, the code is that of histdesk_waits_feed. */
 uint32_t histdesk_waits_last(histdesk *desk, uint64_t *stamp, bool *has);
 
 /* Asks for the waits of the events that the desk holds now, in the order of their ends. `count` is how many. The stream goes
  * on as before. No refusal but HISTDESK_MEMORY. */
 uint32_t histdesk_waits_held(histdesk *desk, uint64_t *count);
 
-/* Writes how sure waits of this text are, once the stream has ended. A task whose CPU was taken from it may have run unseen
+/* Writes how sure waits of this text are, once the stream has ended. A task whose CPU was taken from it may have run unnoticed
  * since then; if that wait isn't sure, and the one since the task was woken or created is, `began` and `cause` become the
  * latter's. A wait whose cause is none of the three stays as it is. HISTDESK_NO_STREAM; never HISTDESK_MEMORY. */
 uint32_t histdesk_waits_doubt(histdesk *desk, histdesk_wait *waits, size_t count);
@@ -563,7 +575,7 @@ uint32_t histdesk_waits_doubt(histdesk *desk, histdesk_wait *waits, size_t count
  * number; line and fault; or filter_fault and place. Never HISTDESK_MEMORY. */
 uint32_t histdesk_waits_refused(histdesk *desk, histdesk_refusal *refusal);
 
-/* Ends the stream, if there is one, and gives back its memory. histdesk_free does so too, and histdesk_forget doesn't. */
+/* Ends the stream, if there is one, and frees its memory. histdesk_free also does this; histdesk_forget doesn't. */
 void histdesk_waits_free(histdesk *desk);
 
 /* ---- Refusals. */
@@ -572,9 +584,9 @@ void histdesk_waits_free(histdesk *desk);
  * calls of waits, and this one. Never HISTDESK_MEMORY. */
 uint32_t histdesk_refused(histdesk *desk, histdesk_refusal *refusal);
 
-/* Write a refusal as scripts print it, `refused 8: fault 3`, without a line break, and as words: as much as `room` allows, of
- * 64 bytes at most, and of 160. They answer how much that was, or 0 where the numbers are of no refusal, or memory ran out.
- * They need no desk. */
+/* Write a refusal as scripts print it, `refused 8: fault 3`, without a line break, and as a message in words: as much as fits
+ * into `room`, of at most 64 bytes and at most 160 bytes. They return how many bytes they wrote, or 0 if the numbers are of no
+ * refusal or memory ran out. They need no desk. */
 size_t histdesk_refusal_text(const histdesk_refusal *refusal, uint8_t *to, size_t room);
 size_t histdesk_refusal_words(const histdesk_refusal *refusal, uint8_t *to, size_t room);
 

@@ -57,7 +57,8 @@ from ._refused import Refused, refusal_words
 from ._rows import Rows
 from ._slices import Source
 from ._trigger import Trigger
-from ._values import Bucket, Changed, Edit, Event, Latency, Log2, Place, Totals
+from ._values import Bucket, Changed, Edit, Edits, Event, Latency, Log2, Place, Totals
+from ._version import __version__ as __version__  # noqa: F401
 from ._waits import Waits, waits
 from ._written import escaped, unescaped
 
@@ -81,6 +82,7 @@ __all__ = [
     "Difference",
     "DifferenceRow",
     "Edit",
+    "Edits",
     "Event",
     "Events",
     "Failed",

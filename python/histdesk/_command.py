@@ -62,19 +62,19 @@ def parser(name: str, description: str) -> argparse.ArgumentParser:
     return words
 
 
-def add_part(words: argparse.ArgumentParser, cpu: str = "only events of these CPUs, as 0,2,4-7") -> None:
+def add_part(words: argparse.ArgumentParser, cpu: str = "only events of these CPUs, such as 0,2,4-7") -> None:
     """The options that choose events of a trace."""
-    group = words.add_argument_group("which events of a trace are taken")
-    group.add_argument("--from", dest="start", metavar="STAMP", type=stamp, help="from this stamp on, in the trace's seconds")
-    group.add_argument("--until", metavar="STAMP", type=stamp, help="before this stamp")
+    group = words.add_argument_group("which events of a trace to use")
+    group.add_argument("--from", dest="start", metavar="STAMP", type=stamp, help="from this timestamp, in the trace's seconds")
+    group.add_argument("--until", metavar="STAMP", type=stamp, help="before this timestamp")
     group.add_argument("--cpu", dest="cpus", metavar="CPUS", type=numbers, help=cpu)
-    group.add_argument("--events", metavar="NAMES", type=names, help=f"only these events, as {EVENTS[0]},{EVENTS[3]}")
-    group.add_argument("--lenient", action="store_true", help="leave out lines that can't be read, and say which they are")
+    group.add_argument("--events", metavar="NAMES", type=names, help=f"only these events, such as {EVENTS[0]},{EVENTS[3]}")
+    group.add_argument("--lenient", action="store_true", help="skip lines that can't be read, and say which")
 
 
 def add_jobs(words: argparse.ArgumentParser) -> None:
     """The option that says how many processors read a trace."""
-    told = "read N parts of TRACE at once (1; as many as there are processors, up to 16, if it has more than 200 MB)"
+    told = "read N parts of TRACE at once (default: 1; above 200 MB, as many as there are processors, up to 16)"
     words.add_argument("--jobs", metavar="N", type=job_count, help=told)
 
 

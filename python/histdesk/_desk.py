@@ -19,7 +19,7 @@ from ._refused import Refused, moved
 from ._session import PLACES, Session
 from ._source import bytes_of, content_of, lines_of, searched
 from ._trigger import Trigger
-from ._values import Edit, Event
+from ._values import Edit, Edits, Event
 
 Trace = Union[str, "os.PathLike[str]", bytes, bytearray, memoryview, mmap.mmap, IO[bytes], IO[str]]
 CPUS = 8192
@@ -160,6 +160,16 @@ class Desk:
         cpu, line = number(cpu, "cpu"), number(line, "line")
         self._session.call(library.histdesk_strike, cpu, line)
         return self._session.edit(cpu, line)
+
+    def strike_events(self, places: Any) -> Edits:
+        """Takes the events at places away, one after the other, by one call, and answers one `Edits` of all of them.
+
+        `places` are what `matching` answers, or `Event`s, or an array of numpy with the fields `cpu` and `line`: CPUs from 0,
+        and lines from 1. Stamps, in microseconds, are not looked at, and no place may be there twice.
+
+        Refused at the first place where none is held, 5 or 6 as `strike`: the events before it stay struck, and `struck` of the
+        exception is how many these are. Raises `ValueError` where a CPU or a line is out of range; then none was struck."""
+        return self._session.strike_events(places, reports=True)
 
     def attach(self, event: str, trigger: Text) -> Trigger:
         """Attaches a hist trigger to an event: one of `sched_waking`, `sched_wakeup`, `sched_wakeup_new`, `sched_switch`, or

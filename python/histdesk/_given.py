@@ -3,7 +3,7 @@
 from __future__ import annotations
 
 import operator
-from typing import Union
+from typing import Any, Iterable, Tuple, Union
 
 from . import _layout
 
@@ -18,6 +18,19 @@ def number(value: int, what: str) -> int:
     if not 0 <= whole <= MOST:
         raise ValueError(f"{what} is {whole}, which isn't from 0 to {MOST}")
     return whole
+
+
+def packed(places: Any) -> Tuple[Any, int]:
+    """Places as the library takes them, in a buffer, and how many they are. They are what `Desk.matching` answers, an array of
+    numpy with the fields `cpu` and `line`, or anything with these attributes, one by one. Raises as `number` does."""
+    numpy = _layout.numpy()
+    pairs: Iterable[Tuple[int, int]] = ((place.cpu, place.line) for place in places)
+    if numpy is not None and isinstance(places, numpy.ndarray):
+        if places.dtype == _layout.place_type():
+            return numpy.require(places, requirements=["C", "A"]), places.size
+        pairs = zip(places["cpu"].tolist(), places["line"].tolist())
+    structs = b"".join(_layout.PLACE.pack(0, number(cpu, "cpu"), number(line, "line")) for cpu, line in pairs)
+    return structs, len(structs) // _layout.PLACE.size
 
 
 def as_bytes(text: Text) -> bytes:

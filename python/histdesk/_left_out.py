@@ -165,9 +165,9 @@ def strike(desk: Desk, chosen: Sequence[Chosen]) -> List[LeftOut]:
     places = [desk.matching(one.event, one.filter) for one in chosen]
     counts = [LeftOut(len(desk.matching(one.event, ALWAYS)), len(found)) for one, found in zip(chosen, places)]
     if places:
-        cpus, lines = (numpy.concatenate([found[field] for found in places]) for field in ("cpu", "line"))
-        # Nobody wants to know what a strike changes, so it isn't asked for.
-        session, call = desk._session, library.histdesk_strike
-        for number in numpy.unique(numbered(cpus, lines)).tolist():
-            session.call(call, *divmod(number, 1 << 32))
+        found = numpy.concatenate(places)
+        once = found[numpy.unique(numbered(found["cpu"], found["line"]), return_index=True)[1]]
+        # The last ones come first, so that the keys of tables, which stand in the order of their first hits, move least. Nobody
+        # wants to know what the strikes change, so it isn't asked for.
+        desk._session.strike_events(once[numpy.argsort(once["stamp"])[::-1]], reports=False)
     return counts

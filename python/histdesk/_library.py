@@ -26,6 +26,7 @@ CALLS: Dict[str, Tuple[Any, List[Any]]] = {
     "histdesk_unload": (Code, [Number, Count]),
     "histdesk_insert": (Code, [*TEXT, ctypes.POINTER(_layout.Line)]),
     "histdesk_strike": (Code, [Number, Number]),
+    "histdesk_strike_events": (Code, [ctypes.c_void_p, Size, ctypes.c_bool, Count]),
     "histdesk_attach": (Code, [Number, *TEXT, ctypes.POINTER(Number)]),
     "histdesk_refilter": (Code, [Number, *TEXT]),
     "histdesk_unfilter": (Code, [Number]),

@@ -30,7 +30,7 @@ PARTS = {
 
 
 class Refused(Exception):
-    """The desk refused a call, and nothing held has changed. `str()` of it says why.
+    """The desk refused a call, and nothing held has changed, except for `strike_events`. `str()` of it says why.
 
     | Attribute | What it is | With which numbers |
     |---|---|---|
@@ -43,6 +43,7 @@ class Refused(Exception):
     | `trigger` | the id of the trigger that reads, or that saves under the name already | 11, 12 |
     | `text` | what a script prints, as `refused 8: fault 3` | all |
     | `path` | the file that holds the line, where a file was loaded | 3 |
+    | `struck` | how many events `strike_events` struck before, which stay so | 5, 6 |
 
     What doesn't belong to the number is None. The numbers are those of docs/REFERENCE.md, in Refusals and in the
     three sections of faults.
@@ -64,6 +65,7 @@ class Refused(Exception):
     trigger: Optional[int] = None
     text: str = ""
     path: Optional[str] = None
+    struck: Optional[int] = None
 
 
 def refusal_words(text: str) -> str:

@@ -9,10 +9,12 @@ from typing import Any, Callable, Dict, List, NamedTuple, Optional, Tuple
 
 from . import _layout
 from ._events import Events
+from ._given import packed
 from ._library import library
-from ._refused import exception_of
+from ._refused import Refused, exception_of
 from ._shape import Shape
-from ._values import Changed, Edit, Latency, Place
+from ._source import bytes_of
+from ._values import Changed, Edit, Edits, Latency, Place
 
 # Each thread has an object of its own here, by which a desk knows the thread that made it.
 here = threading.local()
@@ -164,12 +166,32 @@ class Session:
 
     def edit(self, cpu: int, line: int) -> Edit:
         """What the last edit did, which was an accepted one at that place."""
+        return Edit(cpu, line, *self._told())
+
+    def strike_events(self, places: Any, reports: bool) -> Edits:
+        """Strikes the events at places, as `packed` takes them. Without a report any row may have changed. Raises `Refused` at
+        the first one that is refused, which has how many were struck before."""
+        content, count = packed(places)
+        struck = ctypes.c_uint64()
+        try:
+            with bytes_of(content) as (address, _):
+                self.call(library.histdesk_strike_events, address, count, reports, struck)
+        except Refused as refused:
+            refused.struck = struck.value
+            raise
+        if not struck.value:
+            # The report is still that of the edit before.
+            return Edits(0, [] if reports else None, bool(library.histdesk_is_deferred(self.handle)))
+        return Edits(struck.value, *self._told())
+
+    def _told(self) -> Tuple[Optional[List[Changed]], bool]:
+        """Which rows the last edit may have changed, if that is known, and whether the tables lack it."""
         deferred = bool(library.histdesk_is_deferred(self.handle))
         try:
-            return Edit(cpu, line, self._changed(), deferred)
+            return self._changed(), deferred
         except MemoryError:
             # The edit stands, and its report is lost.
-            return Edit(cpu, line, None, deferred)
+            return None, deferred
 
     def _changed(self) -> Optional[List[Changed]]:
         """The rows that the report of the last edit names; None where it lacks those of some triggers."""

@@ -128,6 +128,19 @@ class Changed(NamedTuple):
     key: Tuple[Any, ...]
 
 
+class Edits(NamedTuple):
+    """What an accepted `strike_events` did.
+
+    `struck` is how many events were struck. `changed` names rows that went or may have changed by all of these strikes
+    together, each once, and all others are as they were; it is None where there is no such report, and then any row may have
+    changed. `deferred` says that there was no memory for the tables: the edits stand, and the next answer builds them anew.
+    """
+
+    struck: int
+    changed: Optional[List[Changed]]
+    deferred: bool
+
+
 class Edit(NamedTuple):
     """What an accepted `insert` or `strike` did.
 

@@ -204,6 +204,41 @@ class Edits(unittest.TestCase):
         self.assertIsNone(self.desk.event(1, 1))
         self.assertEqual(tuples(self.reader.latencies()), [tuple(WAITS[1])])
 
+    def test_strikes_of_events(self):
+        rows = {*self.desk.strike(1, 1).changed, *self.desk.strike(1, 2).changed}
+        self.setUp()
+        places = self.desk.matching("sched_waking", "pid > 0")
+        edits = self.desk.strike_events(places)
+        self.assertEqual((edits.struck, edits.deferred), (2, False))
+        # All rows that the strikes may have changed one by one, each once.
+        self.assertEqual(len(edits.changed), len({*edits.changed}))
+        self.assertEqual({*edits.changed}, rows)
+        self.assertGreaterEqual(rows, {Changed(number, (pid,)) for number in (1, 2) for pid in (7, 42)})
+        self.assertGreaterEqual(rows, {Changed(3, (6, 42)), Changed(3, (5, 7))})
+        self.assertEqual(list(self.desk.events()), [OTHER, SWITCH_42, SWITCH_7])
+        self.assertEqual((self.saver.rows(), tuples(self.reader.latencies()), self.made.rows()), ([], [], []))
+
+    def test_strikes_of_no_event(self):
+        self.assertEqual(self.desk.strike_events(self.desk.matching("sched_waking", "pid == 6")), (0, [], False))
+        self.assertEqual(self.desk.strike_events([]), (0, [], False))
+        self.assertEqual(list(self.desk.events()), MERGED)
+
+    def test_strikes_of_events_one_by_one(self):
+        edits = self.desk.strike_events(event for event in MERGED if event.cpu == 0)
+        self.assertEqual((edits.struck, list(self.desk.events())), (3, [WAKING_42, WAKING_7]))
+        with self.assertRaises(ValueError):
+            self.desk.strike_events([Place(0, 1, 1), Place(0, 1, -1)])
+        with self.assertRaises(TypeError):
+            self.desk.strike_events([Place(0, 1, 1), Place(0, 1, "2")])
+        self.assertEqual(list(self.desk.events()), [WAKING_42, WAKING_7])
+
+    @with_numpy
+    def test_strikes_of_arrays(self):
+        every_second = self.desk.matching("sched_switch", "next_pid > 0")[::2]
+        self.assertEqual(self.desk.strike_events(every_second).struck, 1)
+        self.assertEqual(self.desk.strike_events(self.desk.events(1).array).struck, 2)
+        self.assertEqual(list(self.desk.events()), [OTHER, SWITCH_7])
+
     def test_edit_that_changes_no_row(self):
         self.assertEqual(self.desk.strike(0, 2).changed, [])
 
@@ -560,7 +595,7 @@ class Refusals(unittest.TestCase):
         with self.assertRaises(Refused) as caught:
             call()
         refused = caught.exception
-        names = ["fault", "filter_fault", "place", "line", "cpu", "trigger"]
+        names = ["fault", "filter_fault", "place", "line", "cpu", "trigger", "struck"]
         self.assertEqual(refused.text, text)
         self.assertEqual(refused.number, int(text.split(" ")[1].rstrip(":")))
         self.assertEqual({name: getattr(refused, name) for name in names}, {**dict.fromkeys(names), **details})
@@ -581,6 +616,15 @@ class Refusals(unittest.TestCase):
         self.refused(lambda: desk.strike(0, 9), "refused 6")
         self.refused(lambda: desk.insert("# tracer: nop"), "refused 6")
         self.assertEqual(list(desk.events()), MERGED)
+
+    def test_strikes_of_events(self):
+        desk = desk_of()
+        missing = [Place(0, 1, 1), Place(0, 0, 9), Place(0, 0, 1)]
+        self.refused(lambda: desk.strike_events(missing), "refused 6", struck=1)
+        self.refused(lambda: desk.strike_events([Place(0, 2, 1), Place(0, 0, 1)]), "refused 5: cpu 2", cpu=2, struck=0)
+        self.assertEqual(list(desk.events()), [OTHER, SWITCH_42, WAKING_7, SWITCH_7])
+        self.refused(lambda: desk.strike_events([WAKING_7, WAKING_7]), "refused 6", struck=1)
+        self.assertEqual(list(desk.events()), [OTHER, SWITCH_42, SWITCH_7])
 
     def test_full(self):
         desk = histdesk.Desk()

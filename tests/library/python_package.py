@@ -79,6 +79,7 @@ class Life(unittest.TestCase):
             lambda: desk.unload(1),
             lambda: desk.insert(LINE),
             lambda: desk.strike(0, 1),
+            lambda: desk.strike_events([]),
             lambda: desk.attach("sched_waking", "hist:keys=pid"),
             lambda: desk.trigger(1),
             desk.triggers,

@@ -10,14 +10,14 @@ ghost use Rattle.ft_desk.specs.Edits.{after_load_text, after_insert_text};
 ghost use Rattle.ft_desk.specs.Edits.{after_attach_text, after_refilter_text};
 ghost use Rattle.ft_desk.specs.Found.{event_found, lane_found, matching_found};
 ghost use Rattle.ft_layout.specs.Names.{name_numbered};
-ghost use Rattle.ft_session.specs.Calls.{Edits, EditsInPlace, Inserts, Strikes};
+ghost use Rattle.ft_session.specs.Calls.{Edits, EditsInPlace, Inserts, Strikes, StrikesEvents};
 ghost use Rattle.ft_session.specs.Calls.{AnswersTotals, AnswersText, AnswersRows, AnswersPairs};
 ghost use Rattle.ft_session.specs.Calls.{ReadsText, ReadsPlaces, ReadsTriggers, ReadsEvent};
 ghost use Rattle.ft_c.specs.Calls.{Calls, CallsWriting};
 
 use crate::codes::CLOSED;
 use crate::handle::Handle;
-use ft_layout::{EventLayout, LineLayout, TotalsLayout, name_numbered};
+use ft_layout::{EventLayout, LineLayout, PlaceLayout, TotalsLayout, name_numbered};
 use std::alloc::Global;
 
 /// Loads a trace text: how many events were loaded.
@@ -92,6 +92,28 @@ pub extern "C" fn histdesk_strike(alloc: Global, desk: &mut Handle, cpu: u32, li
     match desk.take(alloc) {
         Some(mut session) => {
             let code = session.strike(cpu, line);
+            desk.put(alloc, session);
+            code
+        }
+        None => CLOSED,
+    }
+}
+
+/// Takes the events at places away, in their order: how many, up to the first one that is refused.
+#[unsafe(no_mangle)]
+pub extern "C" fn histdesk_strike_events(
+    alloc: Global,
+    desk: &mut Handle,
+    places: &[PlaceLayout],
+    reports: bool,
+    struck: &mut u64,
+) -> u32
+    ensures { CallsWriting desk.old.held desk.new.held result struck.old struck.new (λ before after.
+        StrikesEvents places.now reports before result struck.new after) }
+{
+    match desk.take(alloc) {
+        Some(mut session) => {
+            let code = session.strike_events(places, reports, struck);
             desk.put(alloc, session);
             code
         }

@@ -1,5 +1,5 @@
 -- What each call of a session does, by what its desk does. All of it is our own choice.
-use Rattle.std.specs.Prelude.{◌≡◌, ◌≢◌, ℕ, List, [], Vec, Some, None, MatchOption, IsSomeAnd, Result, Err}
+use Rattle.std.specs.Prelude.{◌≡◌, ◌≢◌, ◌<◌, ℕ, Bool, true, List, [], Vec, Some, None, MatchOption, IsSomeAnd, Result, Err}
 use Rattle.std.specs.declared.alloc.Global.{Global}
 use Rattle.ft_fields.specs.Traced.{Traced}
 use Rattle.ft_fields.specs.declared.pos.Pos.{Pos}
@@ -21,6 +21,7 @@ use Rattle.ft_layout.specs.Places.{line_layout}
 use Rattle.ft_layout.specs.Rows.{totals_layout}
 use Rattle.ft_layout.specs.declared.events.EventLayout.{EventLayout}
 use Rattle.ft_layout.specs.declared.places.LineLayout.{LineLayout}
+use Rattle.ft_layout.specs.declared.places.PlaceLayout.{PlaceLayout}
 use Rattle.ft_layout.specs.declared.rows.TotalsLayout.{TotalsLayout}
 use Rattle.ft_lines.specs.Layouts.{losses_layout}
 use Rattle.ft_lines.specs.Losses.{AreLossesOf}
@@ -28,6 +29,7 @@ use Rattle.ft_lines.specs.declared.layouts.LossesLayout.{LossesLayout}
 use Rattle.ft_lines.specs.declared.line.TextLine.{TextLine}
 use Rattle.ft_stream.specs.Calls.{IsIdle, Holds}
 use Rattle.ft_session.specs.declared.session.Session.{Session}
+use Rattle.ft_session.specs.Strikes.{after_strikes, ReportsStrikes}
 use Rattle.ft_session.specs.Told.{code_of, edit_told, answer_told, shown_as, IsWritten, IsSized}
 
 -- an event at its line, as C has it
@@ -83,6 +85,16 @@ Inserts after old before code at new =
 -- a strike never needs memory
 unfoldable pub Strikes : Result (Base × Place) Refused → Session → ℕ → Session → Type 0
 Strikes after old code new = EditsEvent after old code new × (new.refused ≢ Some Memory)
+
+-- Strikes of the events at places, in their order, did what after_strikes says, and the code and the number tell it. They never need memory, and don't bring deferred tables up to date. What they report, if that is asked for, is held from now on, unless no event was struck: then nothing has changed.
+pub record StrikesEvents (places : List PlaceLayout) (reports : Bool) (old : Session) (code struck : ℕ) (new : Session) : Type 0 where
+  pub gives : after_strikes old.desk.base places ≡ record { base = new.desk.base; count = struck; refused = new.refused }
+  pub memory : new.refused ≢ Some Memory
+  pub deferred : old.desk.deferred ≡ true → new.desk.deferred ≡ true
+  pub none : struck ≡ 0 → (new.desk.deferred ≡ old.desk.deferred) × (new.edited ≡ old.edited)
+  pub some : 0 < struck → IsSomeAnd new.edited (ReportsStrikes reports old.desk new.desk)
+  pub answer : code ≡ code_of new.refused
+  pub rest : new ≡ record old { desk = new.desk; edited = new.edited; refused = new.refused }
 
 -- ---- questions that the tables answer
 

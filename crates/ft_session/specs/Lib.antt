@@ -1,2 +1,4 @@
 pub mod Told
+pub mod Strikes
 pub mod Calls
+pub mod inner

@@ -31,6 +31,11 @@
 //!   memory at any time in the other calls; any number of steps; putting the tables off at any edit
 //!   (the desk's own clauses `repairs` and `now` are not told again here); a new session whose tables
 //!   are deferred; memory that is kept of what `forget` and later answers let go.
+//! - `Session::strike_events`: what the strikes of the events at places make of the base, one after the
+//!   other up to the first one that is refused, how many events they take, and why that one is refused;
+//!   exact (`after_strikes` in `specs/Strikes.antt`). If it is asked for, one report has each row that they
+//!   together may have changed, none twice (`ReportsStrikes`). Lets through: no report at any time; naming
+//!   rows that didn't change, any number of them.
 //! - `Session::lines`, `losses`: what `ft_lines` says of a text, of which the desk holds nothing
 //!   (`ReadsLines`, `ReadsLosses` in `specs/Calls.antt`); all else stays. Let through: running out of memory
 //!   at any time.
@@ -38,8 +43,10 @@
 //!   are there now is told by the desk's lanes (`event_in` of `ft_layout`).
 #![tactic(auto)]
 
+mod joint_report;
 mod lines;
 mod session;
+mod strikes;
 mod told;
 
 pub use session::Session;

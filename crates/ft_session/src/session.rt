@@ -50,7 +50,7 @@ pub struct Session {
     pub lines: Vec<TextLine>,
     /// What the text reports lost that was last asked for by `losses`.
     pub losses: LossesRead,
-    /// What the last accepted insert or strike told.
+    /// What the last accepted insert or strike told, or the strikes of one call together.
     pub edited: Option<Edited>,
     /// Why the last call with a code was refused, if it was.
     pub refused: Option<Refused>,

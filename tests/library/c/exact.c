@@ -230,6 +230,46 @@ static void ask_and_edit(void) {
     HOLDS(histdesk_rows_copy(desk, 1, &row, 1) == 1 && row.key.part[0].text.bytes[0] == 'w');
 }
 
+static uint32_t strike_events(const histdesk_place *places, size_t count, bool reports, uint64_t *struck) {
+    histdesk_place *own = exact(places, count * sizeof *places);
+    uint32_t code = histdesk_strike_events(desk, own, count, reports, struck);
+    free(own);
+    return code;
+}
+
+/* Whether the report has so many rows, or more, and none twice. */
+static bool is_reported(uint64_t rows, uint64_t made) {
+    histdesk_report report;
+    histdesk_changed changed[16];
+    bool holds = histdesk_report_of(desk, &report) == HISTDESK_OK && report.has_rows && report.has_made;
+    size_t count = histdesk_rows_changed_copy(desk, 0, changed, 16);
+    holds &= count == report.rows && count >= rows && report.made >= made;
+    for (size_t one = 0; one < count; one++)
+        for (size_t other = 0; other < one; other++)
+            holds &= memcmp(&changed[one], &changed[other], sizeof *changed) != 0;
+    return holds;
+}
+
+/* One call strikes the events at places up to the first one that is refused, such as a place that comes twice. */
+static void strike_many(void) {
+    histdesk_place places[] = {{1000100, 0, 1}, {0, 0, 2}, {1000100, 0, 1}};
+    histdesk_report report;
+    uint64_t count, struck = 77;
+    fill();
+    HOLDS(strike_events(places, 0, true, &struck) == HISTDESK_OK && struck == 0);
+    HOLDS(histdesk_report_of(desk, &report) == HISTDESK_OK && !report.has_rows && !report.has_made);
+    HOLDS(strike_events(places, 3, true, &struck) == HISTDESK_NO_EVENT && struck == 2);
+    HOLDS(is_reported(6, 2));
+    HOLDS(histdesk_latencies(desk, 2, &count) == HISTDESK_OK && count == 0);
+    HOLDS(strike_events(places, 1, true, &struck) == HISTDESK_NO_EVENT && struck == 0 && is_reported(6, 2));
+    HOLDS(matching(HISTDESK_SWITCH, "next_pid >= 42", &count) == HISTDESK_OK && count == 2);
+    HOLDS(histdesk_places_copy(desk, 0, places, 2) == 2 && strike_events(places, 2, false, &struck) == HISTDESK_OK);
+    HOLDS(struck == 2 && histdesk_report_of(desk, &report) == HISTDESK_OK && !report.has_rows && !report.has_made);
+    HOLDS(histdesk_events(desk, &count) == HISTDESK_OK && count == 1 && report.rows == 0 && report.made == 0);
+    places[0].cpu = 7;
+    HOLDS(strike_events(places, 2, false, &struck) == HISTDESK_NO_LANE && struck == 0);
+}
+
 /* What one desk holds and tells is no other's. */
 static void keep_apart(void) {
     histdesk *first = desk, *second = exact(&(histdesk){0}, sizeof *second);
@@ -263,6 +303,7 @@ static void are_closed(void) {
     HOLDS(lines_in(torn, &number) == HISTDESK_CLOSED && losses_in(torn, &read) == HISTDESK_CLOSED && read.holes == 77);
     HOLDS(load(trace, &number) == HISTDESK_CLOSED && histdesk_unload(desk, 0, &number) == HISTDESK_CLOSED);
     HOLDS(insert("a-1 [000] 1.000100:", &at) == HISTDESK_CLOSED && histdesk_strike(desk, 0, 1) == HISTDESK_CLOSED);
+    HOLDS(strike_events(&(histdesk_place){0, 0, 1}, 1, true, &number) == HISTDESK_CLOSED);
     HOLDS(attach(HISTDESK_WAKING, "hist:keys=pid", &id) == HISTDESK_CLOSED && refilter(1, "") == HISTDESK_CLOSED);
     HOLDS(histdesk_unfilter(desk, 1) == HISTDESK_CLOSED && histdesk_remove(desk, 1) == HISTDESK_CLOSED);
     HOLDS(histdesk_totals_of(desk, 1, &totals) == HISTDESK_CLOSED && histdesk_hist(desk, 1, &number) == HISTDESK_CLOSED);
@@ -428,6 +469,7 @@ int main(void) {
     are_closed(); /* never made */
     ask_and_copy();
     ask_and_edit();
+    strike_many();
     keep_apart();
     refuse_edits();
     refuse_questions();

@@ -297,6 +297,22 @@ static void edit_events(void) {
     ask_all(1, 1, 1000100, 6);
 }
 
+/* Many strikes never want memory, and their report may be left out as that of one. */
+static void strike_many(void) {
+    histdesk_line at = {77, 77};
+    uint64_t struck = 77;
+    KEEPS(HISTDESK_OK,
+          histdesk_insert(&desk, BYTES("a-1 [000] 1.000130: sched_waking: comm=w pid=42 prio=120 target_cpu=000"), &at),
+          at.cpu == 77 && at.line == 77);
+    ask_all(2, 4, 1000130, 5);
+    histdesk_place places[] = {{0, at.cpu, at.line}, {0, at.cpu, at.line}};
+    uint64_t refused_before = heap.refused;
+    ALWAYS(HISTDESK_NO_EVENT, histdesk_strike_events(&desk, places, 2, true, &struck));
+    HOLDS(struck == 1);
+    ask_report(heap.refused == refused_before);
+    ask_all(1, 1, 1000100, 6);
+}
+
 static void edit_triggers(void) {
     uint64_t count;
     GIVES(HISTDESK_OK, histdesk_refilter(&desk, 1, BYTES("pid == 41")));
@@ -375,6 +391,7 @@ static uint64_t session(uint64_t at, bool for_good) {
     ask_events();
     ask_text();
     edit_events();
+    strike_many();
     edit_triggers();
     ask_refusals();
     end_all();

@@ -1,0 +1,2 @@
+-- Words of private functions: the report of several edits as one.
+pub mod JointReports
