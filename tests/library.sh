@@ -1,9 +1,9 @@
 #!/usr/bin/env bash
 # library.sh LIBRARY HISTDESK HISTWATCH: tests the library, libhistdesk.so.0 with the libhistdesk.a beside it, as its users
 # have it: from C (library/c_library.sh); from Python with the tools over it, by the python3 on the PATH and by the system's, which may
-# have numpy and pandas; the page of tools/view in a browser (page/page.py); and installed with the programs (tools/install.sh). The
-# scripts that all of this stands on are looked through too (lint.sh). It prints what went wrong, what was not tried and
-# why, and a last line with the counts.
+# have numpy and pandas; the page of tools/view in a browser (page/page.py); and installed with the programs (tools/install.sh)
+# and in packages (tools/packages.sh). The scripts that all of this stands on are looked through too (lint.sh). It prints what
+# went wrong, what was not tried and why, and a last line with the counts.
 # shellcheck disable=SC2154 # what counts.sh assigns
 set -uo pipefail
 
@@ -68,6 +68,7 @@ part recorded "$tests/tools/recorded.sh" "$tests/../tools"
 part "perf's filter" "${pythons[-1]}" "$tests/tools/filtered.py" "$tests/../tools"
 part "turned quickly" "${pythons[-1]}" "$tests/tools/quickly.py" "$tests/../tools"
 part installed "$tests/tools/install.sh" "$histdesk" "$histwatch" "$library"
+part packages "$tests/tools/packages.sh" "$histdesk" "$histwatch" "$library"
 
 cat -- "$folder/untried"
 echo "$passed passed, $failed failed"

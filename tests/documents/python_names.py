@@ -90,6 +90,8 @@ def package() -> Dict[str, Members]:
                 kinds[node.name] = members_of(node)
                 made = kinds[node.name].get("__init__", Member(""))
                 kinds[PACKAGE][node.name] = Member(node.name, made.parameters or frozenset(kinds[node.name]))
+            elif isinstance(node, ast.Assign) and kind_of(node.targets[0]) in public:
+                kinds[PACKAGE][kind_of(node.targets[0])] = Member("str")
     return kinds
 
 

@@ -208,9 +208,9 @@ gives "Python below /usr/local" 0 "" /usr/bin/python3 -c 'import sys; print(sys.
     "${package%/histdesk/*}"
 prints "Python below /usr/local" True
 
+# The wheel is used by packages.sh.
 gives package 0 "" "$tools/package" "$folder/packages"
 version=$(sed -n 's/.*_\(.*\)_amd64\.deb$/\1/p' "$folder/out")
-prints package "$folder/packages/histdesk_${version}_amd64.deb"$'\n'"$folder/packages/histdesk-$version-linux-x86_64.tar.gz"
 gives "deb's fields" 0 "" dpkg-deb -f "$folder/packages/histdesk_${version}_amd64.deb" Package Version Architecture
 prints "deb's fields" "Package: histdesk"$'\n'"Version: $version"$'\n'"Architecture: amd64"
 gives "dpkg-deb -x" 0 "" dpkg-deb -x "$folder/packages/histdesk_${version}_amd64.deb" "$folder/deb"
