@@ -16,31 +16,31 @@ OWN = {
 }
 
 OVERVIEW = """\
-Commands, as in a script, and what they do:
+The commands of scripts:
 
-  load @N, load PATH        take a trace in: the Nth that is named, or any file
-  unload C                  take the events of CPU C away
-  insert LINE               put one trace line in
-  strike C:L                take line L of CPU C away
+  load @N, load PATH        load a trace: the Nth one given, or any file
+  unload C                  remove the events of CPU C
+  insert LINE               insert one trace line
+  strike C:L                remove line L of CPU C
   list C                    show the events of CPU C
 
   attach EVENT TRIGGER      attach a hist trigger
-  filter ID if EXPR         give it another filter; filter ID none takes it away
+  filter ID if EXPR         change its filter; filter ID none removes it
   remove ID                 remove it
   hist ID                   show its table
   totals ID                 show its hits, entries and dropped hits
   lat ID                    show its latencies, one by one
 
-And beside them:
+And in addition:
 
-  triggers                  which triggers are attached
-  cpus                      which CPUs have events, from when to when, and where some were lost
-  waits [BY]                how long tasks waited to run: by task, name, cpu, prio or kind
-  why C:L                   what a task waited for that begins to run at line L of CPU C
-  help COMMAND              more of a command; help attach, for one, lists events, fields and modifiers
-  quit                      end, as Ctrl-D does
+  triggers                  list the attached triggers
+  cpus                      list the CPUs with events, their time spans, and where some were lost
+  waits [BY]                show how long tasks waited to run: by task, name, cpu, prio or kind
+  why C:L                   show why the task that starts to run at line L of CPU C waited
+  help COMMAND              more about a command; help attach lists events, fields and modifiers
+  quit                      end, like Ctrl-D
 
-How long tasks wait from their waking to their run takes two triggers:
+Measuring how long tasks wait from waking to running takes two triggers:
 
   attach sched_waking hist:keys=pid:ts0=common_timestamp.usecs
   attach sched_switch hist:keys=next_pid:vals=$lat:lat=common_timestamp.usecs-$ts0:sort=$lat.descending
@@ -51,14 +51,14 @@ ATTACH = f"""\
 attach EVENT TRIGGER
 
   EVENT is one of {', '.join(ATTACHED)}.
-  TRIGGER is hist: and parts with : between, and perhaps `if` and a filter (help filter):
+  TRIGGER is hist: and parts separated by :, and optionally `if` and a filter (help filter):
 
-    keys=FIELD,..           one to three; after a number .hex, .log2 or .buckets=N
-    vals=FIELD,..           what is summed, at most three: numbers, or $NAME of the trigger's own variable
-    sort=NAME,..            one or two: hitcount, a key or a value; .descending after it
-    size=N                  how many keys have room: 2048, or up to 131072
+    keys=FIELD,..           one to three; a number may be followed by .hex, .log2 or .buckets=N
+    vals=FIELD,..           what to sum, at most three: numbers, or $NAME of the trigger's own variable
+    sort=NAME,..            one or two: hitcount, a key or a value; optionally followed by .descending
+    size=N                  how many keys fit: 2048 by default, up to 131072
     NAME=common_timestamp.usecs           saves the stamp under the key
-    NAME=common_timestamp.usecs-$OTHER    reads what another trigger saves: the difference is a latency
+    NAME=common_timestamp.usecs-$OTHER    reads what another trigger saved: the difference is a latency
     {ONMATCH_FORM}
                             makes an event of each latency, which triggers on wakeup_latency count
 
@@ -78,8 +78,8 @@ filter ID if EXPR
 filter ID none
 
   EXPR is made of FIELD OP VALUE, joined by && and ||, with ! in front and ( ) around.
-  OP of numbers is == != < <= > >= or & (a bit in common); of texts == != or ~ (a pattern with * ? [a-z]).
-  A number is decimal, or 0x and hexadecimal; a text stands in quotes.
+  For numbers, OP is == != < <= > >= or & (a bit in common); for texts, == != or ~ (a pattern with * ? [a-z]).
+  A number is decimal, or 0x and hexadecimal; a text is in quotes.
 
   filter 1 if next_prio < 100 && next_comm != "swapper/0"
 """
@@ -88,15 +88,15 @@ LOAD = """\
 load @N
 load PATH
 
-  Takes a trace in: the Nth that is named, or any file, packed by gzip or not; a path may begin with ~. It gets the next
-  number. Where events of the recording were lost, that is said: a latency across such a time may be false.
-  A trace whose CPUs are held already is refused; `unload C` makes room.
+  Loads a trace: the Nth one given, or any file, compressed by gzip or not; a path may begin with ~. A file gets the next
+  number. If events of the recording were lost, that is reported: a latency that spans such a time may be false.
+  A trace whose CPUs are already held is refused; `unload C` them first.
 """
 
 INSERT = """\
 insert LINE
 
-  Puts one trace line in, as the last line of its CPU; its stamp says where it stands in time.
+  Inserts one trace line, as the last line of its CPU; its timestamp decides its place in time.
 
   insert sim-1 [001] 6012.000100: sched_waking: comm=w pid=42 prio=120 target_cpu=000
 """
@@ -104,7 +104,7 @@ insert LINE
 LAT = """\
 lat ID
 
-  Shows the latencies of a trigger that reads a variable, each with the places of the two events between which it lies:
+  Shows the latencies of a trigger that reads a variable, each with the places of its two events:
 
   0:9 -> 1:4: 204 us
 """
@@ -113,36 +113,36 @@ WAITS = """\
 waits
 waits BY
 
-  Shows how long tasks waited to run, from what made them runnable to the switch that ran them, in microseconds, the
-  longest first: by task, name, cpu, prio or kind (woken, new, preempted). Waits across a time in which events were lost
-  are left out. It needs numpy.
+  Shows how long tasks waited to run, from the event that made them runnable to the switch that ran them, in
+  microseconds, the longest first: by task, name, cpu, prio or kind (woken, new, preempted). Waits that span a time in
+  which events were lost are left out. It needs numpy.
 """
 
 WHY = """\
 why C:L
 
-  Tells the wait that ends at line L of CPU C: who woke the task, and what ran there meanwhile. `waits` shows where the
-  longest waits end. It needs numpy.
+  Explains the wait that ends at line L of CPU C: who woke the task, and what ran there meanwhile. `waits` shows where
+  the longest waits end. It needs numpy.
 """
 
 MORE: Dict[str, str] = {
     "load": LOAD,
-    "unload": "unload C\n\n  Takes all events of CPU C away. Its line numbers begin at 1 again.\n",
+    "unload": "unload C\n\n  Removes all events of CPU C. Its line numbers start at 1 again.\n",
     "insert": INSERT,
-    "strike": "strike C:L\n\n  Takes line L of CPU C away. All tables are then as if it had never been there.\n",
-    "list": "list C\n\n  Shows the events of CPU C, each after its place C:L.\n",
+    "strike": "strike C:L\n\n  Removes line L of CPU C. All tables are then as if it had never been there.\n",
+    "list": "list C\n\n  Shows the events of CPU C, each preceded by its place C:L.\n",
     "attach": ATTACH,
     "filter": FILTER,
-    "remove": "remove ID\n\n  Removes a trigger. One whose variable another trigger reads is refused.\n",
+    "remove": "remove ID\n\n  Removes a trigger. Refused if another trigger reads its variable.\n",
     "hist": "hist ID\n\n  Shows the table of a trigger, as the kernel's hist file does. `triggers` lists the ids.\n",
-    "totals": "totals ID\n\n  Shows how many hits were counted, how many keys there are, and how many hits found no room.\n",
+    "totals": "totals ID\n\n  Shows how many hits were counted, how many keys there are, and how many hits were dropped.\n",
     "lat": LAT,
-    "triggers": "triggers\n\n  Shows the attached triggers: id, event, and the text with all that was left out.\n",
-    "cpus": "cpus\n\n  Shows which CPUs have events, from which stamp to which, and how often events of theirs were lost.\n",
+    "triggers": "triggers\n\n  Shows the attached triggers: id, event, and the text including all defaults.\n",
+    "cpus": "cpus\n\n  Shows which CPUs have events, from which timestamp to which, and how often they lost events.\n",
     "waits": WAITS,
     "why": WHY,
-    "help": "help\nhelp COMMAND\n\n  Shows all commands, or more of one.\n",
-    "quit": "quit\n\n  Ends, as Ctrl-D does.\n",
+    "help": "help\nhelp COMMAND\n\n  Shows all commands, or more about one.\n",
+    "quit": "quit\n\n  Ends the desk, like Ctrl-D.\n",
 }
 
 
