@@ -103,7 +103,7 @@ def loaded(keys):
     return [*front, "load @1", "totals 1"], [*front, "totals 1"], *other_keys(keys)
 
 
-def edited_among(keys, edits=2000):
+def edited_among(keys, edits=20000):
     """In a table with room for so many keys, the first one goes and comes."""
     trace = [waking(0, 0, cpu=1), *(waking(n, n) for n in range(1, keys))]
     front = ["load @1", "attach sched_waking hist:keys=pid:size=131072", "totals 1"]
