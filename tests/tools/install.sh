@@ -5,32 +5,13 @@
 # shellcheck disable=SC2154 # what counts.sh assigns
 set -uo pipefail
 
-tests=$(dirname -- "$(dirname -- "$(realpath -- "${BASH_SOURCE[0]}")")")
-BUILT_HISTDESK=$(realpath -- "$1")
-BUILT_HISTWATCH=$(realpath -- "$2")
-BUILT_LIBRARY=$(realpath -- "$3")
-export BUILT_HISTDESK BUILT_HISTWATCH BUILT_LIBRARY
-unset DESTDIR
-root=$(realpath -- "$tests/..")
-tools=$root/tools
-examples=$root/examples
-. "$tests/counts.sh"
-. "$tests/tools/common.sh"
+. "$(dirname -- "$(realpath -- "${BASH_SOURCE[0]}")")/built.sh" "$@"
 
 # below PREFIX: what is used next is installed there. "${alone[@]}" COMMAND.. has this, and what the system has.
 below() {
     prefix=$1
     alone=(env -i "PATH=$prefix/bin:/usr/bin:/bin" "PYTHONPATH=$prefix/lib/python3/dist-packages"
         "LD_LIBRARY_PATH=$prefix/lib" "PKG_CONFIG_PATH=$prefix/lib/pkgconfig")
-}
-
-# same WHAT GOT WANTED
-same() {
-    if [[ $2 == "$3" ]]; then
-        pass
-    else
-        fail "$1: $2"
-    fi
 }
 
 # The program in C that histdesk(3) shows.

@@ -7,25 +7,8 @@
 # shellcheck disable=SC2154 # what counts.sh assigns
 set -uo pipefail
 
-tests=$(dirname -- "$(dirname -- "$(realpath -- "${BASH_SOURCE[0]}")")")
-BUILT_HISTDESK=$(realpath -- "$1")
-BUILT_HISTWATCH=$(realpath -- "$2")
-BUILT_LIBRARY=$(realpath -- "$3")
-export BUILT_HISTDESK BUILT_HISTWATCH BUILT_LIBRARY
-unset DESTDIR HISTDESK_LIBRARY PYTHONPATH
-root=$(realpath -- "$tests/..")
-examples=$root/examples
-. "$tests/counts.sh"
-. "$tests/tools/common.sh"
-
-# same WHAT GOT WANTED
-same() {
-    if [[ $2 == "$3" ]]; then
-        pass
-    else
-        fail "$1: $2"
-    fi
-}
+unset HISTDESK_LIBRARY PYTHONPATH
+. "$(dirname -- "$(realpath -- "${BASH_SOURCE[0]}")")/built.sh" "$@"
 
 # same_file WHAT FILE FILE
 same_file() {
@@ -35,14 +18,14 @@ same_file() {
 # ---- What is made, and twice the same.
 
 version=$(sed -n 's/^__version__ = "\(.*\)"$/\1/p' "$root/python/histdesk/_version.py")
-gives package 0 "" "$root/tools/package" "$folder/packages"
+gives package 0 "" "$tools/package" "$folder/packages"
 mapfile -t made <"$folder/out"
 deb=$folder/packages/histdesk_${version}_amd64.deb
 tarball=$folder/packages/histdesk-$version-linux-x86_64.tar.gz
 wheel=${made[2]-}
 same "the files" "${made[*]:0:2}" "$deb $tarball"
 same "the wheel's name" "${wheel/_2_[0-9]*_x/_2_N_x}" "$folder/packages/histdesk-$version-py3-none-manylinux_2_N_x86_64.whl"
-gives "package again" 0 "" "$root/tools/package" "$folder/again"
+gives "package again" 0 "" "$tools/package" "$folder/again"
 for file in "${made[@]}"; do
     same_file "${file##*/} again" "$file" "$folder/again/${file##*/}"
 done
