@@ -67,7 +67,7 @@ enum {
     HISTDESK_MEMORY = 1,             /* memory ran out */
     HISTDESK_NO_FILE = 2,            /* only in scripts: no such trace file */
     HISTDESK_BAD_LINE = 3,           /* a trace line has a fault: line, fault */
-    HISTDESK_LANE_HELD = 4,          /* events of the CPU are held already: cpu */
+    HISTDESK_LANE_HELD = 4,          /* events of the CPU are already held: cpu */
     HISTDESK_NO_LANE = 5,            /* no lane of the CPU is held: cpu */
     HISTDESK_NO_EVENT = 6,           /* no event is there, or the line to insert is one that is skipped */
     HISTDESK_FULL = 7,               /* over 1,048,576 events would be held, or a line number would pass 4,294,967,295 */
@@ -327,6 +327,8 @@ typedef struct histdesk_task_sum {
 typedef struct histdesk_cpu_sum {
     uint64_t idle;              /* how long it ran task 0, in microseconds: in runs whose two switches are both known */
     uint64_t idle_with_waiters; /* for how much of that time some task waited for a processor */
+    uint64_t longest;           /* the most of idle_with_waiters that one such run has */
+    uint64_t longest_from;      /* the stamp at which the first run began that has so much; 0 if longest is 0 */
     uint32_t cpu;               /* the CPU */
     uint32_t zero;              /* 0 */
 } histdesk_cpu_sum;
@@ -694,10 +696,12 @@ HISTDESK_AT_(histdesk_task_sum, blocked, 32);
 HISTDESK_AT_(histdesk_task_sum, moved, 40);
 HISTDESK_AT_(histdesk_task_sum, pid, 48);
 HISTDESK_AT_(histdesk_task_sum, zero, 52);
-HISTDESK_ASSERT_(sizeof(histdesk_cpu_sum) == 24);
+HISTDESK_ASSERT_(sizeof(histdesk_cpu_sum) == 40);
 HISTDESK_AT_(histdesk_cpu_sum, idle_with_waiters, 8);
-HISTDESK_AT_(histdesk_cpu_sum, cpu, 16);
-HISTDESK_AT_(histdesk_cpu_sum, zero, 20);
+HISTDESK_AT_(histdesk_cpu_sum, longest, 16);
+HISTDESK_AT_(histdesk_cpu_sum, longest_from, 24);
+HISTDESK_AT_(histdesk_cpu_sum, cpu, 32);
+HISTDESK_AT_(histdesk_cpu_sum, zero, 36);
 HISTDESK_ASSERT_(sizeof(histdesk_refusal) == 40);
 HISTDESK_AT_(histdesk_refusal, fault, 4);
 HISTDESK_AT_(histdesk_refusal, filter_fault, 8);

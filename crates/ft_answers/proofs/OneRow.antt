@@ -31,7 +31,7 @@ use Rattle.ft_replay.proofs.Growing.{get-tally}
 use Rattle.ft_replay.proofs.Shown.{rows-tally}
 use Rattle.ft_made.specs.Laws.{HeldAreCounted, MadeAreTallied}
 use Rattle.ft_made.specs.MadeHits.{made_hits_of}
-use Rattle.ft_answers.specs.Answers.{rows_shown, row_shown, tally_shown, tally_rows, tally_row, of_attached}
+use Rattle.ft_answers.specs.Answers.{row_texts_shown, row_text_shown, tally_shown, tally_row_texts, tally_row_text, of_attached}
 use Rattle.ft_hist.specs.Made.{counts_made}
 use Rattle.ft_answers.specs.Rows.{text_among, RowIsAmong}
 use Rattle.ft_answers.proofs.Answering.{of_attached-some, shown-made, shown-held}
@@ -75,8 +75,8 @@ module _ (permutation : (sort : List SortItem) (rows : List Counted) → IsPermu
       (sym (list_any-IsPermutation (λ (row : Counted). same_key key row.key) rows (rows_of table hist.sort) (permutation hist.sort rows)) ∙ any-rows table.hits key (keys_in table))
       ∙ text_where hist table.hits key (is_in table key)
 
-  among-tally : (hist : Hist) (table : Tabled) (pairs : List Pair) (key : List Part) → text_among key (tally_rows hist (tally_of table pairs)) ≡ tally_row hist (tally_of table pairs) key
-  unfolding tally_rows tally_row
+  among-tally : (hist : Hist) (table : Tabled) (pairs : List Pair) (key : List Part) → text_among key (tally_row_texts hist (tally_of table pairs)) ≡ tally_row_text hist (tally_of table pairs) key
+  unfolding tally_row_texts tally_row_text
   among-tally hist table pairs key =
       ap (λ (rows : List Counted). text_among key (list_map (keyed_text hist) rows)) (rows-tally permutation sorted alone table pairs hist.sort)
       ∙ among-table hist table key ∙ ap (option_map (row_text hist)) (sym (get-tally table pairs key))
@@ -85,12 +85,12 @@ module _ (permutation : (sort : List SortItem) (rows : List Counted) → IsPermu
 
   module _ (first : HeldAreCounted) (held : (triggers : Triggers) (events : Events) → AreTallied triggers events) (made : MadeAreTallied) where
     among-shown : (triggers : Triggers) (events : Events) (id : ℕ) (hist : Hist) (key : List Part) → map.get triggers id ≡ Some hist
-        → text_among key (tally_rows hist (tally_shown triggers events id hist)) ≡ tally_row hist (tally_shown triggers events id hist) key
+        → text_among key (tally_row_texts hist (tally_shown triggers events id hist)) ≡ tally_row_text hist (tally_shown triggers events id hist) key
     among-shown triggers events id hist key there = by (counts_made hist) refl where
-      agree : (tally : Tally) (table : Tabled) (pairs : List Pair) → tally ≡ tally_of table pairs → text_among key (tally_rows hist tally) ≡ tally_row hist tally key
-      agree tally table pairs is = ap (λ (t : Tally). text_among key (tally_rows hist t)) is ∙ among-tally hist table pairs key ∙ ap (λ (t : Tally). tally_row hist t key) (sym is)
+      agree : (tally : Tally) (table : Tabled) (pairs : List Pair) → tally ≡ tally_of table pairs → text_among key (tally_row_texts hist tally) ≡ tally_row_text hist tally key
+      agree tally table pairs is = ap (λ (t : Tally). text_among key (tally_row_texts hist t)) is ∙ among-tally hist table pairs key ∙ ap (λ (t : Tally). tally_row_text hist t key) (sym is)
 
-      by : (b : Bool) → counts_made hist ≡ b → text_among key (tally_rows hist (tally_shown triggers events id hist)) ≡ tally_row hist (tally_shown triggers events id hist) key
+      by : (b : Bool) → counts_made hist ≡ b → text_among key (tally_row_texts hist (tally_shown triggers events id hist)) ≡ tally_row_text hist (tally_shown triggers events id hist) key
       by true counts =
           agree (tally_shown triggers events id hist) (table_for hist (made_hits_of triggers events hist)) []
           (shown-made triggers events id hist counts ∙ ap (λ (o : Option Tally). unwrap_or o empty_tally) (made triggers events id hist there))
@@ -103,16 +103,16 @@ module _ (permutation : (sort : List SortItem) (rows : List Counted) → IsPermu
     same_ok a b same = cc
 
     pub row_is_among : RowIsAmong
-    unfolding rows_shown row_shown
+    unfolding row_texts_shown row_text_shown
     row_is_among base id key rows shown = by (map.get base.triggers id) refl where
-      by : (o : Option Hist) → map.get base.triggers id ≡ o → of_attached base.triggers id (λ hist. Ok (tally_row hist (tally_shown base.triggers (merged base.lanes) id hist) key)) ≡ Ok (text_among key rows)
+      by : (o : Option Hist) → map.get base.triggers id ≡ o → of_attached base.triggers id (λ hist. Ok (tally_row_text hist (tally_shown base.triggers (merged base.lanes) id hist) key)) ≡ Ok (text_among key rows)
       by None none =
           let never : ◌≡◌ {A = Result (List KeyedText) Refused} (Err NoTrigger) (Ok rows) =
-          ap (λ (o : Option Hist). let answer : Result (List KeyedText) Refused = option_map_or (λ hist. Ok (tally_rows hist (tally_shown base.triggers (merged base.lanes) id hist))) o (Err NoTrigger) in answer) (sym none) ∙ shown in absurd cc
+          ap (λ (o : Option Hist). let answer : Result (List KeyedText) Refused = option_map_or (λ hist. Ok (tally_row_texts hist (tally_shown base.triggers (merged base.lanes) id hist))) o (Err NoTrigger) in answer) (sym none) ∙ shown in absurd cc
       by (Some hist) there =
           let tally : Tally = tally_shown base.triggers (merged base.lanes) id hist in
-          let same : tally_rows hist tally ≡ rows =
-          same_ok (tally_rows hist tally) rows (sym (of_attached-some base.triggers id (λ (h : Hist). Ok (tally_rows h (tally_shown base.triggers (merged base.lanes) id h))) hist there) ∙ shown) in
-          of_attached-some base.triggers id (λ (h : Hist). Ok (tally_row h (tally_shown base.triggers (merged base.lanes) id h) key)) hist there
+          let same : tally_row_texts hist tally ≡ rows =
+          same_ok (tally_row_texts hist tally) rows (sym (of_attached-some base.triggers id (λ (h : Hist). Ok (tally_row_texts h (tally_shown base.triggers (merged base.lanes) id h))) hist there) ∙ shown) in
+          of_attached-some base.triggers id (λ (h : Hist). Ok (tally_row_text h (tally_shown base.triggers (merged base.lanes) id h) key)) hist there
           ∙ ap (λ (text : Option (List ℕ)). let answer : Result (Option (List ℕ)) Refused = Ok text in answer)
           (sym (among-shown base.triggers (merged base.lanes) id hist key there) ∙ ap (text_among key) same)

@@ -48,28 +48,28 @@ abbrev pub hist_from : Triggers → Events → ℕ → Result (List ℕ) Refused
 hist_from triggers events id = of_attached triggers id (λ hist. Ok (tally_text hist (tally_shown triggers events id hist)))
 
 -- the rows of a trigger with a tally, in the order of its text: the key of each, and its text without the line break (kernel: histogram.rst, the `hist` file)
-unfoldable pub tally_rows : Hist → Tally → List KeyedText
-tally_rows hist tally = list_map (keyed_text hist) (rows_in hist.sort tally)
+unfoldable pub tally_row_texts : Hist → Tally → List KeyedText
+tally_row_texts hist tally = list_map (keyed_text hist) (rows_in hist.sort tally)
 
 -- the rows of a trigger with a tally in numbers, in the order of its text (kernel: histogram.rst, the `hist` file)
-unfoldable pub tally_counts : Hist → Tally → List Counted
-tally_counts hist tally = rows_in hist.sort tally
+unfoldable pub tally_rows : Hist → Tally → List Counted
+tally_rows hist tally = rows_in hist.sort tally
 
 -- the text of a key's row of a trigger with a tally, without the line break; none where the key isn't in the table (kernel: histogram.rst, the `hist` file)
-unfoldable pub tally_row : Hist → Tally → List Part → Option (List ℕ)
-tally_row hist tally key = option_map (row_text hist) (map.get tally.table key)
+unfoldable pub tally_row_text : Hist → Tally → List Part → Option (List ℕ)
+tally_row_text hist tally key = option_map (row_text hist) (map.get tally.table key)
 
 -- the rows of the table of the trigger with an id, from replaying events (kernel: histogram.rst, the `hist` file)
-abbrev pub rows_from : Triggers → Events → ℕ → Result (List KeyedText) Refused
-rows_from triggers events id = of_attached triggers id (λ hist. Ok (tally_rows hist (tally_shown triggers events id hist)))
+abbrev pub row_texts_from : Triggers → Events → ℕ → Result (List KeyedText) Refused
+row_texts_from triggers events id = of_attached triggers id (λ hist. Ok (tally_row_texts hist (tally_shown triggers events id hist)))
 
 -- the rows of the table of the trigger with an id in numbers, from replaying events (kernel: histogram.rst, the `hist` file)
-abbrev pub counts_from : Triggers → Events → ℕ → Result (List Counted) Refused
-counts_from triggers events id = of_attached triggers id (λ hist. Ok (tally_counts hist (tally_shown triggers events id hist)))
+abbrev pub rows_from : Triggers → Events → ℕ → Result (List Counted) Refused
+rows_from triggers events id = of_attached triggers id (λ hist. Ok (tally_rows hist (tally_shown triggers events id hist)))
 
 -- the text of a key's row of the table of the trigger with an id, from replaying events (kernel: histogram.rst, the `hist` file)
-abbrev pub row_from : Triggers → Events → ℕ → List Part → Result (Option (List ℕ)) Refused
-row_from triggers events id key = of_attached triggers id (λ hist. Ok (tally_row hist (tally_shown triggers events id hist) key))
+abbrev pub row_text_from : Triggers → Events → ℕ → List Part → Result (Option (List ℕ)) Refused
+row_text_from triggers events id key = of_attached triggers id (λ hist. Ok (tally_row_text hist (tally_shown triggers events id hist) key))
 
 -- the totals of the trigger with an id, from replaying events (kernel: histogram.rst, `Hits`, `Entries` and `Dropped`)
 abbrev pub totals_from : Triggers → Events → ℕ → Result Totals Refused
@@ -108,16 +108,16 @@ unfoldable pub hist_text : Base → ℕ → Result (List ℕ) Refused
 hist_text base = hist_from base.triggers (merged base.lanes)
 
 -- the rows of a trigger's table (kernel: histogram.rst, the `hist` file)
-unfoldable pub rows_shown : Base → ℕ → Result (List KeyedText) Refused
-rows_shown base = rows_from base.triggers (merged base.lanes)
+unfoldable pub row_texts_shown : Base → ℕ → Result (List KeyedText) Refused
+row_texts_shown base = row_texts_from base.triggers (merged base.lanes)
 
 -- the rows of a trigger's table in numbers (kernel: histogram.rst, the `hist` file)
-unfoldable pub counts_shown : Base → ℕ → Result (List Counted) Refused
-counts_shown base = counts_from base.triggers (merged base.lanes)
+unfoldable pub rows_shown : Base → ℕ → Result (List Counted) Refused
+rows_shown base = rows_from base.triggers (merged base.lanes)
 
 -- the text of a key's row of a trigger's table (kernel: histogram.rst, the `hist` file)
-unfoldable pub row_shown : Base → ℕ → List Part → Result (Option (List ℕ)) Refused
-row_shown base = row_from base.triggers (merged base.lanes)
+unfoldable pub row_text_shown : Base → ℕ → List Part → Result (Option (List ℕ)) Refused
+row_text_shown base = row_text_from base.triggers (merged base.lanes)
 
 -- a trigger's totals (kernel: histogram.rst, `Hits`, `Entries` and `Dropped`)
 unfoldable pub totals : Base → ℕ → Result Totals Refused

@@ -9,7 +9,7 @@ use Rattle.ft_table.specs.Keyed.{KeyedText}
 use Rattle.ft_table.specs.declared.row.Totals.{Totals}
 use Rattle.ft_table.specs.Text.{heading, totals_text}
 use Rattle.ft_base.specs.Base.{Base}
-use Rattle.ft_answers.specs.Answers.{hist_text, rows_shown, row_shown, totals}
+use Rattle.ft_answers.specs.Answers.{hist_text, row_texts_shown, row_text_shown, totals}
 
 -- the texts of rows, each with a line break
 abbrev pub row_lines : List KeyedText → List ℕ
@@ -18,7 +18,7 @@ row_lines rows = flat_map (λ row. row.text ++ codes "\n") rows
 -- the text of a trigger's table is the lines above its rows, the texts of its rows, each with a line break, and its totals (kernel: histogram.rst, the `hist` file)
 abbrev pub RowsMakeText : Type 0
 RowsMakeText = (base : Base) (id : ℕ) (hist : Hist) (rows : List KeyedText) (told : Totals)
-    → map.get base.triggers id ≡ Some hist → rows_shown base id ≡ Ok rows → totals base id ≡ Ok told
+    → map.get base.triggers id ≡ Some hist → row_texts_shown base id ≡ Ok rows → totals base id ≡ Ok told
     → hist_text base id ≡ Ok (heading hist ++ (row_lines rows ++ totals_text told))
 
 -- the text of a key's row among rows, if there is one
@@ -28,4 +28,4 @@ text_among key (row ∷ rows) = if same_key key row.key then Some row.text else 
 
 -- the text of a key's row is the one that it has among all rows of the table, and there is none for a key without a row there (kernel: histogram.rst, the `hist` file)
 abbrev pub RowIsAmong : Type 0
-RowIsAmong = (base : Base) (id : ℕ) (key : List Part) (rows : List KeyedText) → rows_shown base id ≡ Ok rows → row_shown base id key ≡ Ok (text_among key rows)
+RowIsAmong = (base : Base) (id : ℕ) (key : List Part) (rows : List KeyedText) → row_texts_shown base id ≡ Ok rows → row_text_shown base id key ≡ Ok (text_among key rows)

@@ -3,12 +3,12 @@
 ghost use Rattle.std.specs.Prelude.{option_map};
 ghost use Rattle.ft_hist.specs.Steps.{StepsGrow};
 ghost use Rattle.ft_replay.specs.Merged.{merged};
-ghost use Rattle.ft_answers.specs.Answers.{counts_from, hist_from, pairs_from, row_from, rows_from, totals_from};
+ghost use Rattle.ft_answers.specs.Answers.{rows_from, hist_from, pairs_from, row_text_from, row_texts_from, totals_from};
 ghost use Rattle.ft_answers.specs.Edited.{AnswerIs};
 
 use crate::counted::{counted_at, counter_at};
-use crate::tables::{table_counts, table_row, table_rows, table_text};
-use ft_base::{Refused, attached, is_reader};
+use crate::tables::{table_row_text, table_row_texts, table_rows, table_text};
+use ft_base::{Refused, find_trigger, is_reader};
 use ft_hist::{Key, Triggers, Work};
 use ft_lanes::Lanes;
 use ft_replay::Pair;
@@ -28,14 +28,14 @@ pub(crate) fn hist_from(
         (hist_from triggers.now (merged lanes.now) id) result }
     ensures grow { StepsGrow work.old work.new }
 {
-    let trigger = attached(triggers, id)?;
+    let trigger = find_trigger(triggers, id)?;
     let counted = counted_at(alloc, lanes, triggers, id, trigger, work)?;
     Ok(table_text(alloc, trigger, counted.table())?)
 }
 
 /// The rows of the table of the trigger with an id. Refused where no trigger has the id, or for
 /// memory.
-pub(crate) fn rows_from(
+pub(crate) fn row_texts_from(
     alloc: Global,
     lanes: &Lanes,
     triggers: &Triggers,
@@ -43,17 +43,17 @@ pub(crate) fn rows_from(
     work: &mut Work,
 ) -> Result<Vec<TableRow>, Refused>
     ensures gives { AnswerIs (λ rows. rows.items)
-        (rows_from triggers.now (merged lanes.now) id) result }
+        (row_texts_from triggers.now (merged lanes.now) id) result }
     ensures grow { StepsGrow work.old work.new }
 {
-    let trigger = attached(triggers, id)?;
+    let trigger = find_trigger(triggers, id)?;
     let counted = counted_at(alloc, lanes, triggers, id, trigger, work)?;
-    Ok(table_rows(alloc, trigger, counted.table())?)
+    Ok(table_row_texts(alloc, trigger, counted.table())?)
 }
 
 /// The text of a key's row of the table of the trigger with an id. Refused where no trigger has the
 /// id, or for memory.
-pub(crate) fn row_from(
+pub(crate) fn row_text_from(
     alloc: Global,
     lanes: &Lanes,
     triggers: &Triggers,
@@ -62,17 +62,17 @@ pub(crate) fn row_from(
     work: &mut Work,
 ) -> Result<Option<Vec<u8>>, Refused>
     ensures gives { AnswerIs (option_map (λ text. text.items))
-        (row_from triggers.now (merged lanes.now) id key.now) result }
+        (row_text_from triggers.now (merged lanes.now) id key.now) result }
     ensures grow { StepsGrow work.old work.new }
 {
-    let trigger = attached(triggers, id)?;
+    let trigger = find_trigger(triggers, id)?;
     let counted = counted_at(alloc, lanes, triggers, id, trigger, work)?;
-    Ok(table_row(alloc, trigger, counted.table(), key)?)
+    Ok(table_row_text(alloc, trigger, counted.table(), key)?)
 }
 
 /// The rows of the table of the trigger with an id, in numbers. Refused where no trigger has the
 /// id, or for memory.
-pub(crate) fn counts_from(
+pub(crate) fn rows_from(
     alloc: Global,
     lanes: &Lanes,
     triggers: &Triggers,
@@ -80,12 +80,12 @@ pub(crate) fn counts_from(
     work: &mut Work,
 ) -> Result<Vec<Row>, Refused>
     ensures gives { AnswerIs (λ rows. rows.items)
-        (counts_from triggers.now (merged lanes.now) id) result }
+        (rows_from triggers.now (merged lanes.now) id) result }
     ensures grow { StepsGrow work.old work.new }
 {
-    let trigger = attached(triggers, id)?;
+    let trigger = find_trigger(triggers, id)?;
     let counted = counted_at(alloc, lanes, triggers, id, trigger, work)?;
-    Ok(table_counts(trigger, counted.table())?)
+    Ok(table_rows(trigger, counted.table())?)
 }
 
 /// The totals of the trigger with an id. Refused where no trigger has the id, or for memory.
@@ -100,7 +100,7 @@ pub(crate) fn totals_from(
         (totals_from triggers.now (merged lanes.now) id) result }
     ensures grow { StepsGrow work.old work.new }
 {
-    let trigger = attached(triggers, id)?;
+    let trigger = find_trigger(triggers, id)?;
     let counted = counted_at(alloc, lanes, triggers, id, trigger, work)?;
     Ok(counted.table().totals())
 }
@@ -118,7 +118,7 @@ pub(crate) fn pairs_from(
         (pairs_from triggers.now (merged lanes.now) id) result }
     ensures grow { StepsGrow work.old work.new }
 {
-    let trigger = attached(triggers, id)?;
+    let trigger = find_trigger(triggers, id)?;
     if !is_reader(trigger) {
         return Err(Refused::NotReading);
     }

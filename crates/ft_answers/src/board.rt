@@ -29,8 +29,8 @@ pub trait Board: Drop {
     ghost use Rattle.ft_base.specs.declared.refused.Refused.TheVariants.{Memory};
     ghost use Rattle.ft_base.specs.After.{after_load, after_unload, after_insert, after_strike, after_attach};
     ghost use Rattle.ft_base.specs.After.{after_refilter, after_remove};
-    ghost use Rattle.ft_answers.specs.Answers.{hist_text, rows_shown, row_shown, totals, latencies, list_text};
-    ghost use Rattle.ft_answers.specs.Answers.{counts_shown, pairs_shown};
+    ghost use Rattle.ft_answers.specs.Answers.{hist_text, row_texts_shown, row_text_shown, totals, latencies, list_text};
+    ghost use Rattle.ft_answers.specs.Answers.{rows_shown, pairs_shown};
     ghost use Rattle.ft_answers.specs.Costs.{EditCounts, RepairCosts, LoadCosts, UnloadCosts, FilterCosts, AnswerCosts};
     ghost use Rattle.ft_answers.specs.Deferral.{IsNoHit, IsPlainHit, IsPlainLane, ReadsNothing, PutsNothingOff};
     ghost use Rattle.ft_answers.specs.Deferral.{WantsForTables};
@@ -151,23 +151,23 @@ pub trait Board: Drop {
     /// The rows of a trigger's table in the order of its text, each with its key, and with its text
     /// as `hist` gives it, without the line break. Refused where no trigger has the id, or for
     /// memory.
-    fn rows(&mut self, id: u32) -> Result<Vec<TableRow>, Refused>
-        ensures gives { AnswersFrom (λ rows. rows.items) (rows_shown (shown self.old).base id)
+    fn row_texts(&mut self, id: u32) -> Result<Vec<TableRow>, Refused>
+        ensures gives { AnswersFrom (λ rows. rows.items) (row_texts_shown (shown self.old).base id)
             (shown self.old) (shown self.new) result }
         ensures steps { AnswerCosts (shown self.old) (shown self.new) };
 
     /// The rows of a trigger's table in numbers, in the order of its text. Refused where no trigger
     /// has the id, or for memory.
-    fn counts(&mut self, id: u32) -> Result<Vec<Row>, Refused>
-        ensures gives { AnswersFrom (λ rows. rows.items) (counts_shown (shown self.old).base id)
+    fn rows(&mut self, id: u32) -> Result<Vec<Row>, Refused>
+        ensures gives { AnswersFrom (λ rows. rows.items) (rows_shown (shown self.old).base id)
             (shown self.old) (shown self.new) result }
         ensures steps { AnswerCosts (shown self.old) (shown self.new) };
 
     /// The text of a key's row of a trigger's table as `hist` gives it, without the line break; none
     /// where the key isn't in the table. Refused where no trigger has the id, or for memory.
-    fn row(&mut self, id: u32, key: &Key) -> Result<Option<Vec<u8>>, Refused>
+    fn row_text(&mut self, id: u32, key: &Key) -> Result<Option<Vec<u8>>, Refused>
         ensures gives { AnswersFrom (option_map (λ text. text.items))
-            (row_shown (shown self.old).base id key.now) (shown self.old) (shown self.new) result }
+            (row_text_shown (shown self.old).base id key.now) (shown self.old) (shown self.new) result }
         ensures steps { AnswerCosts (shown self.old) (shown self.new) };
 
     /// What a trigger has counted: its hits, the keys in its table, and the hits that found no
@@ -185,9 +185,9 @@ pub trait Board: Drop {
             (latencies (shown self.old).base id) (shown self.old) (shown self.new) result }
         ensures steps { AnswerCosts (shown self.old) (shown self.new) };
 
-    /// What a reading trigger's readings found, in merged order of the reading, those of dropped
-    /// hits too: of each the place of the event that saved and of the one that read. Refused where
-    /// no trigger has the id, where it reads no variable, or for memory.
+    /// The pairs of events that `latencies` measures, in its order: of each the place, with its stamp
+    /// in microseconds, of the event that saved and of the one that read. Refused where no trigger has
+    /// the id, where it reads no variable, or for memory.
     fn pairs(&mut self, id: u32) -> Result<Vec<Pair>, Refused>
         ensures gives { AnswersFrom (λ pairs. pairs.items)
             (pairs_shown (shown self.old).base id) (shown self.old) (shown self.new) result }

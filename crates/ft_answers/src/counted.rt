@@ -16,7 +16,7 @@ use crate::readings::ReplayedReadings;
 use ft_hist::{Trigger, Triggers, Work};
 use ft_lanes::Lanes;
 use ft_made::made_table;
-use ft_replay::{Counter, replayed};
+use ft_replay::{Counter, replay_held};
 use ft_table::Table;
 use std::alloc::{AllocError, Global};
 
@@ -79,8 +79,8 @@ pub(crate) fn counter_at(
         → map.get triggers.now id ≡ Some hist → AllFit counter.table hist) }
     ensures grow { StepsGrow work.old work.new }
 {
-    ft_made::counted_made();
-    let mut counters = replayed(alloc, lanes, triggers, work)?;
+    ft_made::made_counters();
+    let mut counters = replay_held(alloc, lanes, triggers, work)?;
     Ok(counters.remove(&id).unwrap())
 }
 
@@ -103,7 +103,7 @@ fn made_at(
     ft_replay::counted_hits();
     ft_made::made_tables();
     ft_made::replayed_pairs();
-    let counters = replayed(alloc, lanes, triggers, work)?;
+    let counters = replay_held(alloc, lanes, triggers, work)?;
     let readings = ReplayedReadings { alloc, counters };
     made_table(alloc, lanes, triggers, &readings, trigger, work)
 }

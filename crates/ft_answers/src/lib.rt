@@ -41,8 +41,8 @@
 //!   Lets through: running out of memory at any time, except in `unload`, `strike` and `remove`
 //!   (clause `memory`), which may give up what is kept beside the base; deferring without need,
 //!   except where `now` shuts it out.
-//! - `gives` of `hist`, `rows`, `counts`, `row`, `totals`, `latencies`, `pairs` (`AnswersFrom`):
-//!   each is a function of what replaying the base with the events that readings make gives
+//! - `gives` of `hist`, `row_texts`, `rows`, `row_text`, `totals`, `latencies`, `pairs`
+//!   (`AnswersFrom`): each is a function of what replaying the base with the events that readings make gives
 //!   (`specs/Answers.antt`, `ft_made/specs/ReplayMaking.antt`). The table of a trigger on
 //!   `wakeup_latency` shows made events, that of any other held ones (`specs/Counting.antt`). The
 //!   base stays; no answer makes a board deferred, and after an accepted one it isn't. Lets
@@ -66,8 +66,8 @@
 //!     in edits and in answers from tables only `hit_of` evaluates filters, is seen by reading. Keys
 //!     are evaluated by it too, but for those that `grouped` of `ft_groups` looks up by a number,
 //!     which it doesn't count.
-//! - `steps`: on a board that keeps tables and isn't deferred, `hist`, `rows`, `counts`, `row`,
-//!   `totals`, `latencies` and `pairs` take no step. Lets through: any number of steps of these
+//! - `steps`: on a board that keeps tables and isn't deferred, `hist`, `row_texts`, `rows`,
+//!   `row_text`, `totals`, `latencies` and `pairs` take no step. Lets through: any number of steps of these
 //!   answers of other boards.
 //! - `now` (`specs/Deferral.antt`): on a board that isn't deferred, these accepted edits put
 //!   nothing off, made events counted or not: `insert` of an event that no trigger hits; `strike`
@@ -76,7 +76,7 @@
 //!   of memory for tables at any other edit.
 //! - `memory` of `totals`: on a board that keeps tables, it runs out of memory only where the board
 //!   is deferred, and leaves it so. The other answers make a text or a list, and may run out at any
-//!   time. That `row` makes no other row's text is seen in the source.
+//!   time. That `row_text` makes no other row's text is seen in the source.
 //! - `reports` of `insert` and `strike` (`specs/Reporting.antt`): where an accepted edit has a
 //!   report, no row is in it twice, and each is of an attached trigger that counts held events. A
 //!   row of such a trigger that isn't in it is the one that replaying gave before, or there is none
@@ -94,12 +94,11 @@
 //! - `PlainBoard`, law `plain_board_keeps_none`: it meets `Board`, keeps no tables, and so is never
 //!   deferred.
 //! - Law `rows_make_the_text`: the text of a trigger's table is the lines above its rows, the texts
-//!   that `rows` gives, each with a line break, and the totals. The text that `row` gives is the
-//!   one that the key has among those of `rows`, and none where it has none there
+//!   that `row_texts` gives, each with a line break, and the totals. The text that `row_text` gives
+//!   is the one that the key has among those of `row_texts`, and none where it has none there
 //!   (`specs/Rows.antt`).
-//! - `latency_of`, `latencies_of`, `table_text`, `table_rows`, `table_counts`, `table_row`:
-//!   exact. Let through: running out of memory at any time, where a text or a list
-//!   is made.
+//! - `latency_of`, `latencies_of`, `table_text`, `table_row_texts`, `table_rows`, `table_row_text`:
+//!   exact. Let through: running out of memory at any time, where a text or a list is made.
 //! - `places`, `lane_places`, `matching_places`: the places of all held events in merged order; of
 //!   a lane's from a line on, by line; of those that have a filter's name and pass it, in merged
 //!   order (`specs/Places.antt`). Exact. Lets through: running out of memory at any time; any
@@ -131,4 +130,4 @@ pub use in_lane::lane_places;
 pub use in_order::{matching_places, places};
 pub use latency::{Latency, latencies_of, latency_of};
 pub use plain::{PlainBoard, plain_board_keeps_none};
-pub use tables::{rows_make_the_text, table_counts, table_row, table_rows, table_text};
+pub use tables::{rows_make_the_text, table_row_text, table_row_texts, table_rows, table_text};

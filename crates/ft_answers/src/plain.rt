@@ -2,7 +2,9 @@
 
 ghost use Rattle.std.specs.Prelude.{◌≡◌, false, None};
 
-use crate::answers::{counts_from, hist_from, pairs_from, row_from, rows_from, totals_from};
+use crate::answers::{
+    hist_from, pairs_from, row_text_from, row_texts_from, rows_from, totals_from,
+};
 use crate::board::Board;
 use crate::done::{Done, Kept};
 use crate::edited::Edited;
@@ -136,22 +138,22 @@ impl Board for PlainBoard {
         hist_from(self.alloc, lanes, triggers, id, &mut self.work)
     }
 
-    fn rows(&mut self, id: u32) -> Result<Vec<TableRow>, Refused> {
+    fn row_texts(&mut self, id: u32) -> Result<Vec<TableRow>, Refused> {
+        let lanes = self.content.lanes();
+        let triggers = self.content.triggers();
+        row_texts_from(self.alloc, lanes, triggers, id, &mut self.work)
+    }
+
+    fn rows(&mut self, id: u32) -> Result<Vec<Row>, Refused> {
         let lanes = self.content.lanes();
         let triggers = self.content.triggers();
         rows_from(self.alloc, lanes, triggers, id, &mut self.work)
     }
 
-    fn counts(&mut self, id: u32) -> Result<Vec<Row>, Refused> {
+    fn row_text(&mut self, id: u32, key: &Key) -> Result<Option<Vec<u8>>, Refused> {
         let lanes = self.content.lanes();
         let triggers = self.content.triggers();
-        counts_from(self.alloc, lanes, triggers, id, &mut self.work)
-    }
-
-    fn row(&mut self, id: u32, key: &Key) -> Result<Option<Vec<u8>>, Refused> {
-        let lanes = self.content.lanes();
-        let triggers = self.content.triggers();
-        row_from(self.alloc, lanes, triggers, id, key, &mut self.work)
+        row_text_from(self.alloc, lanes, triggers, id, key, &mut self.work)
     }
 
     fn totals(&mut self, id: u32) -> Result<Totals, Refused> {

@@ -2,7 +2,7 @@
 
 ghost use Rattle.std.specs.Prelude.{◌≡◌, List, IfOk, option_map};
 ghost use Rattle.ft_table.specs.Rows.{AllFit};
-ghost use Rattle.ft_answers.specs.Answers.{tally_text, tally_rows, tally_row, tally_counts};
+ghost use Rattle.ft_answers.specs.Answers.{tally_text, tally_row_texts, tally_row_text, tally_rows};
 ghost use Rattle.ft_answers.specs.Rows.{RowsMakeText, RowIsAmong};
 ghost use Rattle.ft_replay.specs.Tally.{tally_of};
 ghost use Rattle.ft_replay.specs.declared.pair.Pair.{Pair};
@@ -22,23 +22,23 @@ pub fn table_text(alloc: Global, trigger: &Trigger, table: &Table) -> Result<Vec
 }
 
 /// The rows of a trigger with this table. Refused for memory.
-pub fn table_rows(
+pub fn table_row_texts(
     alloc: Global,
     trigger: &Trigger,
     table: &Table,
 ) -> Result<Vec<TableRow>, AllocError>
     requires { AllFit table.now trigger.now }
     ensures { IfOk result (λ rows. (pairs : List Pair)
-        → rows.items ≡ tally_rows trigger.now (tally_of table.now pairs)) }
+        → rows.items ≡ tally_row_texts trigger.now (tally_of table.now pairs)) }
 {
     ft_table::laws::one_row_order();
     table.keyed_rows(alloc, trigger)
 }
 
 /// The rows of a trigger with this table, in numbers. Refused for memory.
-pub fn table_counts(trigger: &Trigger, table: &Table) -> Result<Vec<Row>, AllocError>
+pub fn table_rows(trigger: &Trigger, table: &Table) -> Result<Vec<Row>, AllocError>
     ensures { IfOk result (λ rows. (pairs : List Pair)
-        → rows.items ≡ tally_counts trigger.now (tally_of table.now pairs)) }
+        → rows.items ≡ tally_rows trigger.now (tally_of table.now pairs)) }
 {
     ft_table::laws::one_row_order();
     table.rows(trigger.sort())
@@ -46,7 +46,7 @@ pub fn table_counts(trigger: &Trigger, table: &Table) -> Result<Vec<Row>, AllocE
 
 /// The text of a key's row of a trigger with this table; none where the key isn't in it. Refused for
 /// memory.
-pub fn table_row(
+pub fn table_row_text(
     alloc: Global,
     trigger: &Trigger,
     table: &Table,
@@ -54,7 +54,7 @@ pub fn table_row(
 ) -> Result<Option<Vec<u8>>, AllocError>
     requires { AllFit table.now trigger.now }
     ensures { IfOk result (λ text. (pairs : List Pair) → option_map (λ t. t.items) text
-        ≡ tally_row trigger.now (tally_of table.now pairs) key.now) }
+        ≡ tally_row_text trigger.now (tally_of table.now pairs) key.now) }
 {
     table.text_of_row(alloc, trigger, key)
 }
@@ -68,6 +68,6 @@ pub fn rows_make_the_text()
 {
     ft_table::laws::one_row_order();
     ft_replay::counted_hits();
-    ft_made::counted_made();
-    ft_made::tallied_made();
+    ft_made::made_counters();
+    ft_made::made_tallies();
 }

@@ -11,7 +11,7 @@ use Rattle.ft_base.specs.declared.refused.Refused.TheVariants.{LaneHeld, Full, T
 use Rattle.ft_lanes.specs.Held.{event_limit, held_in}
 use Rattle.ft_base.specs.Base.{Base, id_limit, trigger_limit}
 use Rattle.ft_lanes.specs.Loaded.{with_lanes, first_held}
-use Rattle.ft_base.specs.After.{after_load, after_attach, variable_refused}
+use Rattle.ft_base.specs.After.{after_load, after_attach, variable_refusal}
 use Rattle.ft_lanes.specs.Held.{HasCpu}
 use Rattle.ft_base.specs.Reachable.{IsReachable}
 use Rattle.ft_base.proofs.Reachable.{load-IsReachable}
@@ -86,7 +86,7 @@ abbrev is_used : Base → Bool
 is_used base = leb trigger_limit (map.len base.triggers) || ltb id_limit base.next_id
 
 abbrev against : Base → Hist → Option Refused
-against base hist = variable_refused base.triggers hist hist.variable
+against base hist = variable_refusal base.triggers hist hist.variable
 
 after_attach-cases : (base : Base) (hist : Hist) → after_attach base hist ≡ attached base hist (is_used base) (against base hist)
 unfolding after_attach

@@ -17,7 +17,7 @@ use Rattle.ft_base.specs.declared.refused.Refused.{Refused}
 use Rattle.ft_base.specs.declared.refused.Refused.TheVariants.{NameTaken}
 use Rattle.ft_base.specs.Base.{Triggers, Base, id_limit, trigger_limit}
 use Rattle.ft_base.specs.Roles.{saves_name, saver_of}
-use Rattle.ft_base.specs.After.{reader_refused, variable_refused}
+use Rattle.ft_base.specs.After.{reader_refusal, variable_refusal}
 use Rattle.ft_base.specs.Reachable.{HasOneSaver, HasSaver, HasSavers, IsReachable}
 use Rattle.ft_maps.specs.Entries.{get-insert_same, get-insert_other}
 use Rattle.ft_base.proofs.Savers.{saver_among, saver_of-among, saves-none}
@@ -73,7 +73,7 @@ HasSaver-insert triggers next hist reader name below is = record {
 -- ---- a variable that nothing stands against
 
 -- its name is free
-name-free : (triggers : Triggers) (hist : Hist) (variable : Option Var) (name : List ℕ) → variable_refused triggers hist variable ≡ None → saves_name name variable ≡ true → saver_of triggers name ≡ None
+name-free : (triggers : Triggers) (hist : Hist) (variable : Option Var) (name : List ℕ) → variable_refusal triggers hist variable ≡ None → saves_name name variable ≡ true → saver_of triggers name ≡ None
 name-free triggers hist None name free saves = cc
 name-free triggers hist (Some (vars.Reads own source)) name free saves = cc
 name-free triggers hist (Some (vars.Saves label)) name free saves =
@@ -91,8 +91,8 @@ both true b refused other none = (refl, passed b refused none)
 both false b refused other none = cc
 
 -- what it reads has a saver
-reader-has : (triggers : Triggers) (reader : Hist) (source : List ℕ) → reader_refused triggers reader source ≡ None → HasSaver triggers reader source
-unfolding reader_refused
+reader-has : (triggers : Triggers) (reader : Hist) (source : List ℕ) → reader_refusal triggers reader source ≡ None → HasSaver triggers reader source
+unfolding reader_refusal
 reader-has triggers reader source free =
     elim (saver_of triggers source) as (λ o. saver_of triggers source ≡ o → HasSaver triggers reader source) [
       | None ↦ λ unnamed. absurd (let stands = rw unnamed at free in cc)
@@ -104,7 +104,7 @@ reader-has triggers reader source free =
 
 -- ---- the base with the trigger
 
-module _ (triggers : Triggers) (next : ℕ) (hist : Hist) (below : AreBelow triggers next) (free : variable_refused triggers hist hist.variable ≡ None) where
+module _ (triggers : Triggers) (next : ℕ) (hist : Hist) (below : AreBelow triggers next) (free : variable_refusal triggers hist hist.variable ≡ None) where
   -- at an id stands the new trigger or one of the old
   at-insert : (id : ℕ) (other : Hist) → map.get (map.insert triggers next hist) id ≡ Some other → ((id ≡ next) × (hist ≡ other)) ⊎ (map.get triggers id ≡ Some other)
   at-insert id other found =
@@ -134,7 +134,7 @@ module _ (triggers : Triggers) (next : ℕ) (hist : Hist) (below : AreBelow trig
   savers-insert : HasSavers triggers → HasSavers (map.insert triggers next hist)
   savers-insert savers id other own source found reads = HasSaver-insert triggers next hist other source below (elim (at-insert id other found) [
     | inl new ↦ subst (λ (h : Hist). HasSaver triggers h source) new.1
-        (reader-has triggers hist source (ap (variable_refused triggers hist) (sym (ap (λ (h : Hist). h.variable) new.1 ∙ reads)) ∙ free))
+        (reader-has triggers hist source (ap (variable_refusal triggers hist) (sym (ap (λ (h : Hist). h.variable) new.1 ∙ reads)) ∙ free))
     | inr old ↦ savers id other own source old reads
   ])
 
@@ -143,7 +143,7 @@ at_most true n few = omega arith
 at_most false n few = omega arith
 
 -- attaching a trigger keeps the base reachable
-pub attach-IsReachable : (base : Base) (hist : Hist) → IsReachable base → map.len base.triggers < trigger_limit → base.next_id ≤ id_limit → variable_refused base.triggers hist hist.variable ≡ None → IsReachable (record base { triggers = map.insert base.triggers base.next_id hist; next_id = base.next_id + 1 })
+pub attach-IsReachable : (base : Base) (hist : Hist) → IsReachable base → map.len base.triggers < trigger_limit → base.next_id ≤ id_limit → variable_refusal base.triggers hist hist.variable ≡ None → IsReachable (record base { triggers = map.insert base.triggers base.next_id hist; next_id = base.next_id + 1 })
 attach-IsReachable base hist is few low free =
     let below : AreBelow base.triggers base.next_id = λ id other found. (is.ids id other found).1 in
     record {

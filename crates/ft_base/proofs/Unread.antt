@@ -11,7 +11,7 @@ use Rattle.ft_hist.specs.Hist.{Hist}
 use Rattle.ft_pairs.specs.declared.role.Role.TheVariants.{Plain, Reads}
 use Rattle.ft_maps.specs.Entries.{get-insert_same, get-insert_other, get-remove_same, get-remove_other}
 use Rattle.ft_base.specs.Base.{Triggers, Base, id_limit, trigger_limit}
-use Rattle.ft_base.specs.After.{variable_refused, reader_on}
+use Rattle.ft_base.specs.After.{variable_refusal, reader_on}
 use Rattle.ft_base.specs.OneTrigger.{IsUnread, JoinsAs}
 use Rattle.ft_base.specs.Reachable.{HasOneSaver, HasSaver, HasSavers, IsReachable}
 use Rattle.ft_base.specs.Roles.{saves_name, saver_of, role_of, role_at}
@@ -111,7 +111,7 @@ next_free base is =
     ] refl
 
 -- a trigger that is attached joins as the next id's
-pub attached_joins : (base : Base) (hist : Hist) → IsReachable base → map.len base.triggers < trigger_limit → base.next_id ≤ id_limit → variable_refused base.triggers hist hist.variable ≡ None
+pub attached_joins : (base : Base) (hist : Hist) → IsReachable base → map.len base.triggers < trigger_limit → base.next_id ≤ id_limit → variable_refusal base.triggers hist hist.variable ≡ None
     → JoinsAs base.next_id hist base (record base { triggers = map.insert base.triggers base.next_id hist; next_id = base.next_id + 1 })
 attached_joins base hist is few low free =
     let with : Triggers = map.insert base.triggers base.next_id hist in

@@ -48,26 +48,26 @@ after_strike base cpu line =
 -- ---- triggers
 
 -- what stands between a reader and a saver: that it saves at another event, or under keys that don't match (kernel: histogram.rst, inter-event hist triggers; in this order is our own choice)
-abbrev pub saver_refused : Hist → Hist → Option Refused
-saver_refused reader saver =
+abbrev pub saver_refusal : Hist → Hist → Option Refused
+saver_refusal reader saver =
     if saves_for reader saver then (if keys_match reader.keys saver.keys then None else Some KeyMismatch) else Some NoVariable
 
 -- why a reader of a name can't be attached: no attached trigger saves the name, or what stands between it and the saver (kernel: histogram.rst, inter-event hist triggers)
-unfoldable pub reader_refused : Triggers → Hist → List ℕ → Option Refused
-reader_refused triggers reader source =
-    option_map_or (saver_refused reader) (option_and_then (map.get triggers) (saver_of triggers source)) (Some NoVariable)
+unfoldable pub reader_refusal : Triggers → Hist → List ℕ → Option Refused
+reader_refusal triggers reader source =
+    option_map_or (saver_refusal reader) (option_and_then (map.get triggers) (saver_of triggers source)) (Some NoVariable)
 
 -- why a trigger with this variable can't be attached: its name is saved already, or nothing that it could read is (kernel: histogram.rst, inter-event hist triggers; one saver a name is our own choice)
-abbrev pub variable_refused : Triggers → Hist → Option Var → Option Refused
-variable_refused triggers hist None = None
-variable_refused triggers hist (Some (vars.Saves label)) = option_map NameTaken (saver_of triggers label)
-variable_refused triggers hist (Some (vars.Reads own source)) = reader_refused triggers hist source
+abbrev pub variable_refusal : Triggers → Hist → Option Var → Option Refused
+variable_refusal triggers hist None = None
+variable_refusal triggers hist (Some (vars.Saves label)) = option_map NameTaken (saver_of triggers label)
+variable_refusal triggers hist (Some (vars.Reads own source)) = reader_refusal triggers hist source
 
 -- attaching a trigger: at the next id, unless the triggers or the ids are used up, or its variable stands against it
 unfoldable pub after_attach : Base → Hist → Result (Base × ℕ) Refused
 after_attach base hist =
     if nat_le trigger_limit (map.len base.triggers) || nat_lt id_limit base.next_id then Err TooManyTriggers
-    else option_map_or Err (variable_refused base.triggers hist hist.variable)
+    else option_map_or Err (variable_refusal base.triggers hist hist.variable)
     (Ok (record base { triggers = map.insert base.triggers base.next_id hist; next_id = base.next_id + 1 }, base.next_id))
 
 -- giving an attached trigger another filter, or none, for the events held before and for those to come

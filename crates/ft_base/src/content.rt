@@ -18,10 +18,10 @@ ghost use Rattle.ft_base.specs.Edited.{BaseGives, FindsToUnload, FindsToStrike, 
 ghost use Rattle.ft_base.specs.OneTrigger.{IsUnread, JoinsAs, GetsFilter, base_without};
 ghost use Rattle.ft_base.specs.Reachable.{IsReachable};
 
-use crate::attach::variable_refused;
+use crate::attach::variable_refusal;
 use crate::listed::{AttachedTrigger, attached_in};
 use crate::refused::{Place, Refused};
-use crate::roles::{attached, reader_on};
+use crate::roles::{find_trigger, reader_on};
 use ft_event::{Event, Name};
 use ft_filter::Filter;
 use ft_hist::{Trigger, Triggers};
@@ -47,7 +47,7 @@ const ID_LIMIT: u64 = 4_294_967_295;
 
 /// Lanes of events, attached triggers, and the next id.
 ///
-/// Contracts see the base. A refused edit changes nothing, and drops what was handed in.
+/// Contracts see the base. A refused edit changes nothing, and drops its arguments.
 #[derive(Drop)]
 pub struct Content {
     lanes: Lanes,
@@ -105,7 +105,7 @@ impl Content {
         &self.triggers
     }
 
-    /// Loads events in file order, a lane for each of their CPUs: how many were loaded.
+    /// Loads events in file order, into a lane for each of their CPUs. Returns how many were loaded.
     pub fn load(&mut self, events: Store) -> Result<u64, Refused>
         ensures { BaseGives (after_load self.old events) self.old self.new result }
     {
@@ -122,7 +122,7 @@ impl Content {
         Ok(count)
     }
 
-    /// Takes the lane of a CPU away: how many events it had.
+    /// Removes the lane of a CPU. Returns how many events it had.
     pub fn unload(&mut self, cpu: u32) -> Result<u64, Refused>
         ensures gives { BaseGives (after_unload self.old cpu) self.old self.new result }
         ensures memory { result ≢ Err Memory }
@@ -131,7 +131,7 @@ impl Content {
         Ok(self.take_lane(lane))
     }
 
-    /// The lane of a CPU that can be taken away.
+    /// The lane of a CPU, if it can be removed.
     pub fn lane_of(&self, cpu: u32) -> Result<u16, Refused>
         ensures gives { FindsToUnload self.now cpu result }
         ensures same { IfOk result (λ lane. lane ≡ cpu) }
@@ -151,7 +151,7 @@ impl Content {
         count < self.lanes.len().saturating_sub(count)
     }
 
-    /// Takes the lane of a CPU away, if there is one: how many events it had.
+    /// Removes the lane of a CPU, if there is one. Returns how many events it had.
     pub fn take_lane(&mut self, lane: u16) -> u64
         ensures value { result ≡ held_on self.old.lanes lane }
         ensures rest { self.new
@@ -160,7 +160,7 @@ impl Content {
         self.lanes.take_lane(lane).unwrap_or(0)
     }
 
-    /// Adds an event at the next line of its CPU's lane: its place.
+    /// Adds an event at the next line of its CPU's lane. Returns its place.
     pub fn insert(&mut self, event: Event) -> Result<Place, Refused>
         ensures gives { BaseGives (after_insert self.old event) self.old self.new result }
         ensures reachable { IsReachable self.old }
@@ -175,7 +175,7 @@ impl Content {
         Ok(Place { cpu, line })
     }
 
-    /// The place of a CPU's line that can be struck.
+    /// The place of a CPU's line, if it can be struck.
     pub fn place_of(&self, cpu: u32, line: u32) -> Result<Place, Refused>
         ensures gives { FindsToStrike self.now cpu line result }
         ensures held { IfOk result (λ place.
@@ -191,7 +191,7 @@ impl Content {
         Ok(Place { cpu: lane, line })
     }
 
-    /// Takes the event of a place away, if there is one.
+    /// Removes the event at a place, if there is one.
     pub fn strike(&mut self, place: Place)
         ensures { self.new
             ≡ record self.old { lanes = lanes_without self.old.lanes place.cpu place.line } }
@@ -199,7 +199,7 @@ impl Content {
         self.lanes.take(place.cpu, place.line);
     }
 
-    /// Attaches a trigger: its id.
+    /// Attaches a trigger. Returns its id.
     pub fn attach(&mut self, trigger: Trigger) -> Result<u32, Refused>
         ensures gives { BaseGives (after_attach self.old trigger) self.old self.new result }
         ensures joins { IfOk result (λ id. JoinsAs id trigger self.old self.new) }
@@ -207,7 +207,7 @@ impl Content {
         if self.triggers.len() >= TRIGGER_LIMIT || self.next_id > ID_LIMIT {
             return Err(Refused::TooManyTriggers);
         }
-        if let Some(refused) = variable_refused(&self.triggers, &trigger) {
+        if let Some(refused) = variable_refusal(&self.triggers, &trigger) {
             return Err(refused);
         }
         let id = self.next_id as u32;
@@ -218,7 +218,7 @@ impl Content {
         Ok(id)
     }
 
-    /// Gives a trigger another filter, which is for the trigger's event, or none: its id.
+    /// Gives a trigger another filter, which is for the trigger's event, or none. Returns its id.
     pub fn refilter(&mut self, id: u32, filter: Option<Filter>) -> Result<u32, Refused>
         requires { (hist : Hist) → map.get self.old.triggers id ≡ Some hist
             → ForSome filter (λ f. f.event ≡ hist.event) }
@@ -233,8 +233,8 @@ impl Content {
         Ok(id)
     }
 
-    /// Whether a trigger can be taken away: refused where no trigger has the id, or where it saves
-    /// what another reads.
+    /// Whether a trigger can be removed. Refused if no trigger has the id, or if it saves what another
+    /// one reads.
     pub fn removable(&self, id: u32) -> Result<(), Refused>
         ensures gives { FindsToRemove self.now id result }
         ensures unread { IfOk result (λ _. IsUnread self.now.triggers id) }
@@ -249,7 +249,7 @@ impl Content {
         Ok(())
     }
 
-    /// Takes a trigger away that can be.
+    /// Removes a trigger that can be removed.
     pub fn remove(&mut self, id: u32)
         requires { FindsToRemove self.old id (Ok tt) }
         ensures { self.new ≡ base_without self.old id }
@@ -272,13 +272,12 @@ impl Content {
         attached_in(alloc, &self.triggers)
     }
 
-    /// The canonical text of the trigger with an id. Refused where no trigger has the id, or for
-    /// memory.
+    /// The canonical text of the trigger with an id. Refused if no trigger has the id, or for memory.
     #[tactic(auto, unfolding(crate::specs::Answers::trigger_text))]
     pub fn trigger_text(&self, alloc: Global, id: u32) -> Result<Vec<u8>, Refused>
         ensures { AnswerIs (λ text. text.items) (trigger_text self.now id) result }
     {
-        let trigger = attached(&self.triggers, id)?;
+        let trigger = find_trigger(&self.triggers, id)?;
         let mut text = Vec::new(alloc);
         trigger.write(&mut text)?;
         Ok(text)

@@ -13,7 +13,7 @@ ghost use Rattle.ft_pairs.specs.declared.role.Role.TheVariants.{Reads};
 ghost use Rattle.ft_base.specs.declared.refused.Place.{Place};
 ghost use Rattle.ft_base.specs.declared.refused.Refused.TheVariants.{Full, TooManyTriggers};
 ghost use Rattle.ft_base.specs.After.{after_load, after_unload, after_insert, after_strike};
-ghost use Rattle.ft_base.specs.After.{after_attach, after_refilter, after_remove, variable_refused};
+ghost use Rattle.ft_base.specs.After.{after_attach, after_refilter, after_remove, variable_refusal};
 ghost use Rattle.ft_base.specs.Base.{Base, Triggers, empty_base, trigger_limit, id_limit};
 ghost use Rattle.ft_base.specs.Reachable.{IsReachable, HasOneSaver};
 ghost use Rattle.ft_base.specs.Roles.{role_of, saves_name, saver_of};
@@ -68,7 +68,7 @@ pub fn last_numbers()
         → after_insert base event ≡ Err Full }
     ensures last_id { (base : Base) (hist : Hist)
         → base.next_id ≡ id_limit → map.len base.triggers < trigger_limit
-        → variable_refused base.triggers hist hist.variable ≡ None
+        → variable_refusal base.triggers hist hist.variable ≡ None
         → after_attach base hist ≡ Ok (
           record base {
             triggers = map.insert base.triggers id_limit hist;

@@ -26,7 +26,7 @@
 //!   `after_remove` make of the one before (`specs/After.antt`), or the refusal is theirs and
 //!   nothing has changed (`BaseGives`). `load`, `insert` and `attach` let through: running out of
 //!   memory at any time.
-//! - `Content::list`, `name_of`, `attached_triggers`, `trigger_text`, and `attached`, `role_of`,
+//! - `Content::list`, `name_of`, `attached_triggers`, `trigger_text`, and `find_trigger`, `role_of`,
 //!   `is_reader`, `Refused::number`: exact. `list`, `attached_triggers` and `trigger_text` let
 //!   through: running out of memory at any time.
 //! - Law `reachable_bases`: `IsReachable` (`specs/Reachable.antt`: limits, line numbers below the
@@ -48,4 +48,4 @@ pub use content::Content;
 pub use laws::{last_numbers, one_saver, reachable_bases};
 pub use listed::AttachedTrigger;
 pub use refused::{Place, Refused};
-pub use roles::{attached, is_reader, role_of};
+pub use roles::{find_trigger, is_reader, role_of};

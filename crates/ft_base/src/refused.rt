@@ -1,15 +1,15 @@
-//! What an edit of one event answers, and why an edit or an answer is refused.
+//! The place of an event, and why an edit or an answer is refused.
 
 ghost use Rattle.std.specs.Prelude.{◌≡◌};
 ghost use Rattle.ft_base.specs.declared.refused.Refused.TheVariants.{Memory};
 
 use ft_event::LineFault;
 use ft_filter::FilterFault;
-use ft_head::TriggerFault;
+use ft_hist::TriggerFault;
 use std::alloc::AllocError;
 use thiserror::Error;
 
-/// Where an event stands: its lane, and its line number there.
+/// The place of an event: its lane, and its line number there.
 #[derive(Clone, Copy, Debug, PartialEq, Eq)]
 pub struct Place {
     /// The CPU of the lane.
@@ -18,7 +18,7 @@ pub struct Place {
     pub line: u32,
 }
 
-/// Why an edit or an answer is refused. Nothing held has changed then.
+/// Why an edit or an answer is refused. A refused edit changes nothing.
 #[derive(Clone, Copy, Debug, PartialEq, Eq, Error)]
 pub enum Refused {
     /// Memory ran out.
@@ -27,17 +27,17 @@ pub enum Refused {
     /// The script has no trace file with that number.
     #[error("no trace has that number")]
     NoFile,
-    /// A line cannot be read: the first such line, counted from 1, and what is wrong with it.
+    /// A line cannot be read: the number of the first such line, from 1, and what is wrong with it.
     #[error("line {0}: {1}")]
     BadLine(u64, LineFault),
-    /// The CPU's lane is held already.
-    #[error("events of CPU {0} are held already")]
+    /// The CPU's lane is already held.
+    #[error("events of CPU {0} are already held")]
     LaneHeld(u32),
     /// No lane of the CPU is held.
     #[error("no events of CPU {0} are held")]
     NoLane(u32),
     /// The lane has no such line, or the line to insert is one that is skipped.
-    #[error("that line holds no event, or none is there")]
+    #[error("there is no event on that line")]
     NoEvent,
     /// More than 1,048,576 events would be held, or a line number would pass 4,294,967,295.
     #[error("more than 1048576 events would be held, or a line number would pass 4294967295")]
@@ -51,11 +51,11 @@ pub enum Refused {
     /// No trigger with that id is attached.
     #[error("no such trigger is attached")]
     NoTrigger,
-    /// The trigger saves a variable that the trigger with this id reads, the first by id.
+    /// The trigger saves a variable that the trigger with this id reads, the smallest such id.
     #[error("trigger {0} reads the variable that this one saves")]
     InUse(u32),
-    /// The trigger saves a variable of a name that the trigger with this id saves already.
-    #[error("trigger {0} saves a variable of that name already")]
+    /// The trigger saves a variable, and the trigger with this id already saves one of that name.
+    #[error("trigger {0} already saves a variable of that name")]
     NameTaken(u32),
     /// The trigger reads a variable that no attached trigger saves.
     #[error("no attached trigger saves the variable that it reads")]
@@ -66,7 +66,7 @@ pub enum Refused {
     /// 64 triggers are attached, or the ids are used up.
     #[error("64 triggers are attached, or the ids are used up")]
     TooManyTriggers,
-    /// The command or its event has no such form.
+    /// There is no such command or event.
     #[error("there is no such command or event")]
     BadCommand,
     /// The trigger reads no variable, so it has no latencies.

@@ -13,8 +13,8 @@ use crate::refused::Refused;
 use ft_hist::{Trigger, Triggers, Var};
 use ft_pairs::Role;
 
-/// The attached trigger with an id. Refused where no trigger has it.
-pub fn attached(triggers: &Triggers, id: u32) -> Result<&Trigger, Refused>
+/// The attached trigger with an id. Refused if no trigger has it.
+pub fn find_trigger(triggers: &Triggers, id: u32) -> Result<&Trigger, Refused>
     ensures there { IfOk result (λ trigger.
         map.get triggers.now id ≡ Some trigger.now) }
     ensures refused { IfErr result (λ refused. (refused ≡ NoTrigger)
@@ -36,7 +36,7 @@ fn saves_name(variable: Option<&Var>, name: &[u8]) -> bool
     }
 }
 
-/// The id of the attached trigger that saves a name, the first by id.
+/// The smallest id of an attached trigger that saves a name.
 pub(crate) fn saver_of(triggers: &Triggers, name: &[u8]) -> Option<u32>
     ensures { result ≡ saver_of triggers.now name.now }
 {
@@ -58,7 +58,7 @@ fn reads_name(variable: Option<&Var>, name: &[u8]) -> bool
     }
 }
 
-/// The id of an attached trigger that reads a name, the first by id.
+/// The smallest id of an attached trigger that reads a name.
 fn reader_of(triggers: &Triggers, name: &[u8]) -> Option<u32>
     ensures { result ≡ reader_of triggers.now name.now }
 {
@@ -70,8 +70,7 @@ fn reader_of(triggers: &Triggers, name: &[u8]) -> Option<u32>
     None
 }
 
-/// The id of an attached trigger that reads what a trigger with this variable saves, the first by
-/// id.
+/// The smallest id of an attached trigger that reads what a trigger with this variable saves.
 pub(crate) fn reader_on(triggers: &Triggers, variable: Option<&Var>) -> Option<u32>
     ensures { result ≡ reader_on triggers.now (option_copied variable.entry) }
 {

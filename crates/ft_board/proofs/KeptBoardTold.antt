@@ -11,7 +11,7 @@ use Rattle.ft_table.specs.Rows.{AllFit}
 use Rattle.ft_table.specs.Tabled.{Tabled}
 use Rattle.ft_base.specs.declared.refused.Refused.{Refused}
 use Rattle.ft_base.specs.declared.refused.Refused.TheVariants.{NoTrigger, NotReading}
-use Rattle.ft_answers.specs.Answers.{hist_text, rows_shown, row_shown, counts_shown, totals, pairs_shown, tally_at, tally_made, tally_shown, tally_text, tally_rows, tally_row, tally_counts, pairs_as}
+use Rattle.ft_answers.specs.Answers.{hist_text, row_texts_shown, row_text_shown, rows_shown, totals, pairs_shown, tally_at, tally_made, tally_shown, tally_text, tally_row_texts, tally_row_text, tally_rows, pairs_as}
 use Rattle.ft_hist.specs.Made.{counts_made}
 use Rattle.ft_base.specs.Base.{Base, Triggers}
 use Rattle.ft_answers.specs.Edited.{AnswersFrom}
@@ -82,17 +82,17 @@ pub hist-is : (base : Base) (id : ℕ) → hist_text base id ≡ asked (by_tally
 unfolding hist_text
 hist-is base id = refl
 
+pub row_texts-is : (base : Base) (id : ℕ) → row_texts_shown base id ≡ asked (by_tally tally_row_texts) base id
+unfolding row_texts_shown
+row_texts-is base id = refl
+
 pub rows-is : (base : Base) (id : ℕ) → rows_shown base id ≡ asked (by_tally tally_rows) base id
 unfolding rows_shown
 rows-is base id = refl
 
-pub counts-is : (base : Base) (id : ℕ) → counts_shown base id ≡ asked (by_tally tally_counts) base id
-unfolding counts_shown
-counts-is base id = refl
-
-pub row-is : (key : List Part) (base : Base) (id : ℕ) → row_shown base id key ≡ asked (by_tally (λ hist tally. tally_row hist tally key)) base id
-unfolding row_shown
-row-is key base id = refl
+pub row_text-is : (key : List Part) (base : Base) (id : ℕ) → row_text_shown base id key ≡ asked (by_tally (λ hist tally. tally_row_text hist tally key)) base id
+unfolding row_text_shown
+row_text-is key base id = refl
 
 pub totals-is : (base : Base) (id : ℕ) → totals base id ≡ asked (by_tally (λ _. totals_in)) base id
 unfolding totals

@@ -3,12 +3,12 @@ pub mod KeptBoardTold
 pub mod MadeShelves
 pub mod Makers
 pub mod Mending
-pub mod Turning
+pub mod Updating
 pub mod CountingNone
 pub mod StillMade
 pub mod MadeStays
 pub mod MendedEdits
 pub mod Reports
-pub mod TurnedRows
+pub mod UpdatedRows
 pub mod MadeReports
 pub mod Changes

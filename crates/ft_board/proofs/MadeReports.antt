@@ -25,7 +25,7 @@ use Rattle.ft_board.specs.MadeShelves.{MadeTables, AreMade, AreMadeBy, made_on}
 use Rattle.ft_board.specs.declared.views.Views.{Views}
 use Rattle.ft_board.specs.inner.Edits.{Edit, ReportsEdit}
 use Rattle.ft_board.specs.inner.Readings.{readings_on}
-use Rattle.ft_board.specs.inner.Turned.{AreTurnedRows}
+use Rattle.ft_board.specs.inner.Updated.{AreUpdatedRows}
 use Rattle.ft_board.proofs.KeptBoardTold.{kept_shown, none_is}
 
 module _ (tallied : TablesAreTallied) where
@@ -42,26 +42,26 @@ module _ (tallied : TablesAreTallied) where
     -- rows that were told before tables were mended are a report of the bases
     rows_reported : (shelves : Shelves) (before after : MadeTables) → AreMade base before → AreMade new after
         → AreMadeBy mid.triggers (merged mid.lanes) (found_in (readings_on shelves)) after
-        → (rows : List Changed) → AreTurnedRows mid.triggers (merged mid.lanes) shelves before rows → IsMadeReport base new rows
-    rows_reported shelves before after was is turns rows told = record {
+        → (rows : List Changed) → AreUpdatedRows mid.triggers (merged mid.lanes) shelves before rows → IsMadeReport base new rows
+    rows_reported shelves before after was is updates rows told = record {
       once = told.once;
       made = λ id key some. let its = told.counted id key some in (its.0, (ap (λ (ts : Triggers). map.get ts id) (sym same_mid) ∙ its.1.0, its.1.1));
       all = λ id hist there counts key none.
           let there_mid : map.get mid.triggers id ≡ Some hist = ap (λ (ts : Triggers). map.get ts id) same_mid ∙ there in
           made_row new after is id hist (ap (λ (ts : Triggers). map.get ts id) same_new ∙ there) counts key
-          ∙ told.all id hist there_mid counts (made_on after id hist) (turns id hist there_mid counts) key none
+          ∙ told.all id hist there_mid counts (made_on after id hist) (updates id hist there_mid counts) key none
           ∙ sym (made_row base before was id hist there counts key);
     }
 
     -- and so where shelves are kept all along; else none are told
     pub told_made : {V : Type 0} (rows : Option V) (items : V → List Changed) (old mended : Option Shelves) (before after : MadeTables) → IfSome old (λ _. AreMade base before) → (old ≡ None → mended ≡ None)
         → IfSome mended (λ _. AreMade new after) → IfSome mended (λ shelves. AreMadeBy mid.triggers (merged mid.lanes) (found_in (readings_on shelves)) after)
-        → IfSome rows (λ r. IfSome mended (λ shelves. AreTurnedRows mid.triggers (merged mid.lanes) shelves before (items r)))
+        → IfSome rows (λ r. IfSome mended (λ shelves. AreUpdatedRows mid.triggers (merged mid.lanes) shelves before (items r)))
         → IfSome (option_and_then (λ _. rows) mended) (λ r. IsMadeReport base new (items r))
-    told_made rows items old None before after was gone is turns told = tt
-    told_made None items old (Some mended) before after was gone is turns told = tt
-    told_made (Some rows) items None (Some mended) before after was gone is turns told = let both : ◌≡◌ {A = Option Shelves} (Some mended) None = gone refl in absurd cc
-    told_made (Some rows) items (Some old) (Some mended) before after was gone is turns told = rows_reported mended before after was is turns (items rows) told
+    told_made rows items old None before after was gone is updates told = tt
+    told_made None items old (Some mended) before after was gone is updates told = tt
+    told_made (Some rows) items None (Some mended) before after was gone is updates told = let both : ◌≡◌ {A = Option Shelves} (Some mended) None = gone refl in absurd cc
+    told_made (Some rows) items (Some old) (Some mended) before after was gone is updates told = rows_reported mended before after was is updates (items rows) told
 
 -- ---- what a board reports
 

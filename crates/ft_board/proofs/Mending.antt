@@ -19,7 +19,7 @@ use Rattle.ft_made.specs.Making.{MakeNone}
 use Rattle.ft_answers.specs.Counting.{CountNone}
 use Rattle.ft_board.specs.MadeShelves.{MadeTables, AreMadeBy, made_on}
 use Rattle.ft_board.specs.inner.Readings.{readings_on}
-use Rattle.ft_board.specs.inner.Turned.{AreTurnedRows}
+use Rattle.ft_board.specs.inner.Updated.{AreUpdatedRows}
 use Rattle.ft_board.proofs.MadeShelves.{none_made}
 use Rattle.ft_board.proofs.StillMade.{table_stays}
 
@@ -42,7 +42,7 @@ module _ (triggers : Triggers) (events : Events) (made : MadeTables) where
   made_of_any found now (inr none) are id hist there counts = absurd (true≢false (sym counts ∙ none id hist there))
 
   -- then no row differs
-  pub no_rows : (shelves : Shelves) → AreMadeBy triggers events (found_in (readings_on shelves)) made → AreTurnedRows triggers events shelves made []
+  pub no_rows : (shelves : Shelves) → AreMadeBy triggers events (found_in (readings_on shelves)) made → AreUpdatedRows triggers events shelves made []
   unfolding IsDistinct
   no_rows shelves are = record {
     once = tt;
@@ -52,6 +52,6 @@ module _ (triggers : Triggers) (events : Events) (made : MadeTables) where
 
   -- and what is told of rows stays nothing
   pub rows_stay : {R : Type 0} (items : R → List Changed) (rows : Option R) (kept : Option Shelves) → IfSome rows (λ r. items r ≡ []) → IfSome kept (λ shelves. AreMadeBy triggers events (found_in (readings_on shelves)) made)
-      → IfSome rows (λ r. IfSome kept (λ shelves. AreTurnedRows triggers events shelves made (items r)))
+      → IfSome rows (λ r. IfSome kept (λ shelves. AreUpdatedRows triggers events shelves made (items r)))
   rows_stay items rows kept none are =
-      IfSome_then rows none (λ r nil. IfSome_then kept are (λ shelves made. subst (AreTurnedRows triggers events shelves _) (sym nil) (no_rows shelves made)))
+      IfSome_then rows none (λ r nil. IfSome_then kept are (λ shelves made. subst (AreUpdatedRows triggers events shelves _) (sym nil) (no_rows shelves made)))

@@ -4,5 +4,5 @@ pub mod Mending
 pub mod Readings
 pub mod Reported
 pub mod Told
-pub mod Turned
+pub mod Updated
 pub mod Views

@@ -1,4 +1,4 @@
-//! What is told of an attached trigger, by what is kept.
+//! The tables of attached triggers, as they are kept.
 
 ghost use Rattle.std.specs.Prelude.{◌≡◌, IfOk, IfErr, OnOk, OnErr, IsSome, Some, None};
 ghost use Rattle.std.specs.FinMap as map;
@@ -16,7 +16,7 @@ use ft_maps::get;
 use ft_repair::laws;
 use ft_table::Table;
 
-/// The table that tells of a trigger: the one that is kept, or else one without hits.
+/// The table of a trigger: the one that is kept, or else one without hits.
 #[derive(Drop)]
 pub(crate) struct TableOf<'a> {
     pub(crate) kept: Option<&'a Table>,
@@ -33,8 +33,8 @@ impl TableOf<'_> {
 }
 
 impl Views {
-    /// The table of an attached trigger: of one that counts made events the table of these, of any
-    /// other that on its shelf. Refused for memory where there are no shelves.
+    /// The table of an attached trigger: if it counts made events, the table of these, otherwise the
+    /// one on its shelf. Refused for memory if there are no shelves.
     pub(crate) fn table(
         &self,
         id: u32,
@@ -59,8 +59,7 @@ impl Views {
         Ok(TableOf { kept, bare })
     }
 
-    /// What is kept of the attached trigger with an id. Refused for memory where there are no
-    /// shelves.
+    /// What is kept of the attached trigger with an id. Refused for memory if there are no shelves.
     pub(crate) fn shelf(&self, id: u32) -> Result<&Shelf, Refused>
         ensures tells { (base : Base) (hist : Hist) → AreFresh base self.now
             → map.get base.triggers id ≡ Some hist
@@ -71,7 +70,7 @@ impl Views {
             → map.get base.triggers id ≡ Some hist → OnErr result (self.now.shelves ≡ None) }
     {
         laws::kept_shelves();
-        ft_made::counted_made();
+        ft_made::made_counters();
         let tables = self.shelves.as_ref().ok_or(Refused::Memory)?;
         // Each attached trigger has a shelf.
         tables.shelf(id).ok_or(Refused::Memory)

@@ -30,9 +30,9 @@ use ft_maps::take;
 use ft_repair::{join, kept_shelves, leave, let_change, let_lane_go, let_lanes_come, make_way};
 
 impl Views {
-    /// An event that is held comes to what is kept or goes from it: its place, and which rows may
-    /// have changed. Where memory runs out, the shelves are given up: not as an event comes that no
-    /// trigger hits, or as one goes that only triggers without a variable hit.
+    /// Adds a held event to what is kept, or removes it, and returns its place and which rows may have
+    /// changed. If memory runs out, the shelves are given up. That can't happen if the event comes and
+    /// no trigger hits it, or if it goes and only triggers without a variable hit it.
     pub(crate) fn change(
         &mut self,
         sign: Sign,
@@ -60,7 +60,7 @@ impl Views {
         let stamp = event.stamp;
         let pos = Pos { stamp, cpu, line };
         let delta = Delta { sign, pos, event };
-        let mut changes = self.asked(content).with_keys(self.alloc);
+        let mut changes = self.changes_to_report(content).with_keys(self.alloc);
         let_change(
             &mut self.shelves,
             content,
@@ -78,8 +78,8 @@ impl Views {
         Done { value, kept }
     }
 
-    /// The events of all lanes but those of some CPUs, of which what is kept has the events, come to
-    /// it: whether there are shelves then.
+    /// Adds the events of all lanes to what is kept, except for those of the CPUs whose events it has,
+    /// and returns whether there are shelves then.
     pub(crate) fn let_lanes_come(&mut self, before: &[u16], content: &Content) -> Kept
         requires { AreOf content.now.triggers (merged (lanes_of before.now content.now.lanes))
             self.old }
@@ -89,7 +89,7 @@ impl Views {
             ≤ self.old.work.evals + count_coming before.now content.now }
     {
         kept_shelves();
-        let mut changes = self.asked(content);
+        let mut changes = self.changes_to_report(content);
         let_lanes_come(
             &mut self.shelves,
             self.alloc,
@@ -101,8 +101,8 @@ impl Views {
         self.mend(content, &changes, &mut None)
     }
 
-    /// The events of a CPU's lane, which is still held, go from what is kept: whether there are
-    /// shelves then. Events that only triggers without a variable hit take no memory.
+    /// Removes the events of a CPU's lane, which is still held, from what is kept, and returns whether
+    /// there are shelves then. Events that only triggers without a variable hit take no memory.
     pub(crate) fn let_lane_go(&mut self, cpu: u16, content: &Content) -> Kept
         requires { AreFresh content.now self.old }
         ensures fresh { AreOf content.now.triggers (merged (map.remove content.now.lanes cpu))
@@ -115,7 +115,7 @@ impl Views {
             ≤ self.old.work.evals + count_on_lane content.now.triggers lane }
     {
         kept_shelves();
-        let mut changes = self.asked(content);
+        let mut changes = self.changes_to_report(content);
         let_lane_go(
             &mut self.shelves,
             content,
@@ -126,9 +126,9 @@ impl Views {
         self.mend(content, &changes, &mut None)
     }
 
-    /// A trigger that was attached, or got another filter, joins what is kept, with those that read
-    /// what it saves: whether there are shelves then. The tables of made events stay as they are if
-    /// it neither counts such events nor bears on those that make them.
+    /// Adds a trigger that was attached, or got another filter, to what is kept, with those that read
+    /// what it saves, and returns whether there are shelves then. The tables of made events stay as
+    /// they are if it neither counts such events nor bears on those that make them.
     pub(crate) fn join(&mut self, id: u32, content: &Content) -> Kept
         requires shelves { IfSome self.old.shelves (AreKeptOutside
             (is_in_family content.now.triggers id) content.now.triggers content.now.lanes) }
@@ -143,7 +143,7 @@ impl Views {
         self.refit(id, content)
     }
 
-    /// What a trigger reads that is to get another filter goes from what is kept.
+    /// Removes what a trigger reads from what is kept, before it gets another filter.
     pub(crate) fn make_way(&mut self, id: u32, content: &Content)
         requires { AreFresh content.now self.old }
         ensures waits { IfSome self.new.shelves (AwaitFilter id content.now) }
@@ -156,7 +156,7 @@ impl Views {
         make_way(&mut self.shelves, self.alloc, content, id, &mut self.work);
     }
 
-    /// A trigger that is still attached, and that no other reads, leaves what is kept. One that
+    /// Removes a trigger that is still attached, and that no other reads, from what is kept. One that
     /// reads nothing takes no memory. The tables of made events are those of the others then, unless
     /// it bears on those that make them.
     pub(crate) fn leave(&mut self, id: u32, content: &Content)

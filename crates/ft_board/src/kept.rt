@@ -7,10 +7,10 @@ use crate::making::bears_on_makers;
 use crate::readings::pairs_of;
 use crate::views::Views;
 use ft_answers::{
-    Board, Done, Edited, Latency, Pair, Row, TableRow, latencies_of, table_counts, table_row,
-    table_rows, table_text,
+    Board, Done, Edited, Latency, Pair, Row, TableRow, latencies_of, table_row_text,
+    table_row_texts, table_rows, table_text,
 };
-use ft_base::{Content, Refused, attached, is_reader};
+use ft_base::{Content, Refused, find_trigger, is_reader};
 use ft_fields::{Event, Name};
 use ft_filter::Filter;
 use ft_hist::{Key, Trigger};
@@ -158,37 +158,37 @@ impl Board for KeptBoard {
 
     fn hist(&mut self, id: u32) -> Result<Vec<u8>, Refused> {
         let alloc = self.views.alloc;
-        let trigger = attached(self.content.triggers(), id)?;
+        let trigger = find_trigger(self.content.triggers(), id)?;
         self.views.catch_up(&self.content);
         let told = self.views.table(id, trigger, &self.content)?;
         Ok(table_text(alloc, trigger, told.as_table())?)
     }
 
-    fn rows(&mut self, id: u32) -> Result<Vec<TableRow>, Refused> {
+    fn row_texts(&mut self, id: u32) -> Result<Vec<TableRow>, Refused> {
         let alloc = self.views.alloc;
-        let trigger = attached(self.content.triggers(), id)?;
+        let trigger = find_trigger(self.content.triggers(), id)?;
         self.views.catch_up(&self.content);
         let told = self.views.table(id, trigger, &self.content)?;
-        Ok(table_rows(alloc, trigger, told.as_table())?)
+        Ok(table_row_texts(alloc, trigger, told.as_table())?)
     }
 
-    fn counts(&mut self, id: u32) -> Result<Vec<Row>, Refused> {
-        let trigger = attached(self.content.triggers(), id)?;
+    fn rows(&mut self, id: u32) -> Result<Vec<Row>, Refused> {
+        let trigger = find_trigger(self.content.triggers(), id)?;
         self.views.catch_up(&self.content);
         let told = self.views.table(id, trigger, &self.content)?;
-        Ok(table_counts(trigger, told.as_table())?)
+        Ok(table_rows(trigger, told.as_table())?)
     }
 
-    fn row(&mut self, id: u32, key: &Key) -> Result<Option<Vec<u8>>, Refused> {
+    fn row_text(&mut self, id: u32, key: &Key) -> Result<Option<Vec<u8>>, Refused> {
         let alloc = self.views.alloc;
-        let trigger = attached(self.content.triggers(), id)?;
+        let trigger = find_trigger(self.content.triggers(), id)?;
         self.views.catch_up(&self.content);
         let told = self.views.table(id, trigger, &self.content)?;
-        Ok(table_row(alloc, trigger, told.as_table(), key)?)
+        Ok(table_row_text(alloc, trigger, told.as_table(), key)?)
     }
 
     fn totals(&mut self, id: u32) -> Result<Totals, Refused> {
-        let trigger = attached(self.content.triggers(), id)?;
+        let trigger = find_trigger(self.content.triggers(), id)?;
         self.views.catch_up(&self.content);
         let told = self.views.table(id, trigger, &self.content)?;
         Ok(told.as_table().totals())
@@ -200,7 +200,7 @@ impl Board for KeptBoard {
     }
 
     fn pairs(&mut self, id: u32) -> Result<Vec<Pair>, Refused> {
-        let trigger = attached(self.content.triggers(), id)?;
+        let trigger = find_trigger(self.content.triggers(), id)?;
         if !is_reader(trigger) {
             return Err(Refused::NotReading);
         }

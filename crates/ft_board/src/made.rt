@@ -1,5 +1,5 @@
-//! Tables of the events that readings make, beside the shelves: made anew where all shelves are, or
-//! a trigger comes, goes or gets another filter that bears on such events; one where it counts them.
+//! Tables of the events that readings make, beside the shelves. All are made anew with the shelves, or
+//! if a trigger that bears on such events comes, goes or gets another filter; one, if it counts them.
 
 ghost use Rattle.std.specs.Prelude.{◌≡◌, ◌⊎◌, true, false, is_some, IfOk, OnErr};
 ghost use Rattle.std.specs.Ordering.{nat_cmp};
@@ -25,8 +25,7 @@ use ft_table::Table;
 use std::alloc::{AllocError, Global};
 use std::collections::BTreeMap;
 
-/// The tables of the attached triggers that count made events, where some are made. Refused for
-/// memory.
+/// The tables of the attached triggers that count made events, if some are made. Refused for memory.
 pub(crate) fn made_tables(
     alloc: Global,
     content: &Content,

@@ -1,6 +1,6 @@
-//! Tables of made events that are mended where they stand: the repair of the shelves tells what
-//! readings had found and what they find; the events that were made of the one go from the tables,
-//! and those that are made of the other come. On the way the rows are told that this may change.
+//! Tables of made events that are mended in place: the repair of the shelves reports what readings had
+//! found and what they find; the events made of the one are removed from the tables, and those made of
+//! the other added. On the way, the rows that this may change are reported.
 
 ghost use Rattle.std.specs.Prelude.{◌≡◌, ◌⊎◌, [], None, Some, IfOk, IfSome, OnOk};
 ghost use Rattle.std.specs.Ordering.{nat_cmp};
@@ -11,10 +11,10 @@ ghost use Rattle.ft_made.specs.MadeTables.{found_in};
 ghost use Rattle.ft_made.specs.Making.{MakeNone};
 ghost use Rattle.ft_answers.specs.Counting.{CountNone, MakesNothing};
 ghost use Rattle.ft_board.specs.MadeShelves.{AreMadeBy, made_on};
-ghost use Rattle.ft_board.specs.inner.Mending.{CanMend, HaveMended, OtherTablesStay, CanTurnBy, HasTurnedBy, events_in};
+ghost use Rattle.ft_board.specs.inner.Mending.{CanMend, HaveMended, OtherTablesStay, CanUpdateBy, IsUpdatedBy, events_in};
 ghost use Rattle.ft_board.specs.inner.Mending.{triggers_in};
 ghost use Rattle.ft_board.specs.inner.Readings.{readings_on};
-ghost use Rattle.ft_board.specs.inner.Turned.{AreTurnedRows, TellsRows, keys_named, rows_by_turning, rows_turned};
+ghost use Rattle.ft_board.specs.inner.Updated.{AreUpdatedRows, TellsRows, keys_named, rows_by_updating, updated_rows};
 ghost use Rattle.ft_board.specs.inner.Views.{CanBeMended, EndsAs, made_in};
 
 use crate::made::are_made;
@@ -24,7 +24,7 @@ use ft_base::Content;
 use ft_changes::{Changed, ReadingChange, rivals};
 use ft_hist::{Key, Trigger, Work};
 use ft_kept::{Changes, distinct, put_rows};
-use ft_made::{put_turned_keys, turn_made};
+use ft_made::{put_changed_keys, update_made};
 use ft_maps::put;
 use ft_table::Table;
 use std::alloc::{AllocError, Global};
@@ -39,9 +39,9 @@ pub(crate) struct Mending<'a> {
 }
 
 impl Views {
-    /// What a repair is asked to tell so that the tables of made events can be mended: how readings
-    /// change, where such events are made and counted. It takes no memory.
-    pub(crate) fn asked(&self, content: &Content) -> Changes
+    /// What a repair has to report so that the tables of made events can be mended: how readings
+    /// change, if such events are made and counted. It takes no memory.
+    pub(crate) fn changes_to_report(&self, content: &Content) -> Changes
         ensures keys { result.keys ≡ None }
         ensures readings { (result.readings ≡ Some [])
             ⊎ ((result.readings ≡ None)
@@ -56,10 +56,11 @@ impl Views {
         }
     }
 
-    /// Mends the tables of made events after a repair of the shelves, by what it told of readings:
-    /// whether there are shelves then. Where memory ran out as it told, or runs out here, they are
-    /// given up. The rows that this may change are told too, where memory for them is found. Where
-    /// no reading changed, or no made event is counted, it takes neither memory nor steps.
+    /// Mends the tables of made events after a repair of the shelves, by what the repair reported of
+    /// readings, and returns whether there are shelves then. They are given up if memory runs out
+    /// here, or ran out for that report. The rows that this may change are reported too, if there is
+    /// memory for them. If no reading changed, or no made event is counted, it takes neither memory
+    /// nor steps.
     pub(crate) fn mend(
         &mut self,
         content: &Content,
@@ -72,7 +73,7 @@ impl Views {
         ensures made { IfSome self.new.shelves (λ shelves. AreMadeBy content.now.triggers
             (merged content.now.lanes) (found_in (readings_on shelves)) (made_in self.new)) }
         ensures rows { IfSome rows.new (λ rows. IfSome self.new.shelves (λ shelves.
-            AreTurnedRows content.now.triggers (merged content.now.lanes) shelves
+            AreUpdatedRows content.now.triggers (merged content.now.lanes) shelves
             (made_in self.old) rows.items)) }
         ensures ends { EndsAs result self.old self.new }
         ensures quiet { changes.now.readings ≡ Some []
@@ -81,26 +82,26 @@ impl Views {
             → (self.new.shelves ≡ self.old.shelves) × (self.new.work ≡ self.old.work) }
     {
         ft_changes::some_rivals();
-        ft_made::turned_keys();
+        ft_made::changed_keys();
         if self.shelves.is_none() {
             self.made = BTreeMap::new(self.alloc);
             return Kept::Later;
         }
         if !are_made(content.triggers()) {
-            return self.kept();
+            return self.kept_state();
         }
         let Some(changes) = changes.readings() else {
             return self.give_up();
         };
         if changes.is_empty() {
-            return self.kept();
+            return self.kept_state();
         }
         let mending = Mending {
             alloc: self.alloc,
             content,
             changes,
         };
-        match mending.turn_counting(&mut self.made, rows, &mut self.work) {
+        match mending.update_counting(&mut self.made, rows, &mut self.work) {
             Ok(()) => Kept::Now,
             Err(_) => self.give_up(),
         }
@@ -108,9 +109,9 @@ impl Views {
 }
 
 impl Mending<'_> {
-    /// Turns the table of each attached trigger that counts made events, and adds the rows that this
-    /// may change to others, where memory for them is found. Refused for memory.
-    fn turn_counting(
+    /// Updates the table of each attached trigger that counts made events, and adds the rows that this
+    /// may change to others, if there is memory for them. Refused for memory.
+    fn update_counting(
         &self,
         made: &mut BTreeMap<u32, Table>,
         rows: &mut Option<Vec<Changed>>,
@@ -120,21 +121,21 @@ impl Mending<'_> {
             (seen nat_cmp made.old) }
         ensures made { OnOk result (HaveMended (triggers_in self.now) (events_in self.now)
             self.now.changes.now (seen nat_cmp made.old) (seen nat_cmp made.new)) }
-        ensures rows { OnOk result (TellsRows (rows_turned (triggers_in self.now)
+        ensures rows { OnOk result (TellsRows (updated_rows (triggers_in self.now)
             (events_in self.now) self.now.changes.now (seen nat_cmp made.old)) rows.old rows.new) }
         ensures grow { StepsGrow work.old work.new }
     {
         for (id, trigger) in self.content.triggers().iter() {
             if trigger.counts_made() {
-                self.turn_kept(made, *id, trigger, rows, work)?;
+                self.update_kept(made, *id, trigger, rows, work)?;
             }
         }
         Ok(())
     }
 
-    /// Turns the table of one trigger; where none is kept, it is one without hits. The rows that this
-    /// may change are added to others, where memory for them is found. Refused for memory.
-    fn turn_kept(
+    /// Updates the table of one trigger; if none is kept, it is one without hits. The rows that this
+    /// may change are added to others, if there is memory for them. Refused for memory.
+    fn update_kept(
         &self,
         made: &mut BTreeMap<u32, Table>,
         id: u32,
@@ -142,28 +143,28 @@ impl Mending<'_> {
         rows: &mut Option<Vec<Changed>>,
         work: &mut Work,
     ) -> Result<(), AllocError>
-        requires { CanTurnBy self.now trigger.now (made_on (seen nat_cmp made.old) id trigger.now) }
-        ensures turned { OnOk result (HasTurnedBy self.now trigger.now
+        requires { CanUpdateBy self.now trigger.now (made_on (seen nat_cmp made.old) id trigger.now) }
+        ensures updated { OnOk result (IsUpdatedBy self.now trigger.now
             (made_on (seen nat_cmp made.old) id trigger.now)
             (made_on (seen nat_cmp made.new) id trigger.now)) }
         ensures others { OnOk result (OtherTablesStay id (seen nat_cmp made.old) (seen nat_cmp made.new)) }
-        ensures rows { OnOk result (TellsRows (rows_by_turning self.now
+        ensures rows { OnOk result (TellsRows (rows_by_updating self.now
             (made_on (seen nat_cmp made.old) id trigger.now) id trigger.now) rows.old rows.new) }
         ensures grow { StepsGrow work.old work.new }
     {
         match made.get_mut(&id) {
-            Some(table) => self.turn_table(table, id, trigger, rows, work),
+            Some(table) => self.update_table(table, id, trigger, rows, work),
             None => {
                 let mut table = Table::new(self.alloc, trigger.size());
-                self.turn_table(&mut table, id, trigger, rows, work)?;
+                self.update_table(&mut table, id, trigger, rows, work)?;
                 put(made, id, table)
             }
         }
     }
 
-    /// Turns a trigger's table, and adds the rows that this may change to others, where memory for
-    /// them is found. Refused for memory.
-    fn turn_table(
+    /// Updates a trigger's table, and adds the rows that this may change to others, if there is memory
+    /// for them. Refused for memory.
+    fn update_table(
         &self,
         table: &mut Table,
         id: u32,
@@ -171,21 +172,21 @@ impl Mending<'_> {
         rows: &mut Option<Vec<Changed>>,
         work: &mut Work,
     ) -> Result<(), AllocError>
-        requires { CanTurnBy self.now trigger.now table.old }
-        ensures turned { OnOk result (HasTurnedBy self.now trigger.now table.old table.new) }
-        ensures rows { TellsRows (rows_by_turning self.now table.old id trigger.now)
+        requires { CanUpdateBy self.now trigger.now table.old }
+        ensures updated { OnOk result (IsUpdatedBy self.now trigger.now table.old table.new) }
+        ensures rows { TellsRows (rows_by_updating self.now table.old id trigger.now)
             rows.old rows.new }
         ensures grow { StepsGrow work.old work.new }
     {
-        // The table that is turned would name the same rows: the keys follow from the readings, and
+        // The updated table would name the same rows: the keys follow from the readings, and
         // their rivals from the hits of all other keys, which stay.
         self.tell_rows(rows, table, id, trigger, work);
         let (lanes, triggers) = (self.content.lanes(), self.content.triggers());
-        turn_made(table, lanes, triggers, trigger, self.changes, work)
+        update_made(table, lanes, triggers, trigger, self.changes, work)
     }
 
-    /// Adds the rows of a trigger on which the changes bear to others. Where memory for them runs
-    /// out, no rows are told any more.
+    /// Adds the rows of a trigger on which the changes bear to others. If memory for them runs out,
+    /// no rows are reported any more.
     fn tell_rows(
         &self,
         rows: &mut Option<Vec<Changed>>,
@@ -194,7 +195,7 @@ impl Mending<'_> {
         trigger: &Trigger,
         work: &mut Work,
     )
-        ensures rows { TellsRows (rows_by_turning self.now table.now id trigger.now)
+        ensures rows { TellsRows (rows_by_updating self.now table.now id trigger.now)
             rows.old rows.new }
         ensures grow { StepsGrow work.old work.new }
     {
@@ -222,9 +223,9 @@ impl Mending<'_> {
         ensures grow { StepsGrow work.old work.new }
     {
         let (lanes, triggers) = (self.content.lanes(), self.content.triggers());
-        let mut turned = Vec::new(self.alloc);
-        put_turned_keys(&mut turned, lanes, triggers, trigger, self.changes, work)?;
-        let mut keys = distinct(self.alloc, &turned)?;
+        let mut updated = Vec::new(self.alloc);
+        put_changed_keys(&mut updated, lanes, triggers, trigger, self.changes, work)?;
+        let mut keys = distinct(self.alloc, &updated)?;
         let others = rivals(self.alloc, table, &keys)?;
         keys.extend_from_slice(&others)?;
         Ok(keys)

@@ -10,9 +10,9 @@ use ft_kept::{Changes, changed_rows};
 use ft_repair::kept_shelves;
 
 impl Views {
-    /// The rows that may differ with an event and without it, by the keys that were told as it came or
-    /// went and by what is kept after it. None where there are no shelves or no keys were told, or
-    /// where memory runs out.
+    /// The rows that may differ with an event and without it, by the keys that were reported as it came
+    /// or went and by what is kept after it. `None` if there are no shelves, no keys were reported, or
+    /// memory runs out.
     pub(crate) fn report(&self, content: &Content, changes: &Changes) -> Option<Vec<Changed>>
         ensures none { self.now.shelves ≡ None → result ≡ None }
         ensures rows { IfSome result (λ rows.
@@ -30,6 +30,6 @@ pub(crate) fn reported_edits()
     ensures { RepairsReported }
 {
     kept_shelves();
-    ft_made::counted_made();
+    ft_made::made_counters();
     ft_kept::reported_rows();
 }

@@ -24,8 +24,8 @@ use std::alloc::Global;
 use std::collections::BTreeMap;
 
 /// What is kept of a base: a shelf of each trigger, and beside the shelves a table of each trigger
-/// that counts the events that readings make. Where memory ran out for that, there are no shelves:
-/// nothing is told by what is kept, and the next answer that reads it builds it anew.
+/// that counts the events that readings make. If memory ran out for that, there are no shelves, and the
+/// next answer that needs them builds them anew.
 #[derive(Drop)]
 pub(crate) struct Views {
     pub(crate) alloc: Global,
@@ -35,7 +35,7 @@ pub(crate) struct Views {
 }
 
 impl Views {
-    /// What is kept where nothing is held and no trigger is attached. It takes no memory.
+    /// What is kept if nothing is held and no trigger is attached. It takes no memory.
     pub(crate) fn new(alloc: Global) -> Views
         ensures fresh { AreFresh empty_base result }
         ensures now { is_none result.shelves ≡ false }
@@ -50,7 +50,7 @@ impl Views {
     }
 
     /// Whether there are shelves.
-    pub(crate) fn kept(&self) -> Kept
+    pub(crate) fn kept_state(&self) -> Kept
         ensures { result ≡ kept_of (is_none self.now.shelves) }
     {
         match self.shelves {
@@ -59,8 +59,8 @@ impl Views {
         }
     }
 
-    /// Builds all anew where there are shelves: whether there are some then. What was kept goes
-    /// first, and takes no memory from what comes.
+    /// Builds all anew if there are shelves, and returns whether there are some then. What was kept is
+    /// dropped first, so that its memory is free.
     pub(crate) fn rebuild(&mut self, content: &Content) -> Kept
         ensures fresh { AreFresh content.now self.new }
         ensures ends { EndsAs result self.old self.new }
@@ -70,7 +70,7 @@ impl Views {
         self.remake(content)
     }
 
-    /// Builds all anew where there are no shelves.
+    /// Builds all anew if there are no shelves.
     pub(crate) fn catch_up(&mut self, content: &Content)
         requires { AreFresh content.now self.old }
         ensures fresh { AreFresh content.now self.new }
@@ -86,7 +86,7 @@ impl Views {
         }
     }
 
-    /// Gives up all that is kept, the tables of made events too: nothing is kept then.
+    /// Gives up all that is kept, including the tables of made events.
     pub(crate) fn give_up(&mut self) -> Kept
         ensures shelves { self.new.shelves ≡ None }
         ensures made { made_in self.new ≡ map.empty }
@@ -98,9 +98,9 @@ impl Views {
         Kept::Later
     }
 
-    /// Gives the tables of made events up, and makes them anew where there are shelves: whether
-    /// there are some then. Where memory runs out, the shelves are given up too; where no made event
-    /// is counted, it takes neither memory nor steps.
+    /// Gives the tables of made events up, makes them anew if there are shelves, and returns whether
+    /// there are some then. If memory runs out, the shelves are given up too. If no made event is
+    /// counted, it takes neither memory nor steps.
     pub(crate) fn remake(&mut self, content: &Content) -> Kept
         requires { IfSome self.old.shelves (AreKeptOf content.now) }
         ensures fresh { AreFresh content.now self.new }
@@ -122,9 +122,10 @@ impl Views {
         }
     }
 
-    /// Makes the tables of made events right as a trigger has come or got another filter, all anew
-    /// if it bears on those that make such events, its own if it counts them: whether there are
-    /// shelves then. Else the tables stay, and it takes neither memory nor steps.
+    /// Brings the tables of made events up to date after a trigger was attached or got another filter,
+    /// and returns whether there are shelves then. All are built anew if the trigger bears on those
+    /// that make such events, and its own if it counts them. Otherwise the tables stay, and it takes
+    /// neither memory nor steps.
     pub(crate) fn refit(&mut self, id: u32, content: &Content) -> Kept
         requires kept { IfSome self.old.shelves (AreKeptOf content.now) }
         requires made { AwaitTrigger id content.now self.old }
@@ -144,8 +145,8 @@ impl Views {
         self.settle()
     }
 
-    /// Makes one trigger's table of made events anew, as the others' are right: whether there are
-    /// shelves then. Where memory runs out, they are given up too; where no made event is counted,
+    /// Makes one trigger's table of made events anew while the others' are right, and returns whether
+    /// there are shelves then. If memory runs out, they are given up too. If no made event is counted,
     /// it takes no step.
     fn remake_table(&mut self, id: u32, content: &Content) -> Kept
         requires kept { IfSome self.old.shelves (AreKeptOf content.now) }
@@ -171,8 +172,8 @@ impl Views {
         }
     }
 
-    /// Puts a trigger's table of made events among the others: whether there are shelves then.
-    /// Where memory runs out, they are given up.
+    /// Adds a trigger's table of made events to the others, and returns whether there are shelves then.
+    /// If memory runs out, they are given up.
     fn put_table(&mut self, id: u32, table: Table) -> Kept
         ensures shelves { (self.new.shelves ≡ self.old.shelves) ⊎ (self.new.shelves ≡ None) }
         ensures made { IfSome self.new.shelves (λ _.
@@ -186,7 +187,7 @@ impl Views {
         }
     }
 
-    /// Leaves the tables of made events as they are, or gives them up where there are no shelves:
+    /// Leaves the tables of made events as they are, or gives them up if there are no shelves. Returns
     /// whether there are some.
     pub(crate) fn settle(&mut self) -> Kept
         ensures fresh { (base : Base) → AreFresh base self.old → AreFresh base self.new }
@@ -194,7 +195,7 @@ impl Views {
         ensures same { (self.new.shelves ≡ self.old.shelves) × (self.new.work ≡ self.old.work) }
         ensures made { IfSome self.new.shelves (λ _. made_in self.new ≡ made_in self.old) }
     {
-        match self.kept() {
+        match self.kept_state() {
             Kept::Now => Kept::Now,
             Kept::Later => self.give_up(),
         }

@@ -3,12 +3,12 @@
 
 ghost use Rattle.std.specs.Prelude.{Some, None, Ok};
 ghost use Rattle.ft_answers.specs.After.{after_unload, after_strike, after_remove};
-ghost use Rattle.ft_answers.specs.Answers.{totals, hist_text, counts_shown, pairs_shown};
+ghost use Rattle.ft_answers.specs.Answers.{totals, hist_text, rows_shown, pairs_shown};
 ghost use Rattle.ft_answers.specs.Places.{places};
 ghost use Rattle.ft_base.specs.Answers.{list_text, trigger_text, attached_in};
-ghost use Rattle.ft_desk.specs.Edits.{after_load_text, after_insert_text};
-ghost use Rattle.ft_desk.specs.Edits.{after_attach_text, after_refilter_text};
-ghost use Rattle.ft_desk.specs.Found.{event_found, lane_found, matching_found};
+ghost use Rattle.ft_desk_core.specs.Edits.{after_load_text, after_insert_text};
+ghost use Rattle.ft_desk_core.specs.Edits.{after_attach_text, after_refilter_text};
+ghost use Rattle.ft_desk_core.specs.Found.{event_found, lane_found, matching_found};
 ghost use Rattle.ft_layout.specs.Names.{name_numbered};
 ghost use Rattle.ft_session.specs.Calls.{Edits, EditsInPlace, Inserts, Strikes, StrikesEvents};
 ghost use Rattle.ft_session.specs.Calls.{AnswersTotals, AnswersText, AnswersRows, AnswersPairs};
@@ -232,7 +232,7 @@ pub extern "C" fn histdesk_hist(alloc: Global, desk: &mut Handle, id: u32, lengt
 #[unsafe(no_mangle)]
 pub extern "C" fn histdesk_rows(alloc: Global, desk: &mut Handle, id: u32, count: &mut u64) -> u32
     ensures { CallsWriting desk.old.held desk.new.held result count.old count.new (λ before after.
-        AnswersRows (counts_shown before.desk.base id) before count.old result count.new after) }
+        AnswersRows (rows_shown before.desk.base id) before count.old result count.new after) }
 {
     match desk.take(alloc) {
         Some(mut session) => {

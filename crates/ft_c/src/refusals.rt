@@ -1,7 +1,7 @@
 //! Why calls are refused, as a script says it and in words. These need no desk.
 
 ghost use Rattle.std.specs.Prelude.{◌≡◌, ◌⊎◌, None};
-ghost use Rattle.ft_layout.specs.Refusals.{refused_of};
+ghost use Rattle.ft_layout.specs.Refusals.{refusal_in};
 ghost use Rattle.ft_layout.specs.Words.{refusal_text};
 ghost use Rattle.ft_c.specs.Copies.{IsCopied, AreWordsCopied};
 
@@ -34,7 +34,7 @@ pub extern "C" fn histdesk_refusal_words(
     to: &mut [u8],
 ) -> usize
     ensures part { AreWordsCopied to.old result to.new }
-    ensures of_none { refused_of refusal.now ≡ None → (result ≡ 0) × (to.new ≡ to.old) }
+    ensures of_none { refusal_in refusal.now ≡ None → (result ≡ 0) × (to.new ≡ to.old) }
 {
     match refusal_words(alloc, refusal) {
         Ok(words) => copy_bytes(words.as_slice(), 0, to),

@@ -8,7 +8,7 @@ use Rattle.ft_desk.specs.declared.pieces.Taken.TheVariants as takes
 use Rattle.ft_desk.specs.declared.running.Status.{Status}
 use Rattle.ft_desk.specs.declared.running.RunFault.{RunFault}
 use Rattle.ft_desk.specs.declared.running.RunFault.TheVariants as faults
-use Rattle.ft_script.specs.Lines.{ended_lines}
+use Rattle.ft_text.specs.Lines.{ended_lines}
 use Rattle.ft_script.specs.Script.{asked_by}
 use Rattle.ft_desk.specs.Output.{Meaning, output_of_lines}
 use Rattle.ft_desk.specs.Counts.{Counts}

@@ -3,7 +3,7 @@ use Rattle.std.proofs.Common.{◌≡◌, ℕ, Bool, false, List, [], ◌∷◌, 
 use Rattle.std.specs.Prelude.{◌||◌}
 use Rattle.std.proofs.Math.Bool.{or_assoc, or-false}
 use Rattle.ft_answers.specs.Base.{Base, empty_base}
-use Rattle.ft_script.specs.Lines.{lines_of}
+use Rattle.ft_text.specs.Lines.{lines_of}
 use Rattle.ft_script.specs.Script.{asked_by}
 use Rattle.ft_desk.specs.Output.{Meaning, output_by, output_from}
 

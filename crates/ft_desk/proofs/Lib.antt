@@ -1,8 +1,3 @@
-pub mod Reading
-pub mod Unmade
-pub mod Edits
-pub mod Empty
-mod Found
 pub mod LineLemmas
 pub mod OutputLemmas
 pub mod Progress

@@ -2,7 +2,7 @@
 use Rattle.std.proofs.Common.{◌≡◌, ◌≢◌, ℕ, ◌<◌, Bool, true, false, List, [], ◌∷◌, ◌++◌, All, length, eqb, refl, sym, ap, ◌∙◌, append_assoc, ne_eqb, arith}
 use Rattle.std.specs.Prelude.{◌==◌, if◌then◌else◌}
 use Rattle.std.proofs.lemmas.List.Elements.{All-head, All-tail, All-nil, All-cons}
-use Rattle.ft_script.specs.Lines.{onto_first, lines_of, onto_ended, ended_lines}
+use Rattle.ft_text.specs.Lines.{onto_first, lines_of, onto_ended, ended_lines}
 
 -- one more byte in front of the last piece, unless a line stands between
 abbrev pub onto_piece : ℕ → List (List ℕ) → List ℕ → List ℕ

@@ -8,7 +8,7 @@ use Rattle.std.proofs.lemmas.Bool.{cases_lt}
 use Rattle.ft_answers.specs.Base.{Base, empty_base}
 use Rattle.ft_desk.specs.declared.pieces.Taken.TheVariants as takes
 use Rattle.ft_desk.specs.declared.running.RunFault.{RunFault}
-use Rattle.ft_script.specs.Lines.{lines_of, ended_lines}
+use Rattle.ft_text.specs.Lines.{lines_of, ended_lines}
 use Rattle.ft_script.specs.Script.{line_limit, asked_by}
 use Rattle.ft_desk.specs.Output.{Meaning, output_from, output_of_lines}
 use Rattle.ft_desk.specs.Run.{asking_limit, ReadsToEnd, ReadsFront, ReadsTo}

@@ -7,7 +7,7 @@ use Rattle.ft_answers.specs.Base.{Base, empty_base}
 use Rattle.ft_desk.specs.declared.running.Status.{Status}
 use Rattle.ft_desk.specs.declared.running.RunFault.{RunFault}
 use Rattle.ft_desk.specs.declared.running.RunFault.TheVariants as faults
-use Rattle.ft_script.specs.Lines.{lines_of, ended_lines}
+use Rattle.ft_text.specs.Lines.{lines_of, ended_lines}
 use Rattle.ft_desk.specs.Output.{Meaning, output_from, output_by, output_of_lines}
 use Rattle.ft_desk.specs.Run.{ReadsTo, ReadsLines, WritesFront, WritesInOrder, text_behind, RunEnds}
 use Rattle.ft_desk.proofs.LineLemmas.{last_piece, lines_of-split}

@@ -1,11 +1,11 @@
-pub mod Edits
-pub mod Found
 pub mod Output
 pub mod Counts
 pub mod Run
 pub mod Steps
 pub mod Program
 pub mod inner
+pub use Rattle.ft_desk_core.specs.Edits
+pub use Rattle.ft_desk_core.specs.Found
 pub use Rattle.ft_fields.specs.Traced
 pub use Rattle.ft_event.specs.Line
 pub use Rattle.ft_event.specs.LineFault
@@ -24,7 +24,7 @@ pub use Rattle.ft_answers.specs.Edited
 pub use Rattle.ft_answers.specs.Shown
 pub use Rattle.ft_answers.specs.Answers
 pub use Rattle.ft_answers.specs.Reporting
-pub use Rattle.ft_script.specs.Lines
+pub use Rattle.ft_text.specs.Lines
 pub use Rattle.ft_script.specs.Script
 pub use Rattle.ft_script.specs.Files
 pub use Rattle.ft_script.specs.Words

@@ -6,13 +6,13 @@ use Rattle.ft_base.specs.declared.refused.Refused.TheVariants.{NoFile, BadComman
 use Rattle.ft_answers.specs.Base.{Base, empty_base}
 use Rattle.ft_answers.specs.After.{after_unload, after_strike, after_remove}
 use Rattle.ft_answers.specs.Answers.{hist_text, totals, latencies, list_text}
-use Rattle.ft_script.specs.Lines.{lines_of}
+use Rattle.ft_text.specs.Lines.{lines_of}
 use Rattle.ft_script.specs.Script.{Asked, asked_by}
 use Rattle.ft_script.specs.declared.script.Numbered.{Numbered}
 use Rattle.ft_script.specs.declared.script.Numbered.TheVariants as numbers
 use Rattle.ft_script.specs.Answered.{totals_line, lane_place_text, latency_lines}
 use Rattle.ft_script.specs.Refusals.{refused_text}
-use Rattle.ft_desk.specs.Edits.{after_load_text, after_insert_text, after_attach_text, after_refilter_text}
+use Rattle.ft_desk_core.specs.Edits.{after_load_text, after_insert_text, after_attach_text, after_refilter_text}
 
 -- the Nth file, from 1
 abbrev pub file_at : List (List ℕ) → ℕ → Option (List ℕ)

@@ -6,7 +6,7 @@ use Rattle.ft_desk.specs.declared.running.Status.{Status}
 use Rattle.ft_desk.specs.declared.running.Status.TheVariants.{AllAccepted, SomeRefused}
 use Rattle.ft_desk.specs.declared.running.RunFault.{RunFault}
 use Rattle.ft_desk.specs.declared.running.RunFault.TheVariants as faults
-use Rattle.ft_script.specs.Lines.{lines_of, ended_lines}
+use Rattle.ft_text.specs.Lines.{lines_of, ended_lines}
 use Rattle.ft_script.specs.Script.{asked_by}
 use Rattle.ft_desk.specs.Output.{Meaning, output_by, output_of_lines}
 

@@ -5,11 +5,11 @@ ghost use Rattle.ft_answers.specs.Base.{empty_base};
 ghost use Rattle.ft_desk.specs.Output.{output};
 ghost use Rattle.ft_desk.specs.Run.{status_of};
 
-use crate::desk::Desk;
 use crate::performing::perform;
 use crate::running::{Status, status_from};
 use ft_answers::Board;
-use ft_script::next_line;
+use ft_desk_core::Desk;
+use ft_text::next_line;
 use std::alloc::{AllocError, Global};
 
 /// What a script in memory printed, and how it ended.

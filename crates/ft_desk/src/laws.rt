@@ -2,7 +2,7 @@
 
 ghost use Rattle.std.specs.Prelude.{ℕ, List, Option, Some, Result, take};
 ghost use Rattle.std.specs.Io.{StartsWith};
-ghost use Rattle.ft_script.specs.Lines.{lines_of};
+ghost use Rattle.ft_text.specs.Lines.{lines_of};
 ghost use Rattle.ft_desk.specs.declared.running.RunFault.{RunFault};
 ghost use Rattle.ft_desk.specs.declared.running.Status.{Status};
 ghost use Rattle.ft_desk.specs.Output.{Meaning, output_by, output_of_lines};

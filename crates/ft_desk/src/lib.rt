@@ -1,7 +1,8 @@
-//! The desk: texts in, edits and answers of a board out; scripts, a command each line, with what each
-//! command prints; and the program, all but its `main`. What a script prints is a function of the
-//! script and its trace files: `run_text` answers it, and `run` writes it, where reader and writer
-//! tell their bytes. All is over any board. What a caller names of the crates below is passed on.
+//! Scripts over a desk, a command each line, with what each command prints; and the program, all but
+//! its `main`. What a script prints is a function of the script and its trace files: `run_text`
+//! answers it, and `run` writes it, where reader and writer tell their bytes. All is over any board.
+//! The desk itself stands below, in `ft_desk_core`; it, and what else a caller names of the crates
+//! below, is passed on.
 //!
 //! ```ignore
 //! let script = b"attach sched_waking hist:keys=pid\ntotals 1\nhist 2\n";
@@ -16,21 +17,10 @@
 //!
 //! # Contracts
 //!
-//! - `Desk`, over every board: says of texts what the clauses of `Board` say of events, triggers and
-//!   filters: `after_load_text`, `after_insert_text`, `after_attach_text`, `after_refilter_text`
-//!   (`specs/Edits.antt`). The first line that can't be read is named; `refilter` looks the id up
-//!   before it reads the filter. The board's counts and reports are the desk's. Lets through: what
-//!   the board does.
-//! - `Desk::event`, `events`, `lane`, `matching`, `attached`, `trigger_text`: functions of the base
-//!   (`specs/Found.antt`, `ft_answers/specs/Places.antt`), which they leave as it is. All except
-//!   `event` let through: running out of memory at any time.
-//! - `Desk::waits`: the switches to tasks among the held events, each with where its task became
-//!   runnable; exact, `dispatches_held` of `ft_held_waits`. Lets through: running out of memory at any
-//!   time.
 //! - `perform`: what one script line prints, whether it is refused, and the base after it:
 //!   `outcome` (`specs/Output.antt`). Lets through: running out of memory at any time, and then
 //!   holding anything; any number of steps; putting the tables off.
-//! - `refused`: the line of a refusal, exact; it fails where the refusal is that memory ran out.
+//! - `print_refusal`: the line of a refusal, exact; it fails where the refusal is that memory ran out.
 //!   Lets through: running out of memory at any time.
 //! - `run_text`, over every board: what a script in memory prints is the text of `output` of files
 //!   and script, and its status is that of `output`. Lets through: running out of memory at any
@@ -49,9 +39,9 @@
 //!     1,073,741,824 lines that byte 10 ended were read.
 //!   - Lets through: where the reader tells nothing, each case speaks of some script, and where the
 //!     writer tells nothing, of no bytes: so it is with the system's streams.
-//! - `run_counted`, over every `Session`, reader and writer, which `run` and both programs call: it
+//! - `run_counted`, over every `Interpreter`, reader and writer, which `run` and both programs call: it
 //!   takes the two as a `CountedReader` and a `CountedWriter`, whose private fields leave no way to
-//!   them but calls that count. `RunEnds` of what commands mean to the session. The reader is asked
+//!   them but calls that count. `RunEnds` of what commands mean to the interpreter. The reader is asked
 //!   1,073,741,824 times at most. It fails at most once, and then the answer is `Read`, which is
 //!   answered else only where it was asked so often (`AsksReader`, `specs/Steps.antt`). An answer
 //!   `Write` comes with the one failed write and no flush, in the text of the last line that was
@@ -61,8 +51,8 @@
 //!   methods `ask`, `consume`, `write` and `flush` of the two types do beside their count, which
 //!   their few lines show. The private `ask` requires that the reader has not failed, `write` that
 //!   no write has, so that neither is called again after that.
-//! - Trait `Session`, met by `Desk`: what a line prints, whether it is refused and what is held
-//!   then is what commands mean to the session (`means`, a `Meaning` of `specs/Output.antt`); to a
+//! - Trait `Interpreter`, met by `Desk`: what a line prints, whether it is refused and what is held
+//!   then is what commands mean to the interpreter (`means`, a `Meaning` of `specs/Output.antt`); to a
 //!   desk that is `outcome`. Lets through: what `perform` does.
 //! - Laws `first_lines`, `what_runs_write`: whatever commands mean, the output of the first lines
 //!   of a script is a beginning of the whole script's; however a run ends, what it wrote is a
@@ -72,7 +62,7 @@
 //!   standard error; and, of the system's files and standard input, of which nothing is told, all
 //!   that `run_words` says of told ones. The tests of the built program show these.
 //! - `read_traces`, `run_words` and `run_script`, which are private, over all that opens paths and
-//!   every session: `ProgramEnds` (`specs/inner/Ends.antt`). Words that name nothing are refused as
+//!   every interpreter: `ProgramEnds` (`specs/inner/Ends.antt`). Words that name nothing are refused as
 //!   such, and only they. Else a path is told that cannot be read while all traces before it can,
 //!   the script's last. Else the script that the words name is run with the files at the paths that
 //!   they name, in order, and the status is that of `output`. Lets through: running out of memory
@@ -80,23 +70,21 @@
 #![tactic(auto)]
 
 mod counted;
-mod desk;
-mod events;
 mod in_memory;
+mod interpreter;
 pub mod laws;
 mod performing;
 mod pieces;
 mod program;
 mod running;
 mod sending;
-mod session;
 
 pub use counted::{Calls, CountedReader, CountedWriter};
-pub use desk::Desk;
 pub use ft_answers::{
     AttachedTrigger, Board, Changed, Done, Edited, Kept, Latency, Pair, Place, PlainBoard, Refused,
     Row, TableRow,
 };
+pub use ft_desk_core::Desk;
 pub use ft_dispatch::{Began, Cause, Dispatch, Left, Since};
 pub use ft_event::{Event, LineFault, Name};
 pub use ft_fields::Pos;
@@ -105,8 +93,8 @@ pub use ft_script::{FileFault, Words, WordsFault, read_file, read_whole, read_wo
 pub use ft_table::Totals;
 pub use ft_trigger::{Key, Part, TriggerFault};
 pub use in_memory::{Ran, run_text};
+pub use interpreter::Interpreter;
 pub use laws::{first_lines, what_runs_write};
-pub use performing::{Performed, perform, refused};
+pub use performing::{Performed, perform, print_refusal};
 pub use program::{Fault, histdesk, run_program};
 pub use running::{ASKING_LIMIT, RunFault, Status, run, run_counted};
-pub use session::Session;

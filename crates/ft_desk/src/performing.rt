@@ -8,8 +8,8 @@ ghost use Rattle.ft_script.specs.Refusals.{refused_text};
 ghost use Rattle.ft_desk.specs.Output.{outcome, outcome_about, file_at, after_load_file};
 ghost use Rattle.ft_desk.specs.inner.Printed.{Prints, PrintsEdit, PrintsAnswer, TellsPlace};
 
-use crate::desk::Desk;
 use ft_answers::{Board, Done, Edited, Place, Refused};
+use ft_desk_core::Desk;
 use ft_script::{Answer, Command, EditValue, Numbered, done_line, read_command, refused_line};
 use std::alloc::{AllocError, Global};
 
@@ -43,7 +43,7 @@ pub fn perform<B: Board>(
     obey(desk, alloc, files, read_command(line))
 }
 
-/// Does what a command asks of a desk.
+/// Performs a command.
 #[tactic(auto, unfolding(crate::specs::Output::outcome))]
 fn obey<B: Board>(
     desk: &mut Desk<B>,
@@ -59,17 +59,21 @@ fn obey<B: Board>(
             text: Vec::new(alloc),
             refused: false,
         }),
-        Command::Load(number) => edited(alloc, b"loaded ", load_file(desk, files, number)),
-        Command::Insert(line) => edited(alloc, b"inserted ", placed(desk.insert(line))),
-        Command::Strike(cpu, line) => edited(alloc, b"struck ", placed(desk.strike(cpu, line))),
-        Command::Attach(event, text) => edited(alloc, b"attached ", desk.attach(event, text)),
-        Command::Refilter(id, text) => edited(alloc, b"refiltered ", desk.refilter(id, text)),
+        Command::Load(number) => print_edit(alloc, b"loaded ", load_file(desk, files, number)),
+        Command::Insert(line) => print_edit(alloc, b"inserted ", without_report(desk.insert(line))),
+        Command::Strike(cpu, line) => print_edit(
+            alloc,
+            b"struck ",
+            without_report(desk.strike(cpu, line)),
+        ),
+        Command::Attach(event, text) => print_edit(alloc, b"attached ", desk.attach(event, text)),
+        Command::Refilter(id, text) => print_edit(alloc, b"refiltered ", desk.refilter(id, text)),
         Command::About(what, number) => about(desk, alloc, what, number),
-        Command::NoForm => refused(alloc, Refused::BadCommand),
+        Command::NoForm => print_refusal(alloc, Refused::BadCommand),
     }
 }
 
-/// Does what is asked of a desk about one number: a lane's CPU, or a trigger's id.
+/// Performs a command about one number: a lane's CPU, or a trigger's id.
 #[tactic(auto, unfolding(crate::specs::Output::outcome_about))]
 fn about<B: Board>(
     desk: &mut Desk<B>,
@@ -80,12 +84,12 @@ fn about<B: Board>(
     ensures { Prints (outcome_about desk.old.base what number) desk.new.base result }
 {
     match what {
-        Numbered::Unload => edited(alloc, b"unloaded ", desk.unload(number)),
-        Numbered::Remove => edited(alloc, b"removed ", desk.remove(number)),
-        Numbered::Hist => answered(alloc, desk.hist(number)),
-        Numbered::Totals => answered(alloc, desk.totals(number)),
-        Numbered::Latencies => answered(alloc, desk.latencies(number)),
-        Numbered::Lane => answered(alloc, desk.list(number)),
+        Numbered::Unload => print_edit(alloc, b"unloaded ", desk.unload(number)),
+        Numbered::Remove => print_edit(alloc, b"removed ", desk.remove(number)),
+        Numbered::Hist => print_answer(alloc, desk.hist(number)),
+        Numbered::Totals => print_answer(alloc, desk.totals(number)),
+        Numbered::Latencies => print_answer(alloc, desk.latencies(number)),
+        Numbered::Lane => print_answer(alloc, desk.list(number)),
     }
 }
 
@@ -115,8 +119,8 @@ fn nth_file(files: &[Vec<u8>], number: u32) -> Option<&[u8]>
     files.get(index as usize).map(|file| file.as_slice())
 }
 
-/// What an edit of one event prints of what it gives: the place. No script prints a report.
-fn placed(edit: Result<Done<Edited>, Refused>) -> Result<Done<Place>, Refused>
+/// An edit of one event with only its place, since no script prints a report.
+fn without_report(edit: Result<Done<Edited>, Refused>) -> Result<Done<Place>, Refused>
     ensures { TellsPlace edit result }
 {
     let done = edit?;
@@ -126,8 +130,8 @@ fn placed(edit: Result<Done<Edited>, Refused>) -> Result<Done<Place>, Refused>
     })
 }
 
-/// What an edit prints: its word and its value, or its refusal.
-fn edited<V: EditValue>(
+/// Prints an edit: its word and its value, or its refusal.
+fn print_edit<V: EditValue>(
     alloc: Global,
     word: &[u8],
     edit: Result<Done<V>, Refused>,
@@ -139,12 +143,15 @@ fn edited<V: EditValue>(
             text: done_line(alloc, word, done.value)?,
             refused: false,
         }),
-        Err(reason) => refused(alloc, reason),
+        Err(reason) => print_refusal(alloc, reason),
     }
 }
 
-/// What an answer prints: its lines, or its refusal.
-fn answered<A: Answer>(alloc: Global, answer: Result<A, Refused>) -> Result<Performed, AllocError>
+/// Prints an answer: its lines, or its refusal.
+fn print_answer<A: Answer>(
+    alloc: Global,
+    answer: Result<A, Refused>,
+) -> Result<Performed, AllocError>
     ensures { PrintsAnswer A.seen A.shown answer result }
 {
     match answer {
@@ -152,13 +159,13 @@ fn answered<A: Answer>(alloc: Global, answer: Result<A, Refused>) -> Result<Perf
             text: answer.into_lines(alloc)?,
             refused: false,
         }),
-        Err(reason) => refused(alloc, reason),
+        Err(reason) => print_refusal(alloc, reason),
     }
 }
 
-/// What a refusal prints. Out of memory has no line: it is a failure, as it is where the text finds
-/// no memory.
-pub fn refused(alloc: Global, reason: Refused) -> Result<Performed, AllocError>
+/// Prints a refusal. Out of memory has no line: it is a failure, as it is if there is no memory for
+/// the text.
+pub fn print_refusal(alloc: Global, reason: Refused) -> Result<Performed, AllocError>
     ensures text { IfOk result (λ done. done.text.items ≡ refused_text reason) }
     ensures refused { IfOk result (λ done. done.refused ≡ true) }
     ensures memory { OnOk result (reason ≢ Refused.Memory) }

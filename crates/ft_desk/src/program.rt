@@ -10,10 +10,10 @@ ghost use Rattle.ft_desk.specs.inner.Ends.{RunTells, ProgramEnds};
 ghost use Rattle.ft_desk.specs.declared.program.Fault.TheVariants.{Memory};
 
 use crate::counted::{CountedReader, CountedWriter};
-use crate::desk::Desk;
+use crate::interpreter::Interpreter;
 use crate::running::{RunFault, Status, run_counted};
-use crate::session::Session;
 use ft_answers::Board;
+use ft_desk_core::Desk;
 use ft_script::{FileFault, Paths, WordsFault, read_file, read_words};
 use std::alloc::{AllocError, AllocFailed, Global};
 use std::io::{BufReader, ErrorKind, Read};
@@ -121,18 +121,18 @@ where
 
 /// A program of a name that runs the script of its words, over what answers its lines and holds
 /// nothing yet: its exit status, as that of `histdesk`.
-pub fn run_program<P, S>(rt: &P, name: &str, session: S) -> u8
+pub fn run_program<P, S>(rt: &P, name: &str, interpreter: S) -> u8
 where
     P: Env + Files + Input + Print + Eprint + AllocGlobal,
-    S: Session,
-    requires { S.base session ≡ empty_base }
+    S: Interpreter,
+    requires { S.base interpreter ≡ empty_base }
     ensures { result ≤ 2 }
 {
     let args = match arguments(rt) {
         Ok(args) => args,
         Err(error) => return exit_status(rt, name, Err(Fault::of_arguments(&error))),
     };
-    exit_status(rt, name, run_words(rt, session, args.as_slice()))
+    exit_status(rt, name, run_words(rt, interpreter, args.as_slice()))
 }
 
 /// The program's words, its own name first.
@@ -155,21 +155,21 @@ fn exit_status<P: Eprint>(rt: &P, name: &str, ended: Result<Status, Fault<'_>>) 
 }
 
 /// Reads the words, then the trace files in order, then runs the script: the first fault decides.
-fn run_words<'a, P, S>(rt: &P, session: S, args: &'a [String]) -> Result<Status, Fault<'a>>
+fn run_words<'a, P, S>(rt: &P, interpreter: S, args: &'a [String]) -> Result<Status, Fault<'a>>
 where
     P: Paths + Input + Print + AllocGlobal,
-    S: Session,
-    requires { S.base session ≡ empty_base }
+    S: Interpreter,
+    requires { S.base interpreter ≡ empty_base }
     ensures { ProgramEnds S.means (P.told rt.now) (named_by_words (map string_bytes args.entry.now)) result }
 {
     let alloc = rt.alloc();
     let words = read_words(alloc, args)?;
     let traces = read_traces(alloc, rt, words.traces.as_slice())?;
     let Some(path) = words.script else {
-        return run_script(rt, session, traces.as_slice(), rt.reader());
+        return run_script(rt, interpreter, traces.as_slice(), rt.reader());
     };
     match rt.open_at(path) {
-        Ok(script) => run_script(rt, session, traces.as_slice(), script),
+        Ok(script) => run_script(rt, interpreter, traces.as_slice(), script),
         Err(error) => Err(Fault::at(path, FileFault::from(error))),
     }
 }
@@ -196,15 +196,15 @@ fn read_traces<'a, P: Paths>(
 /// Runs a script from its reader to standard output.
 fn run_script<'a, P, S, R>(
     rt: &P,
-    mut session: S,
+    mut interpreter: S,
     traces: &[Vec<u8>],
     script: R,
 ) -> Result<Status, Fault<'a>>
 where
     P: Print + AllocGlobal,
-    S: Session,
+    S: Interpreter,
     R: Read + Drop,
-    requires { S.base session ≡ empty_base }
+    requires { S.base interpreter ≡ empty_base }
     ensures { (told : FileAt) → TellsReader told (R.remaining script)
         → RunTells (S.means (map (λ trace. trace.items) traces.now)) told result }
 {
@@ -214,8 +214,8 @@ where
     let mut out = io::writer(rt);
     let mut script = CountedReader::new(&mut script);
     let mut out = CountedWriter::new(&mut out);
-    let ended = run_counted(&mut session, traces, &mut script, &mut out);
+    let ended = run_counted(&mut interpreter, traces, &mut script, &mut out);
     // The process ends next, and with it goes all that is held at once.
-    mem::forget(session);
+    mem::forget(interpreter);
     Ok(ended?)
 }

@@ -11,11 +11,11 @@ ghost use Rattle.ft_desk.specs.Steps.{LineGives, AsksReader, CallsWriter, write_
 ghost use Rattle.ft_desk.specs.Steps.{LinesEnd, FlushGives};
 
 use crate::counted::{CountedReader, CountedWriter};
-use crate::desk::Desk;
+use crate::interpreter::Interpreter;
 use crate::pieces::{Taken, take_part};
 use crate::sending::send;
-use crate::session::Session;
 use ft_answers::Board;
+use ft_desk_core::Desk;
 use std::alloc::{AllocError, Global};
 use std::io::{BufRead, Write};
 use thiserror::Error;
@@ -79,13 +79,13 @@ pub fn run<B: Board, R: BufRead, W: Write>(
 /// holds at the end is left to the caller. Reader and writer count their calls, and were not called
 /// yet: the reader is asked `ASKING_LIMIT` times at most, and not again after it failed; nothing is
 /// written after a failed write; the writer is flushed once, but not after a failed write.
-pub fn run_counted<S: Session, R: BufRead, W: Write>(
-    session: &mut S,
+pub fn run_counted<S: Interpreter, R: BufRead, W: Write>(
+    interpreter: &mut S,
     files: &[Vec<u8>],
     script: &mut CountedReader<'_, R>,
     out: &mut CountedWriter<'_, W>,
 ) -> Result<Status, RunFault>
-    requires empty { S.base session.old ≡ empty_base }
+    requires empty { S.base interpreter.old ≡ empty_base }
     requires unasked { NoCalls script.old.asked }
     requires unwritten { NoCalls out.old.written }
     requires unflushed { NoCalls out.old.flushed }
@@ -101,19 +101,19 @@ pub fn run_counted<S: Session, R: BufRead, W: Write>(
     ensures same_reader { script.new.reader.ghost_name ≡ script.old.reader.ghost_name }
     ensures same_writer { out.new.writer.ghost_name ≡ out.old.writer.ghost_name }
 {
-    let answer = answer_script(session, files, script, out);
+    let answer = answer_script(interpreter, files, script, out);
     flush_after(answer, out)
 }
 
 /// Answers the lines of a script, one after the other. The reader is asked `ASKING_LIMIT` times at
 /// most, and not again once it failed.
-fn answer_script<S: Session, R: BufRead, W: Write>(
-    session: &mut S,
+fn answer_script<S: Interpreter, R: BufRead, W: Write>(
+    interpreter: &mut S,
     files: &[Vec<u8>],
     script: &mut CountedReader<'_, R>,
     out: &mut CountedWriter<'_, W>,
 ) -> Result<Status, RunFault>
-    requires empty { S.base session.old ≡ empty_base }
+    requires empty { S.base interpreter.old ≡ empty_base }
     requires unasked { NoCalls script.old.asked }
     requires unwritten { NoCalls out.old.written }
     ensures ends { LinesEnd (S.means (map (λ f. f.items) files.now)) result
@@ -126,18 +126,18 @@ fn answer_script<S: Session, R: BufRead, W: Write>(
     ensures same_reader { script.new.reader.ghost_name ≡ script.old.reader.ghost_name }
     ensures same_writer { out.new.writer.ghost_name ≡ out.old.writer.ghost_name }
 {
-    let mut piece = Vec::new(session.alloc());
+    let mut piece = Vec::new(interpreter.alloc());
     let mut refused = false;
     for _turn in 0..ASKING_LIMIT {
         match take_part(script, &mut piece)? {
             Taken::Part => {}
             Taken::Line => {
-                refused |= answer_line(session, files, &piece, out)?;
+                refused |= answer_line(interpreter, files, &piece, out)?;
                 piece.clear();
             }
             Taken::End => {
                 if !piece.is_empty() {
-                    refused |= answer_line(session, files, &piece, out)?;
+                    refused |= answer_line(interpreter, files, &piece, out)?;
                 }
                 return Ok(status_from(refused));
             }
@@ -147,21 +147,21 @@ fn answer_script<S: Session, R: BufRead, W: Write>(
 }
 
 /// Does what a line asks for, and then writes what it prints: whether it was refused.
-fn answer_line<S: Session, W: Write>(
-    session: &mut S,
+fn answer_line<S: Interpreter, W: Write>(
+    interpreter: &mut S,
     files: &[Vec<u8>],
     line: &[u8],
     out: &mut CountedWriter<'_, W>,
 ) -> Result<bool, RunFault>
     requires well { out.old.written.failed ≡ 0 }
     ensures gives { LineGives
-        (S.means (map (λ f. f.items) files.now) (S.base session.old) (asked_by line.now))
-        (S.base session.new) (W.contents out.old.writer.now) (W.contents out.new.writer.now) result }
+        (S.means (map (λ f. f.items) files.now) (S.base interpreter.old) (asked_by line.now))
+        (S.base interpreter.new) (W.contents out.old.writer.now) (W.contents out.new.writer.now) result }
     ensures failed { out.new.written.failed ≡ write_failures result }
     ensures flushed { out.new.flushed ≡ out.old.flushed }
     ensures same { out.new.writer.ghost_name ≡ out.old.writer.ghost_name }
 {
-    let done = match session.perform(files, line) {
+    let done = match interpreter.perform(files, line) {
         Ok(done) => done,
         Err(AllocError) => return Err(RunFault::Memory),
     };

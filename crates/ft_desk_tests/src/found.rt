@@ -66,7 +66,7 @@ fn counts_in_numbers<B: Board>(mut desk: Desk<B>) -> Result<bool, Refused> {
         read: FIRST,
     };
     Ok(
-        desk.counts(2)?.as_slice() == [row].as_slice()
+        desk.rows(2)?.as_slice() == [row].as_slice()
             && desk.pairs(2)?.as_slice() == [pair].as_slice(),
     )
 }
@@ -85,7 +85,7 @@ fn no_numbers_of_others(rt: HostRuntime) -> Result<(), Fail> {
     let mut desk = measuring(alloc, KeptBoard::new(alloc))?;
     assert!(rt; matches!(desk.pairs(1), Err(Refused::NotReading)));
     assert!(rt; matches!(desk.pairs(3), Err(Refused::NoTrigger)));
-    assert!(rt; matches!(desk.counts(3), Err(Refused::NoTrigger)));
+    assert!(rt; matches!(desk.rows(3), Err(Refused::NoTrigger)));
     Ok(())
 }
 
@@ -154,7 +154,7 @@ fn which_triggers_are_attached(rt: HostRuntime) -> Result<(), Fail> {
         id: 2,
         event: Name::Switch,
     };
-    assert!(rt; desk.attached()?.as_slice() == [saver, reader].as_slice());
+    assert!(rt; desk.attached_triggers()?.as_slice() == [saver, reader].as_slice());
     let text: &[u8] =
         b"hist:keys=pid:vals=hitcount:ts0=common_timestamp.usecs:sort=hitcount:size=2048";
     assert!(rt; desk.trigger_text(1)?.as_slice() == text);

@@ -279,7 +279,10 @@ fn shows_and_lists<B: Board>(desk: &mut Desk<B>) -> bool {
 
 /// Whether trigger 2 tells its table's one row, among all and by its key.
 fn tells_row<B: Board>(desk: &mut Desk<B>) -> bool {
-    match (desk.rows(2), desk.row(2, &Key::of_one(Part::Num(42)))) {
+    match (
+        desk.row_texts(2),
+        desk.row_text(2, &Key::of_one(Part::Num(42))),
+    ) {
         (Ok(rows), Ok(Some(row))) => rows.len() == 1 && row.as_slice() == ROW,
         _ => false,
     }

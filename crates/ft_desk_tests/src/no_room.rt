@@ -78,15 +78,15 @@ impl Board for NoRoom {
         Err(Refused::Memory)
     }
 
-    fn rows(&mut self, _id: u32) -> Result<Vec<TableRow>, Refused> {
+    fn row_texts(&mut self, _id: u32) -> Result<Vec<TableRow>, Refused> {
         Err(Refused::Memory)
     }
 
-    fn counts(&mut self, _id: u32) -> Result<Vec<Row>, Refused> {
+    fn rows(&mut self, _id: u32) -> Result<Vec<Row>, Refused> {
         Err(Refused::Memory)
     }
 
-    fn row(&mut self, _id: u32, _key: &Key) -> Result<Option<Vec<u8>>, Refused> {
+    fn row_text(&mut self, _id: u32, _key: &Key) -> Result<Option<Vec<u8>>, Refused> {
         Err(Refused::Memory)
     }
 

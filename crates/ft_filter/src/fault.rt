@@ -11,23 +11,23 @@ pub enum FilterFault {
     /// Memory ran out.
     #[error("out of memory")]
     Memory,
-    /// A token that may not stand here; at the end of the text, its length.
-    #[error("no such thing may stand here")]
+    /// A token that is not allowed here. At the end of the text, the place is the text's length.
+    #[error("unexpected token")]
     Syntax(usize),
     /// The event has no such field.
     #[error("the event has no such field")]
     NoField(usize),
-    /// The operator is not one of the field's kind, or the value is not of it.
-    #[error("the operator or the value is of another kind than the field")]
+    /// The operator or the value does not match the type of the field.
+    #[error("the operator or the value does not match the type of the field")]
     WrongKind(usize),
-    /// The value after `~` is no glob.
-    #[error("this is no pattern")]
+    /// The value after `~` is not a glob.
+    #[error("invalid glob pattern")]
     BadGlob(usize),
-    /// The number is not one of 64 bits with a sign.
-    #[error("the number isn't in -2^63 to 2^63-1")]
+    /// The number does not fit into 64 bits with a sign.
+    #[error("the number is not between -2^63 and 2^63-1")]
     NumberRange(usize),
-    /// More than 32 of `(` and `!` are open.
-    #[error("more than 32 of ( and ! are open")]
+    /// More than 32 `(` and `!` are open.
+    #[error("more than 32 nested ( and !")]
     TooDeep,
 }
 
@@ -47,7 +47,7 @@ impl FilterFault {
         }
     }
 
-    /// The byte of the text that it is at, from 0, where it has a place.
+    /// The byte of the text at which it was found, from 0; `None` if it has no place.
     pub fn place(self) -> Option<usize>
         ensures { result ≡ filter_place self }
     {

@@ -50,7 +50,7 @@ pub fn parse(alloc: Global, text: &[u8], event: Name) -> Result<Filter, FilterFa
     Ok(Filter::new(event, parsed.expr))
 }
 
-/// What is after the joint, where it stands next.
+/// The text after the joint, if the joint comes next.
 fn behind_joint(joint: Joint, text: &[u8]) -> Option<&[u8]>
     ensures value { option_copied result ≡ behind_joint joint text.now }
     ensures shorter { IfSome result (λ rest. length rest.now < length text.now) }
@@ -58,7 +58,7 @@ fn behind_joint(joint: Joint, text: &[u8]) -> Option<&[u8]>
     skip(text).strip_prefix(joint.text())
 }
 
-/// Reads operands of a joint, or one alone.
+/// Reads operands of a joint, or a single one.
 #[cycle(read)]
 fn read_joined<'a>(
     source: Source,
@@ -117,7 +117,7 @@ fn read_more<'a>(
         rest = next.rest;
     }
     Ok(Parsed {
-        expr: joined(joint, operands),
+        expr: join(joint, operands),
         rest,
     })
 }
@@ -135,7 +135,7 @@ fn read_operand<'a>(source: Source, room: u32, text: &'a [u8]) -> Result<Parsed<
     if let Some(behind) = text.strip_prefix(b"(") {
         return read_enclosed(source, room, behind);
     }
-    compared(source, text)
+    read_predicate(source, text)
 }
 
 /// Reads the operand after a `!`.
@@ -149,7 +149,7 @@ fn read_not<'a>(source: Source, room: u32, behind: &'a [u8]) -> Result<Parsed<'a
         return Err(FilterFault::TooDeep);
     }
     let operand = read_operand(source, room - 1, behind)?;
-    negated(source.alloc, operand.expr, operand.rest)
+    negate(source.alloc, operand.expr, operand.rest)
 }
 
 /// Reads the operands after a `(`, and the `)` after them.
@@ -163,24 +163,24 @@ fn read_enclosed<'a>(source: Source, room: u32, behind: &'a [u8]) -> Result<Pars
         return Err(FilterFault::TooDeep);
     }
     let inside = read_joined(source, Joint::Or, room - 1, behind)?;
-    closed(source, inside.expr, inside.rest)
+    close_group(source, inside.expr, inside.rest)
 }
 
 /// Reads a field, an operator and a value.
-fn compared(source: Source, text: &[u8]) -> Result<Parsed<'_>, FilterFault>
+fn read_predicate(source: Source, text: &[u8]) -> Result<Parsed<'_>, FilterFault>
     ensures reads { GivesTree (λ read. read ≡ made Test (pred_at source.event source.len text.now))
         result }
     ensures shorter { IfOk result (λ parsed. length parsed.rest.now < length text.now) }
 {
-    let compared = predicate(source, text)?;
+    let parsed = predicate(source, text)?;
     Ok(Parsed {
-        expr: Expr::Pred(compared.pred),
-        rest: compared.rest,
+        expr: Expr::Pred(parsed.pred),
+        rest: parsed.rest,
     })
 }
 
-/// That an operand does not hold, and the text after it.
-fn negated(alloc: Global, operand: Expr, rest: &[u8]) -> Result<Parsed<'_>, FilterFault>
+/// The negation of an operand, and the text after it.
+fn negate(alloc: Global, operand: Expr, rest: &[u8]) -> Result<Parsed<'_>, FilterFault>
     ensures reads { GivesTree (λ read. read ≡ Found (Not (tree_of operand)) rest.now) result }
     ensures same { IfOk result (λ parsed. parsed.rest.now ≡ rest.now) }
 {
@@ -193,8 +193,8 @@ fn negated(alloc: Global, operand: Expr, rest: &[u8]) -> Result<Parsed<'_>, Filt
     }
 }
 
-/// What is in parentheses, where the closing one stands in the text after it.
-fn closed(source: Source, inside: Expr, rest: &[u8]) -> Result<Parsed<'_>, FilterFault>
+/// Reads the closing parenthesis after the operands in a group.
+fn close_group(source: Source, inside: Expr, rest: &[u8]) -> Result<Parsed<'_>, FilterFault>
     ensures reads { GivesTree (λ read. read ≡ parenthesised source.len (Found (tree_of inside) rest.now))
         result }
     ensures shorter { IfOk result (λ parsed. length parsed.rest.now < length rest.now) }
@@ -220,8 +220,8 @@ fn add(operands: &mut Exprs, expr: Expr) -> Result<(), FilterFault>
     }
 }
 
-/// What a joint makes of operands.
-fn joined(joint: Joint, operands: Exprs) -> Expr
+/// Operands, joined.
+fn join(joint: Joint, operands: Exprs) -> Expr
     ensures { tree_of result ≡ tree_of_joint joint (trees (trees_in operands)) }
 {
     match joint {

@@ -8,8 +8,8 @@ use Rattle.ft_fields.specs.declared.field.Field.{Field}
 use Rattle.ft_fields.specs.Fields.{is_field_named, all_fields}
 use Rattle.ft_hist.specs.declared.item.KeyItem.{KeyItem}
 use Rattle.std.specs.Option.{option_map_or, is_some}
-use Rattle.ft_head.specs.declared.fault.TriggerFault.{TriggerFault}
-use Rattle.ft_head.specs.declared.fault.TriggerFault.TheVariants.{LeftOut, BadModifier, Duplicate}
+use Rattle.ft_hist.specs.declared.fault.TriggerFault.{TriggerFault}
+use Rattle.ft_hist.specs.declared.fault.TriggerFault.TheVariants.{LeftOut, BadModifier, Duplicate}
 use Rattle.ft_text.specs.Items.{Word, same_word, is_word}
 use Rattle.ft_head.specs.Draft.{with_key, with_field, with_value, unless, value_fault, is_left_out, is_no_key, besides_hitcount}
 

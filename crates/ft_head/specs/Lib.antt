@@ -4,13 +4,13 @@ pub mod Given
 pub mod Onmatch
 pub mod PartSpelling
 pub mod Sizes
-pub mod TriggerFault
 pub mod inner
 pub use Rattle.ft_fields.specs.Fields
 pub use Rattle.ft_fields.specs.Names
 pub use Rattle.ft_hist.specs.Hit
 pub use Rattle.ft_hist.specs.Modifiers
 pub use Rattle.ft_hist.specs.Powers
+pub use Rattle.ft_hist.specs.TriggerFault
 pub use Rattle.ft_text.specs.Tokens
 pub use Rattle.ft_text.specs.Items
 pub use Rattle.ft_text.specs.Spelling

@@ -18,20 +18,19 @@
 //!
 //! - `parts_of`: the draft that the parts make, or the first fault among them with its place, as
 //!   `parts_from` has it (`specs/Draft.antt`). Lets through: running out of memory at any time.
-//! - `Draft`, `Action`, `TriggerFault::number`, `TriggerFault::place`: exact.
+//! - `Draft`, `Action`: exact. `TriggerFault` is that of `ft_hist`, passed on.
 //! - Law `sizes`: the size that a text writes.
 //! - Law `one_action`: onmatch parts are what they make when they are written again
 //!   (`specs/Onmatch.antt`, `specs/PartSpelling.antt`).
 #![tactic(auto)]
 
 mod draft;
-mod fault;
 pub mod laws;
 mod lists;
 mod onmatch;
 
 pub use draft::{Draft, Kind, parts_of};
-pub use fault::TriggerFault;
+pub use ft_hist::TriggerFault;
 pub use ft_text::Word;
 pub use laws::{one_action, one_list, one_word, sizes};
 pub use onmatch::Action;

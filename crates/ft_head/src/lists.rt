@@ -3,16 +3,15 @@
 ghost use Rattle.std.specs.Prelude.{◌≡◌, ◌<◌, ◌≤◌, length, false, IfOk, OnOk, Ok, Some, None, codes, ◌∷◌, [], ◌++◌, ℕ, not, ◌&&◌, nat_le, List, Result, Err};
 ghost use Rattle.std.specs.Option.{option_copied, option_map_or, is_some};
 ghost use Rattle.std.specs.List.{list_any};
-ghost use Rattle.ft_head.specs.declared.fault.TriggerFault.TheVariants.{Syntax, LeftOut, BadModifier};
-ghost use Rattle.ft_head.specs.declared.fault.TriggerFault.{TriggerFault};
+ghost use Rattle.ft_hist.specs.declared.fault.TriggerFault.TheVariants.{Syntax, LeftOut, BadModifier};
+ghost use Rattle.ft_hist.specs.declared.fault.TriggerFault.{TriggerFault};
 ghost use Rattle.ft_text.specs.Items.{Word, word_of, is_word, same_word};
 ghost use Rattle.ft_head.specs.Draft.{given_or, unless, items_of, with_key, with_value, with_sort, is_left_out, mode_of, number_mode, buckets_of, is_key, besides_hitcount, value_fault, is_direction, is_no_key, with_field};
 ghost use Rattle.ft_head.specs.Given.{Gives};
 ghost use Rattle.ft_head.specs.inner.Leaving.{Leaves};
 
-use crate::fault::TriggerFault;
 use ft_fields::{Field, Name, field_named, field_text};
-use ft_hist::{KeyItem, Mode, mode_named};
+use ft_hist::{KeyItem, Mode, TriggerFault, mode_named};
 use ft_text::{Piece, Pieces, Word, is_same, number_in, word_of};
 use std::alloc::Global;
 

@@ -5,9 +5,8 @@ ghost use Rattle.ft_head.specs.Onmatch.{handed_of, name_before, traced_called};
 ghost use Rattle.ft_head.specs.Draft.{number_field, action_of};
 ghost use Rattle.ft_head.specs.Given.{Gives};
 
-use crate::fault::TriggerFault;
 use ft_fields::{Field, Name, field_named};
-use ft_hist::Onmatch;
+use ft_hist::{Onmatch, TriggerFault};
 use ft_text::name_at;
 use std::marker::Model;
 

@@ -11,6 +11,7 @@ pub mod Powers
 pub mod Sound
 pub mod Steps
 pub mod Tests
+pub mod TriggerFault
 pub mod Triggers
 pub mod Values
 pub mod inner

@@ -1,5 +1,6 @@
 //! Hist triggers: their parts, their canonical text, what they count events under, whether the keys
-//! of two match, and which are attached. Reading their texts stands above.
+//! of two match, which are attached, and what may be wrong with a trigger's text. Reading their
+//! texts stands above.
 //!
 //! A trigger belongs to one event name. It has one to three keys, which are fields of the event
 //! with or without modifiers, up to three values, at most one variable, one or two sort items, a
@@ -57,6 +58,7 @@
 //! - `Trigger::keys_match`: whether the keys of two triggers make parts of the same kinds
 //!   (`specs/Matching.antt`); exact, with a clause `meaning`.
 //! - `Trigger::counts_made`: whether it is on the name of made events (`specs/Made.antt`); exact.
+//! - `TriggerFault::number`, `TriggerFault::place`: exact.
 //! - `Triggers`: contracts see a finite map from ids to triggers (`specs/Triggers.antt`). `new`,
 //!   `len`, `get`, `iter`, `remove`, `set_filter`: exact. `insert` puts a trigger at an id, or leaves
 //!   the map as it was. It lets through: running out of memory at any time.
@@ -70,6 +72,7 @@
 //! - Law `summed_fields`: at a hit each field that is summed holds a number, which is its value.
 #![tactic(auto)]
 
+mod fault;
 mod hitting;
 mod item;
 mod label;
@@ -83,6 +86,7 @@ mod values;
 mod work;
 mod writing;
 
+pub use fault::TriggerFault;
 pub use ft_fields::{Key, Part};
 pub use item::{Item, KeyItem, SortBy, SortItem};
 pub use label::{Label, Var};

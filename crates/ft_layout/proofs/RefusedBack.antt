@@ -8,10 +8,10 @@ use Rattle.ft_event.specs.LineFault.{line_number}
 use Rattle.ft_event.specs.declared.fault.LineFault.{LineFault}
 use Rattle.ft_event.specs.declared.fault.LineFault.TheVariants as lines
 use Rattle.ft_filter.specs.declared.fault.FilterFault.TheVariants as filters
-use Rattle.ft_head.specs.declared.fault.TriggerFault.TheVariants as triggers
+use Rattle.ft_hist.specs.declared.fault.TriggerFault.TheVariants as triggers
 use Rattle.ft_base.specs.declared.refused.Refused.{Refused}
 use Rattle.ft_base.specs.declared.refused.Refused.TheVariants as refused
-use Rattle.ft_layout.specs.Refusals.{refusal_layout, numbered, line_faults, likely, both, is_same, refused_of}
+use Rattle.ft_layout.specs.Refusals.{refusal_layout, numbered, line_faults, likely, both, is_same, refusal_in}
 use Rattle.ft_layout.specs.declared.refusals.RefusalLayout.{RefusalLayout}
 
 -- a line's fault is told by its number
@@ -108,9 +108,9 @@ same_is a b same =
     λ i. record { number = number i; fault = fault i; filter_fault = filter_fault i; cpu = cpu i; trigger = trigger i; has_place = has_place i; line = line i; place = place i }
 
 -- the numbers of a refusal are its own
-pub refused_back : (layout : RefusalLayout) (why : Refused) → layout ≡ refusal_layout (Some why) → refused_of layout ≡ Some why
+pub refused_back : (layout : RefusalLayout) (why : Refused) → layout ≡ refusal_layout (Some why) → refusal_in layout ≡ Some why
 refused_back layout why is =
-    ap refused_of is
+    ap refusal_in is
     ∙ ap (λ found. option_and_then (λ w. cond (is_same (refusal_layout (Some why)) (refusal_layout (Some w))) (Some w) None) found) (likely_back why)
     ∙ ap (λ b. cond b (Some why) None) (same_itself (refusal_layout (Some why)))
 
@@ -121,5 +121,5 @@ checked layout (Some w) why is =
     same_is layout (refusal_layout (Some w)) own.0 ∙ ap (λ v. refusal_layout (Some v)) own.1
 
 -- and no other numbers are
-pub refused_is : (layout : RefusalLayout) (why : Refused) → refused_of layout ≡ Some why → layout ≡ refusal_layout (Some why)
+pub refused_is : (layout : RefusalLayout) (why : Refused) → refusal_in layout ≡ Some why → layout ≡ refusal_layout (Some why)
 refused_is layout why is = checked layout (likely layout) why is

@@ -7,9 +7,9 @@ use Rattle.ft_event.specs.declared.fault.LineFault.TheVariants as lines
 use Rattle.ft_filter.specs.FilterFault.{filter_number, filter_place}
 use Rattle.ft_filter.specs.declared.fault.FilterFault.{FilterFault}
 use Rattle.ft_filter.specs.declared.fault.FilterFault.TheVariants as filters
-use Rattle.ft_head.specs.TriggerFault.{trigger_number, trigger_place}
-use Rattle.ft_head.specs.declared.fault.TriggerFault.{TriggerFault}
-use Rattle.ft_head.specs.declared.fault.TriggerFault.TheVariants as triggers
+use Rattle.ft_hist.specs.TriggerFault.{trigger_number, trigger_place}
+use Rattle.ft_hist.specs.declared.fault.TriggerFault.{TriggerFault}
+use Rattle.ft_hist.specs.declared.fault.TriggerFault.TheVariants as triggers
 use Rattle.ft_base.specs.Refused.{refused_number}
 use Rattle.ft_base.specs.declared.refused.Refused.{Refused}
 use Rattle.ft_base.specs.declared.refused.Refused.TheVariants as refused
@@ -107,5 +107,5 @@ abbrev pub is_same : RefusalLayout → RefusalLayout → Bool
 is_same a b = (a.number == b.number) && (a.fault == b.fault) && (a.filter_fault == b.filter_fault) && (a.cpu == b.cpu) && (a.trigger == b.trigger) && both a.has_place b.has_place && (a.line == b.line) && (a.place == b.place)
 
 -- the refusal that C has so: the one with the numbers, where what doesn't belong to its number is 0
-abbrev pub refused_of : RefusalLayout → Option Refused
-refused_of layout = option_and_then (λ why. if is_same layout (refusal_layout (Some why)) then Some why else None) (likely layout)
+abbrev pub refusal_in : RefusalLayout → Option Refused
+refusal_in layout = option_and_then (λ why. if is_same layout (refusal_layout (Some why)) then Some why else None) (likely layout)

@@ -4,7 +4,7 @@ ghost use Rattle.std.specs.Prelude.{◌≡◌, ℕ, ◌≤◌, Option};
 ghost use Rattle.ft_base.specs.declared.refused.Refused.{Refused};
 ghost use Rattle.ft_fields.specs.declared.event.Name.{Name};
 ghost use Rattle.ft_layout.specs.Names.{name_number, name_numbered};
-ghost use Rattle.ft_layout.specs.Refusals.{refusal_layout, refused_of};
+ghost use Rattle.ft_layout.specs.Refusals.{refusal_layout, refusal_in};
 
 /// A law: a name is told by its number, and a number up to 5 by its name.
 pub fn numbers_of_names()
@@ -15,5 +15,5 @@ pub fn numbers_of_names()
 
 /// A law: a refusal, or that nothing was refused, is told by its numbers.
 pub fn numbers_of_refusals()
-    ensures { (refused : Option Refused) → refused_of (refusal_layout refused) ≡ refused }
+    ensures { (refused : Option Refused) → refusal_in (refusal_layout refused) ≡ refused }
 {}

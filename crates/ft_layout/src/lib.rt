@@ -18,7 +18,7 @@
 //!   as have room are shown at the front of the caller's array, the rest of which stays, and the
 //!   answer is how many (`specs/Copied.antt`); exact. `copy_events` shows at each place the event that
 //!   the lanes hold there, on the CPU's line and with the stamp, or that there is none (`event_in`).
-//! - `refused_of`, law `numbers_of_refusals`: the refusal that numbers are of, where they are of
+//! - `refusal_in`, law `numbers_of_refusals`: the refusal that numbers are of, where they are of
 //!   one; that of a refusal's layout is the refusal. Law `numbers_of_names`: the same of names.
 //! - `refusal_text`, `refusal_words`: the line that a script prints of it, without its line break,
 //!   exact; its words, which have no clause, and none where the numbers are of no refusal. Lets
@@ -42,6 +42,6 @@ pub use events::{EventLayout, TriggerLayout};
 pub use laws::{numbers_of_names, numbers_of_refusals};
 pub use names::{NameLayout, name_number, name_numbered};
 pub use places::{LatencyLayout, LineLayout, PlaceLayout};
-pub use refusals::{RefusalLayout, refused_of};
+pub use refusals::{RefusalLayout, refusal_in};
 pub use rows::{ChangedLayout, KeyLayout, PartLayout, ReportLayout, RowLayout, TotalsLayout};
 pub use words::{refusal_text, refusal_words};

@@ -1,12 +1,12 @@
 //! Refusals as numbers, and back.
 
 ghost use Rattle.std.specs.Prelude.{◌≡◌, ◌↔◌, Some};
-ghost use Rattle.ft_layout.specs.Refusals.{no_refusal, refusal_layout, with_number, with_detail, with_trigger_fault, with_filter_fault, with_place, is_same, refused_of, numbered, filter_faults, trigger_faults, trigger_fault_of, refusals};
+ghost use Rattle.ft_layout.specs.Refusals.{no_refusal, refusal_layout, with_number, with_detail, with_trigger_fault, with_filter_fault, with_place, is_same, refusal_in, numbered, filter_faults, trigger_faults, trigger_fault_of, refusals};
 
 use ft_base::Refused;
 use ft_event::LineFault;
 use ft_filter::FilterFault;
-use ft_head::TriggerFault;
+use ft_hist::TriggerFault;
 
 /// Why a call was refused. What doesn't belong to the number is 0.
 #[repr(C)]
@@ -234,7 +234,7 @@ impl RefusalLayout {
 
     /// The refusal with its numbers, where what doesn't belong to its number is 0.
     fn refused(&self) -> Option<Refused>
-        ensures { result ≡ refused_of self.now }
+        ensures { result ≡ refusal_in self.now }
     {
         match item_numbered(&self.refusals(), self.number).flatten() {
             Some(refused) if self.is_same(&RefusalLayout::of(Some(refused))) => Some(refused),
@@ -243,9 +243,9 @@ impl RefusalLayout {
     }
 }
 
-/// The refusal that C has so; none where the numbers are of no refusal.
-pub fn refused_of(layout: &RefusalLayout) -> Option<Refused>
-    ensures exact { result ≡ refused_of layout.now }
+/// The refusal that a C struct describes; `None` if its numbers are those of no refusal.
+pub fn refusal_in(layout: &RefusalLayout) -> Option<Refused>
+    ensures exact { result ≡ refusal_in layout.now }
     ensures meaning { (refused : Refused) →
         (result ≡ Some refused) ↔ (layout.now ≡ refusal_layout (Some refused)) }
 {

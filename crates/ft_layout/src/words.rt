@@ -1,10 +1,10 @@
 //! Refusals as texts.
 
 ghost use Rattle.std.specs.Prelude.{◌≡◌, ◌-◌, [], None, length, take, IfOk};
-ghost use Rattle.ft_layout.specs.Refusals.{refused_of};
+ghost use Rattle.ft_layout.specs.Refusals.{refusal_in};
 ghost use Rattle.ft_layout.specs.Words.{refusal_text};
 
-use crate::refusals::{RefusalLayout, refused_of};
+use crate::refusals::{RefusalLayout, refusal_in};
 use ft_script::refused_line;
 use std::alloc::{AllocError, Global};
 
@@ -13,7 +13,7 @@ use std::alloc::{AllocError, Global};
 pub fn refusal_text(alloc: Global, layout: &RefusalLayout) -> Result<Vec<u8>, AllocError>
     ensures { IfOk result (λ text. text.items ≡ refusal_text layout.now) }
 {
-    match refused_of(layout) {
+    match refusal_in(layout) {
         Some(refused) => Ok(without_last(refused_line(alloc, refused)?)),
         None => Ok(Vec::new(alloc)),
     }
@@ -29,9 +29,9 @@ fn without_last(mut text: Vec<u8>) -> Vec<u8>
 
 /// What the refusal means, in words; empty where the numbers are of no refusal.
 pub fn refusal_words(alloc: Global, layout: &RefusalLayout) -> Result<Vec<u8>, AllocError>
-    ensures { refused_of layout.now ≡ None → IfOk result (λ words. words.items ≡ []) }
+    ensures { refusal_in layout.now ≡ None → IfOk result (λ words. words.items ≡ []) }
 {
-    match refused_of(layout) {
+    match refusal_in(layout) {
         Some(refused) => Ok(format!(in alloc; "{refused}")?.into_bytes()),
         None => Ok(Vec::new(alloc)),
     }

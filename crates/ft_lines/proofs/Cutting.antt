@@ -4,7 +4,7 @@ use Rattle.std.specs.Prelude.{◌⊎◌, slice_index_or}
 use Rattle.std.proofs.lemmas.Bool.{eqb-true}
 use Rattle.std.proofs.lemmas.List.{take_at, drop_at, length-append}
 use Rattle.std.proofs.Math.Seq.{take-length, drop-length}
-use Rattle.ft_script.specs.Lines.{lines_of, onto_first}
+use Rattle.ft_text.specs.Lines.{lines_of, onto_first}
 use Rattle.ft_lines.specs.Lines.{end_of, lines_from, text_lines, CutsAt}
 use Rattle.ft_lines.specs.declared.line.TextLine.{TextLine}
 

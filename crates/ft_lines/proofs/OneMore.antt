@@ -1,7 +1,7 @@
 -- Lines of a text that is cut line by line.
 use Rattle.std.proofs.Common.{◌≡◌, ℕ, List, [], ◌∷◌, ◌++◌, sym, ap, ◌∙◌, append-nil, append_assoc}
 use Rattle.ft_event.specs.Line.{line_of}
-use Rattle.ft_script.specs.Lines.{lines_of}
+use Rattle.ft_text.specs.Lines.{lines_of}
 use Rattle.ft_lines.specs.Lines.{end_of, kind_of, lines_from, text_lines}
 use Rattle.ft_lines.specs.declared.line.LineKind.{LineKind}
 use Rattle.ft_lines.specs.declared.line.TextLine.{TextLine}

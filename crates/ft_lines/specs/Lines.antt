@@ -5,7 +5,7 @@ use Rattle.ft_event.specs.declared.fault.Line.{Line}
 use Rattle.ft_event.specs.declared.fault.Line.TheVariants as lines
 use Rattle.ft_event.specs.declared.fault.LineFault.{LineFault}
 use Rattle.ft_fields.specs.Traced.{Traced, name_of}
-use Rattle.ft_script.specs.Lines.{lines_of}
+use Rattle.ft_text.specs.Lines.{lines_of}
 use Rattle.ft_lines.specs.declared.line.LineEvent.{LineEvent}
 use Rattle.ft_lines.specs.declared.line.LineKind.{LineKind}
 use Rattle.ft_lines.specs.declared.line.LineKind.TheVariants as kinds

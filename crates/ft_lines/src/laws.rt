@@ -1,7 +1,7 @@
 //! Laws of the lines of texts, as functions that do nothing.
 
 ghost use Rattle.std.specs.Prelude.{ℕ, ◌<◌, List, suc, length, take, drop, slice_index_or};
-ghost use Rattle.ft_script.specs.Lines.{lines_of};
+ghost use Rattle.ft_text.specs.Lines.{lines_of};
 ghost use Rattle.ft_lines.specs.Lines.{text_lines, CutsAt};
 ghost use Rattle.ft_lines.specs.declared.line.TextLine.{TextLine};
 

@@ -14,7 +14,7 @@
 //!
 //! # Contracts
 //!
-//! - `lines_in`: the lines of a text, one for each line that `ft_script` cuts off (`lines_of`), each by what
+//! - `lines_in`: the lines of a text, one for each line that `ft_text` cuts off (`lines_of`), each by what
 //!   `ft_event` reads of it (`line_of`); exact, `text_lines` (`specs/Lines.antt`). No order of stamps is asked for,
 //!   a line that can't be read ends nothing, and there may be any number of lines. Fails only for memory. Lets
 //!   through: running out of memory at any time; how much is kept for more lines.

@@ -4,7 +4,7 @@ ghost use Rattle.std.specs.Prelude.{◌≡◌, IfOk};
 ghost use Rattle.ft_lines.specs.Lines.{end_of, text_lines};
 
 use crate::line::{LineKind, TextLine};
-use ft_script::next_line;
+use ft_text::next_line;
 use std::alloc::{AllocError, Global};
 
 /// So many bytes of a text make a line, more or less: the kernel's own lines are a little longer.

@@ -9,7 +9,7 @@ use ft_event::{mark_of, read_cut_line};
 use ft_fields::Event;
 use ft_losses::{Losses, LossesRead};
 use ft_quick::cut_line;
-use ft_script::next_line;
+use ft_text::next_line;
 use std::alloc::{AllocError, Global};
 
 /// Takes the line of this number, which may be of any form.

@@ -32,7 +32,7 @@ impl Model for Doubts {
 }
 
 /// The same holes, owned.
-fn owned(alloc: Global, holes: &[Hole]) -> Result<Vec<Hole>, AllocError>
+fn copy_list(alloc: Global, holes: &[Hole]) -> Result<Vec<Hole>, AllocError>
     ensures { IfOk result (λ owned. owned.items ≡ holes.now) }
 {
     let mut owned = Vec::new(alloc);
@@ -46,7 +46,7 @@ impl Doubts {
         ensures { IfOk result (λ doubts. doubts ≡ holes.now) }
     {
         Ok(Doubts {
-            holes: owned(alloc, holes)?,
+            holes: copy_list(alloc, holes)?,
             rows: rows_of(alloc, holes)?,
         })
     }

@@ -32,7 +32,7 @@ use Rattle.ft_made.specs.MadeHits.{values_of_made}
 use Rattle.ft_made.specs.MadeTables.{IsMadeTable, AreInOrder, ArePairsOf, found_in}
 use Rattle.ft_made.specs.inner.First.{first_change, first_changes}
 use Rattle.ft_made.proofs.Sorted.{none_above, none_behind}
-use Rattle.ft_made.proofs.Turned.{makes}
+use Rattle.ft_made.proofs.Updated.{makes}
 use Rattle.ft_made.proofs.Views.{nothing}
 
 -- ---- one trigger's readings

@@ -9,6 +9,6 @@ pub mod Same
 pub mod MadeHits
 pub mod Naming
 pub mod MadeTables
-pub mod Turned
+pub mod Updated
 pub mod Filling
-pub mod TurnedKeys
+pub mod ChangedKeys

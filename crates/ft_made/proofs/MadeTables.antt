@@ -164,9 +164,9 @@ pub take_changes : TakeMadeChanges
 take_changes hist spot made table holds = record { size = take_size hist spot made table; here = take_here hist spot made table holds; elsewhere = take_elsewhere hist spot made table }
 
 -- where one is taken out and another put in, the table changes at the spot alone
-pub turn_changes : (hist : Hist) (spot : Spot) (before after : Option Traced) (old between new : Tabled) → HoldsMade hist spot before old
+pub update_changes : (hist : Hist) (spot : Spot) (before after : Option Traced) (old between new : Tabled) → HoldsMade hist spot before old
     → between ≡ without_made hist spot before old → new ≡ with_made hist spot after between → ChangesMade hist spot after old new
-turn_changes hist spot before after old between new holds taken put =
+update_changes hist spot before after old between new holds taken put =
     let out : ChangesMade hist spot None old between = subst (ChangesMade hist spot None old) (sym taken) (take_changes hist spot before old holds) in
     let back : ChangesMade hist spot after between new = subst (ChangesMade hist spot after between) (sym put) (put_changes hist spot after between out.here) in
     record { size = back.size ∙ out.size; here = back.here; elsewhere = λ mark apart. back.elsewhere mark apart ∙ out.elsewhere mark apart }

@@ -34,7 +34,7 @@ use Rattle.ft_made.specs.MadeHits.{made_hits_of, values_made, values_of_made}
 use Rattle.ft_changes.specs.Findings.{Findings, Lead}
 use Rattle.ft_changes.specs.declared.changed.ReadingChange.{ReadingChange}
 use Rattle.ft_made.specs.MadeTables.{IsMadeTable, AreInOrder, ArePairsOf, AreReplayed, found_in, ChangesMade, HoldsMade, IsFreeAt, with_made, without_made}
-use Rattle.ft_made.specs.Turning.{HaveTurned, keys_turned}
+use Rattle.ft_made.specs.Updating.{HaveChangedKeys, changed_keys}
 
 -- ---- two replays, one after the other
 
@@ -156,15 +156,15 @@ PutMadeChanges = (hist : Hist) (spot : Spot) (made : Option Traced) (table : Tab
 abbrev pub TakeMadeChanges : Type 0
 TakeMadeChanges = (hist : Hist) (spot : Spot) (made : Option Traced) (table : Tabled) → HoldsMade hist spot made table → ChangesMade hist spot None table (without_made hist spot made table)
 
--- ---- keys of tables that are turned
+-- ---- keys of tables that are updated
 
 -- what readings make by what they found, and by what they find later, makes tables that differ by hits of such keys alone
-abbrev pub TurnedButForKeys : Type 0
-TurnedButForKeys = (triggers : Triggers) (events : Events) (found later : Findings) (hist : Hist) (keys : List (List Part)) (before after : Tabled)
-    → IsMadeTable triggers events found hist before → IsMadeTable triggers events later hist after → HaveTurned triggers events found later hist keys
+abbrev pub UpdatedButForKeys : Type 0
+UpdatedButForKeys = (triggers : Triggers) (events : Events) (found later : Findings) (hist : Hist) (keys : List (List Part)) (before after : Tabled)
+    → IsMadeTable triggers events found hist before → IsMadeTable triggers events later hist after → HaveChangedKeys triggers events found later hist keys
     → AreTablesButFor keys before after
 
 -- where changes lead from what readings found to what they find, the keys of the changes are such keys
-abbrev pub KeysAreTurned : Type 0
-KeysAreTurned = (triggers : Triggers) (events : Events) (hist : Hist) (changes : List ReadingChange) (found now : Findings) → Lead changes found now
-    → HaveTurned triggers events found now hist (keys_turned triggers events hist changes)
+abbrev pub KeysAreUpdated : Type 0
+KeysAreUpdated = (triggers : Triggers) (events : Events) (hist : Hist) (changes : List ReadingChange) (found now : Findings) → Lead changes found now
+    → HaveChangedKeys triggers events found now hist (changed_keys triggers events hist changes)

@@ -3,7 +3,7 @@ pub mod ReplayMaking
 pub mod MadeEvents
 pub mod MadeHits
 pub mod MadeTables
-pub mod Turning
+pub mod Updating
 pub mod Laws
 pub mod inner
 pub use Rattle.ft_base.specs.Base

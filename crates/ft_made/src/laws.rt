@@ -1,15 +1,15 @@
 //! Laws of made events: functions that do nothing, whose clauses are proved.
 
-ghost use Rattle.ft_made.specs.Laws.{FoundMakeAll, HeldAreCounted, KeptAreTallied, KeysAreTurned, MadeAreCounted};
+ghost use Rattle.ft_made.specs.Laws.{FoundMakeAll, HeldAreCounted, KeptAreTallied, KeysAreUpdated, MadeAreCounted};
 ghost use Rattle.ft_made.specs.Laws.{MadeAreTallied, MadeBySpot, MadeHitsAre, MadeInOrder, MadeTablesChange};
 ghost use Rattle.ft_made.specs.Laws.{MadeTablesFit, NamedMakeAll, NoneIsMade, OthersCountNone, ReadingsAreTallied};
 ghost use Rattle.ft_made.specs.Laws.{SameIsMade, PutMadeChanges, SpotsAreDistinct, TablesAreTallied};
-ghost use Rattle.ft_made.specs.Laws.{ReplayedAreInOrder, ReplayedAreTallied, TakeMadeChanges, TurnedButForKeys};
+ghost use Rattle.ft_made.specs.Laws.{ReplayedAreInOrder, ReplayedAreTallied, TakeMadeChanges, UpdatedButForKeys};
 
 /// A law: replaying with made events comes apart into two replays. Held events and variables are as
 /// in the one that makes none; beside them each attached trigger, and no other id, counts the made
 /// events in order of their spots.
-pub fn counted_made()
+pub fn made_counters()
     ensures first { HeldAreCounted }
     ensures second { MadeAreCounted }
     ensures none { OthersCountNone }
@@ -36,7 +36,7 @@ pub fn same_made()
 
 /// A law: what an attached trigger counts of made events is the tally of the table that its hits
 /// among them make, as any map gives it that holds at each spot and key what the hit there adds.
-pub fn tallied_made()
+pub fn made_tallies()
     ensures tally { MadeAreTallied }
     ensures hits { MadeHitsAre }
     ensures kept { KeptAreTallied }
@@ -72,7 +72,7 @@ pub fn replayed_pairs()
 /// A law: what readings make by what they found, and by what they find later, makes tables that
 /// differ by hits of those keys alone under which the made events are counted that differ. Where
 /// changes lead from the ones to the others, the keys of the changes have these.
-pub fn turned_keys()
-    ensures tables { TurnedButForKeys }
-    ensures keys { KeysAreTurned }
+pub fn changed_keys()
+    ensures tables { UpdatedButForKeys }
+    ensures keys { KeysAreUpdated }
 {}

@@ -12,8 +12,8 @@
 //! let spot = Spot { pos: read, maker: 2 };
 //! put_made(&mut table, trigger, spot, maker.made(event, saved), &mut work)?;
 //! // Later, readings changed: what they had found and what they find.
-//! put_turned_keys(&mut keys, lanes, triggers, trigger, &changes, &mut work)?;
-//! turn_made(&mut table, lanes, triggers, trigger, &changes, &mut work)?;
+//! put_changed_keys(&mut keys, lanes, triggers, trigger, &changes, &mut work)?;
+//! update_made(&mut table, lanes, triggers, trigger, &changes, &mut work)?;
 //! ```
 //!
 //! # Contracts
@@ -22,7 +22,7 @@
 //! trigger has an onmatch part. It depends on the place and the event of the reading, and on the
 //! place of the saving that it finds.
 //!
-//! - Law `counted_made`: replaying with made events (`specs/ReplayMaking.antt`) comes apart. Its
+//! - Law `made_counters`: replaying with made events (`specs/ReplayMaking.antt`) comes apart. Its
 //!   field `first` is, as one state, what replaying without them gives. In its field `made` an
 //!   attached trigger has counted the made events in order of their spots, and no other id has a
 //!   tally. Events on whose name no trigger is change nothing; where no attached trigger has an
@@ -32,7 +32,7 @@
 //!   all triggers at all held events, in order, no two at one spot (`specs/MadeEvents.antt`).
 //! - Law `same_made`: a place that keeps its event, trigger and role, and whose reading finds what
 //!   it found, makes what it made; savings that are what readings find make the same events.
-//! - Law `tallied_made`: what an attached trigger counts of made events is what a table makes of
+//! - Law `made_tallies`: what an attached trigger counts of made events is what a table makes of
 //!   its hits among them (`specs/MadeHits.antt`). A map with the right look-ups, by spot and key,
 //!   gives that tally. So does one that is given, spot by spot, by the savings that readings find.
 //! - Law `made_tables`: a table that holds just what the events made of kept readings add
@@ -41,19 +41,19 @@
 //!   changes there alone stays one, as by one `put_made` or `take_made`.
 //! - Law `replayed_pairs`: the pairs that replaying gives are those of readings in merged order; a
 //!   table that is made of them has the tally that replaying with made events gives.
-//! - Law `turned_keys`: take the table of what readings made by what they had found, and the one of
+//! - Law `changed_keys`: take the table of what readings made by what they had found, and the one of
 //!   what they make by what they find later. They have one size. A list that has the keys of both
 //!   what was made and what is made, wherever these differ, has all keys whose hits differ. The list
-//!   that `put_turned_keys` gives is such a list, where changes lead from the ones to the others
-//!   (`specs/Turning.antt`, `ft_changes/specs/Findings.antt`).
+//!   that `put_changed_keys` gives is such a list, where changes lead from the ones to the others
+//!   (`specs/Updating.antt`, `ft_changes/specs/Findings.antt`).
 //! - `made_table`: a table as `made_tables` has it, of held events and of what is kept of readings in pairs (trait
 //!   `KeptReadings`); no step where no trigger has an onmatch part. Lets through: running out of
 //!   memory at any time; any number of steps where one has.
-//! - `turn_made`: takes a table that was made of what readings found; gives the one that is made of
+//! - `update_made`: takes a table that was made of what readings found; gives the one that is made of
 //!   what changes lead to from there. Where nothing changed, it succeeds, changes nothing and takes
 //!   no step. Lets through: elsewhere, running out of memory, and then nothing is said of the
 //!   table; any number of steps.
-//! - `put_turned_keys`: adds the keys under which a trigger counts what changed readings made, and
+//! - `put_changed_keys`: adds the keys under which a trigger counts what changed readings made, and
 //!   what they make; exact. Lets through: running out of memory at any time; any number of steps.
 //! - `put_made`, `take_made`: the table with, or without, the hit that an event made at a spot is,
 //!   if one is made; exact. One test where the trigger is on its name, and one put at most.
@@ -63,11 +63,11 @@
 pub mod laws;
 mod readings;
 mod tables;
-mod turning;
+mod updating;
 
 pub use laws::{
-    counted_made, made_by_spot, made_tables, replayed_pairs, same_made, tallied_made, turned_keys,
+    changed_keys, made_by_spot, made_counters, made_tables, made_tallies, replayed_pairs, same_made,
 };
 pub use readings::KeptReadings;
 pub use tables::made_table;
-pub use turning::{put_made, put_turned_keys, take_made, turn_made};
+pub use updating::{put_changed_keys, put_made, take_made, update_made};

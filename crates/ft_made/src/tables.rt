@@ -11,7 +11,7 @@ ghost use Rattle.ft_made.specs.MadeTables.{IsMadeTable, AreInOrder, ArePairsOf, 
 ghost use Rattle.ft_made.specs.inner.First.{first_change, first_changes};
 
 use crate::readings::KeptReadings;
-use crate::turning::turn_made;
+use crate::updating::update_made;
 use ft_changes::ReadingChange;
 use ft_hist::{Trigger, Triggers, Work};
 use ft_lanes::Lanes;
@@ -20,8 +20,8 @@ use ft_table::Table;
 use std::alloc::{AllocError, Global};
 
 /// The table of a trigger that counts made events: those that the attached triggers make of held
-/// events, where their readings found what is kept of them. Where no trigger makes events it takes
-/// no step. Refused for memory.
+/// events, if their readings found what is kept of them. If no trigger makes events, it takes no step.
+/// Refused for memory.
 pub fn made_table<R: KeptReadings>(
     alloc: Global,
     lanes: &Lanes,
@@ -41,13 +41,13 @@ pub fn made_table<R: KeptReadings>(
     let mut table = Table::new(alloc, trigger.size());
     for (id, maker) in triggers.iter() {
         let changes = first_changes(alloc, *id, maker, readings)?;
-        turn_made(&mut table, lanes, triggers, trigger, &changes, work)?;
+        update_made(&mut table, lanes, triggers, trigger, &changes, work)?;
     }
     Ok(table)
 }
 
-/// The changes that lead from nothing to what is kept of a trigger's readings; none where it makes
-/// no events. Refused for memory.
+/// The changes that lead from nothing to what is kept of a trigger's readings; none if it makes no
+/// events. Refused for memory.
 fn first_changes<R: KeptReadings>(
     alloc: Global,
     id: u32,

@@ -4,7 +4,8 @@ pub mod Found
 pub mod Left
 pub mod Nexts
 pub mod Partly
-pub mod Ranges
 pub mod Runs
+pub mod Sides
+pub mod Beside
 pub mod Touched
 pub mod Walks

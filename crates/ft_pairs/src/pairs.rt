@@ -131,7 +131,7 @@ impl Pairs {
     pub fn remove_key(&mut self, key: &Key)
         ensures { ChangesKey key.now reads_alone self.old self.new }
     {
-        take_saves(&mut self.by_key, key);
+        take_saves(self.alloc, &mut self.by_key, key);
         clear_out(&mut self.by_key, key);
     }
 
@@ -182,10 +182,10 @@ fn put_op(
     ensures err { OnErr result (seen key_cmp by_key.new ≡ seen key_cmp by_key.old) }
 {
     match by_key.get_mut(&key) {
-        Some(sequence) => sequence.insert(at, op),
+        Some(sequence) => sequence.insert(alloc, at, op),
         None => {
             let mut sequence = Sequence::new(alloc);
-            sequence.insert(at, op)?;
+            sequence.insert(alloc, at, op)?;
             put(by_key, key, sequence)
         }
     }
@@ -203,11 +203,11 @@ fn take_op(by_key: &mut BTreeMap<Key, Sequence>, key: &Key, at: At)
 }
 
 /// Takes the saves of a key away.
-fn take_saves(by_key: &mut BTreeMap<Key, Sequence>, key: &Key)
+fn take_saves(alloc: Global, by_key: &mut BTreeMap<Key, Sequence>, key: &Key)
     ensures { ChangesKey key.now reads_alone (seen key_cmp by_key.old) (seen key_cmp by_key.new) }
 {
     match by_key.get_mut(key) {
-        Some(sequence) => sequence.keep_reads(),
+        Some(sequence) => sequence.keep_reads(alloc),
         None => {}
     }
 }

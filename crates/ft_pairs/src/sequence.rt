@@ -1,59 +1,55 @@
 //! Sequences: the operations of one key.
 
-ghost use Rattle.std.specs.Prelude.{◌≡◌, OnOk, OnErr, IfOk, IsTrue, None, fold, reverse as backwards};
-ghost use Rattle.std.specs.BTreeMap.{IsFromIterResult};
+ghost use Rattle.std.specs.Prelude.{◌≡◌, OnOk, OnErr, IfOk, IfSome, IsTrue, fold};
 ghost use Rattle.std.specs.FinMap as map;
-ghost use Rattle.ft_maps.specs.Seen.{seen};
+ghost use Rattle.std.specs.Map.{keys_of};
+ghost use Rattle.std.specs.Ordering.{is_lt};
+ghost use Rattle.ft_blocks.specs.Sorted.{Ascend};
 ghost use Rattle.ft_pairs.specs.Edits.{if_read};
 ghost use Rattle.ft_pairs.specs.Next.{IsNext};
 ghost use Rattle.ft_pairs.specs.Order.{at_cmp};
 ghost use Rattle.ft_pairs.specs.Runs.{with_reads, FindEach, SomeReads};
 ghost use Rattle.ft_pairs.specs.Source.{IsSource};
-ghost use Rattle.ft_pairs.specs.inner.Met.{as_reads, met, saved_by, with_read, FindFirst};
+ghost use Rattle.ft_pairs.specs.inner.Met.{with_read};
+ghost use Rattle.ft_pairs.specs.inner.Sides.{as_ops, both, is_after, Places, IsFirstOf, IsLastOf};
 ghost use Rattle.ft_pairs.specs.declared.at.At.{At};
+ghost use Rattle.ft_pairs.specs.declared.at.Op.TheVariants.{Save};
 
 use crate::at::{At, Op};
-use ft_maps::{entries, get, put, take};
+use ft_blocks::Blocks;
 use std::alloc::{AllocError, Global};
-use std::collections::BTreeMap;
 use std::marker::Model;
-use std::ops::Bound;
 
-/// So few reads are put in one by one. More are merged in, which costs less for each but more to
-/// begin with.
-const FEW: usize = 8;
-
-/// Among so many operations for each read a walk over all costs more than to look each up.
-const SPARSE: usize = 16;
-
-/// The operations of one key in a tree, by place.
+/// The operations of one key: the places of its saves and those of its reads, in blocks. A read
+/// hides a save at its place.
 ///
 /// Contracts see a finite map.
 #[derive(Drop)]
 pub(crate) struct Sequence {
-    ops: BTreeMap<At, Op>,
+    saves: Blocks<At, ()>,
+    reads: Blocks<At, ()>,
 }
 
 impl Model for Sequence {
-    ghost use Rattle.ft_maps.specs.Seen.{seen};
     ghost use Rattle.ft_pairs.specs.ByKey.{KeyOps};
     ghost use Rattle.ft_pairs.specs.Codes.{key_ops_code};
-    ghost use Rattle.ft_pairs.specs.Order.{at_cmp};
+    ghost use Rattle.ft_pairs.specs.inner.Sides.{both};
 
     ghost Value = { KeyOps };
 
     ghost coded = { key_ops_code };
 
-    ghost view = { λ s. seen at_cmp s.ops };
+    ghost view = { λ s. both s.saves s.reads };
 }
 
 impl Sequence {
-    /// No operations.
+    /// No operations. It takes no memory.
     pub(crate) fn new(alloc: Global) -> Sequence
         ensures { result ≡ map.empty }
     {
         Sequence {
-            ops: BTreeMap::new(alloc),
+            saves: Blocks::new(alloc),
+            reads: Blocks::new(alloc),
         }
     }
 
@@ -61,30 +57,51 @@ impl Sequence {
     pub(crate) fn of(alloc: Global, run: &[(At, Op)]) -> Result<Sequence, AllocError>
         ensures { IfOk result (λ sequence. sequence ≡ map.from_entries run.now) }
     {
-        let ops = collected(alloc, run)?;
-        Ok(Sequence { ops })
+        match saves_in_order(alloc, run)? {
+            Some(places) => {
+                let saves = Blocks::of(alloc, places)?;
+                Ok(Sequence {
+                    saves,
+                    reads: Blocks::new(alloc),
+                })
+            }
+            None => one_by_one(alloc, run),
+        }
     }
 
     /// Whether it has no operations.
     pub(crate) fn is_empty(&self) -> bool
         ensures { IsTrue result → self.now ≡ map.empty }
     {
-        self.ops.len() == 0
+        self.saves.first().is_none() && self.reads.first().is_none()
     }
 
     /// The operation at a place.
     pub(crate) fn get(&self, at: At) -> Option<Op>
         ensures { result ≡ map.get self.now at }
     {
-        get(&self.ops, &at).copied()
+        if self.reads.get(&at).is_some() {
+            return Some(Op::Read);
+        }
+        if self.saves.get(&at).is_some() {
+            return Some(Op::Save);
+        }
+        None
     }
 
     /// Puts an operation at a place. Refused for memory, and then it is as it was.
-    pub(crate) fn insert(&mut self, at: At, op: Op) -> Result<(), AllocError>
+    pub(crate) fn insert(&mut self, alloc: Global, at: At, op: Op) -> Result<(), AllocError>
         ensures ok { OnOk result (self.new ≡ map.insert self.old at op) }
         ensures err { OnErr result (self.new ≡ self.old) }
     {
-        put(&mut self.ops, at, op)
+        match op {
+            Op::Read => self.reads.insert(alloc, at, ()),
+            Op::Save => {
+                self.saves.insert(alloc, at, ())?;
+                self.reads.remove(&at);
+                Ok(())
+            }
+        }
     }
 
     /// Puts reads at places, in place of what stands there: what each of them finds then. Refused for
@@ -100,177 +117,230 @@ impl Sequence {
         ensures found { IfOk result (λ found.
             FindEach (map.get self.new) reads.now found.items) }
     {
-        add_reads(alloc, &mut self.ops, reads)?;
+        if self.reads.first().is_some() {
+            return self.put_among(alloc, reads);
+        }
+        match places_in_order(alloc, reads)? {
+            Some(places) => {
+                self.reads = Blocks::of(alloc, places)?;
+                sources_in_turn(alloc, &self.saves, reads)
+            }
+            None => self.put_among(alloc, reads),
+        }
+    }
+
+    /// Puts reads at places among others, in place of what stands there: what each of them finds then.
+    /// Refused for memory, and then some of them may stand.
+    fn put_among(&mut self, alloc: Global, reads: &[At]) -> Result<Vec<Option<At>>, AllocError>
+        ensures ops { OnOk result ((at : At)
+            → map.get self.new at ≡ with_reads reads.now (map.get self.old) at) }
+        ensures err { OnErr result (SomeReads reads.now (map.get self.old) (map.get self.new)) }
+        ensures found { IfOk result (λ found.
+            FindEach (map.get self.new) reads.now found.items) }
+    {
+        self.put_each(alloc, reads)?;
         self.sources(alloc, reads)
     }
 
+    /// Puts a read at each place in turn. Refused for memory, and then some of them may stand.
+    fn put_each(&mut self, alloc: Global, reads: &[At]) -> Result<(), AllocError>
+        ensures ok { OnOk result (self.new ≡ fold with_read self.old reads.now) }
+        ensures err { OnErr result (SomeReads reads.now (map.get self.old) (map.get self.new)) }
+    {
+        for at in reads {
+            self.insert(alloc, *at, Op::Read)?;
+        }
+        Ok(())
+    }
+
     /// What the reading at each of some places finds. Refused for memory.
-    ///
-    /// Where the places rise and operations stand there, one walk meets them all. Any other is
-    /// looked up.
     fn sources(&self, alloc: Global, reads: &[At]) -> Result<Vec<Option<At>>, AllocError>
         ensures { IfOk result (λ found. FindEach (map.get self.now) reads.now found.items) }
     {
-        let mut found = self.met_sources(alloc, reads)?;
+        let mut found = Vec::with_capacity(alloc, reads.len())?;
         while found.len() < reads.len() {
             found.push(self.source(reads[found.len()]))?;
         }
         Ok(found)
     }
 
-    /// What the reading at each of the first of some places finds, as far as a walk over the
-    /// operations meets them in order. Refused for memory.
-    fn met_sources(&self, alloc: Global, reads: &[At]) -> Result<Vec<Option<At>>, AllocError>
-        ensures { IfOk result (λ found. FindFirst (map.get self.now) reads.now found.items) }
-    {
-        // A walk passes all operations, so a few places are sooner looked up.
-        if reads.len() < self.ops.len() / SPARSE {
-            return Ok(Vec::with_capacity(alloc, reads.len())?);
-        }
-        met_in(alloc, &self.ops, reads)
-    }
-
-    /// Takes the operation at a place, if one stands there.
+    /// Takes the operation at a place, if one stands there. It needs no memory.
     pub(crate) fn remove(&mut self, at: At)
         ensures { self.new ≡ map.remove self.old at }
     {
-        take(&mut self.ops, &at);
+        self.saves.remove(&at);
+        self.reads.remove(&at);
     }
 
-    /// Takes all operations but the reads.
-    pub(crate) fn keep_reads(&mut self)
+    /// Takes all operations but the reads. It needs no memory.
+    pub(crate) fn keep_reads(&mut self, alloc: Global)
         ensures { (at : At) → map.get self.new at ≡ if_read (map.get self.old at) }
     {
-        self.ops.retain(|_, op| *op == Op::Read);
+        self.saves = Blocks::new(alloc);
     }
 
     /// The last operation before a place, if that is a save.
     pub(crate) fn source(&self, at: At) -> Option<At>
         ensures { IsSource (map.get self.now) at result }
     {
-        match self.ops.range(..at).next_back() {
-            None => None,
-            Some((last, Op::Save)) => Some(*last),
-            Some((_, Op::Read)) => None,
-        }
+        source_after(&self.saves, last_before(&self.reads, at), at)
     }
 
     /// The first operation after a place, or the first of all.
     pub(crate) fn next(&self, after: Option<At>) -> Option<(At, Op)>
         ensures { IsNext (map.get self.now) after result }
     {
-        let from = match after {
-            None => Bound::Unbounded,
-            Some(at) => Bound::Excluded(at),
-        };
-        match self.ops.range((from, Bound::Unbounded)).next() {
-            None => None,
-            Some((at, op)) => Some((*at, *op)),
+        match first_after(&self.saves, after) {
+            None => match first_after(&self.reads, after) {
+                None => None,
+                Some(read) => Some((read, Op::Read)),
+            },
+            Some(save) => match first_after(&self.reads, after) {
+                None => Some((save, Op::Save)),
+                Some(read) => {
+                    if is_before(save, read) {
+                        return Some((save, Op::Save));
+                    }
+                    Some((read, Op::Read))
+                }
+            },
         }
     }
 }
 
-/// The map of some operations, by place; of two at one place, the first. Refused for memory.
-fn collected(alloc: Global, run: &[(At, Op)]) -> Result<BTreeMap<At, Op>, AllocError>
-    ensures { IfOk result (λ ops. seen at_cmp ops ≡ map.from_entries run.now) }
+/// The operations of a list, by place; of two at one place, the first. Refused for memory.
+fn one_by_one(alloc: Global, run: &[(At, Op)]) -> Result<Sequence, AllocError>
+    ensures { IfOk result (λ sequence. sequence ≡ map.from_entries run.now) }
 {
-    collected_backwards(alloc, run)
-}
-
-/// The tree of some operations, from the last to the first. Of two at one place it keeps the one
-/// that comes later, so the first. Refused for memory.
-fn collected_backwards(alloc: Global, run: &[(At, Op)]) -> Result<BTreeMap<At, Op>, AllocError>
-    ensures { IfOk result (IsFromIterResult at_cmp (backwards run.now)) }
-{
-    run.iter().rev().copied().collect(alloc)
-}
-
-/// Puts reads at places, in place of what stands there. Refused for memory, and then some of them
-/// may stand.
-fn add_reads(alloc: Global, ops: &mut BTreeMap<At, Op>, reads: &[At]) -> Result<(), AllocError>
-    ensures ok { OnOk result ((at : At) → map.get (seen at_cmp ops.new) at
-        ≡ with_reads reads.now (map.get (seen at_cmp ops.old)) at) }
-    ensures err { OnErr result (SomeReads reads.now
-        (map.get (seen at_cmp ops.old)) (map.get (seen at_cmp ops.new))) }
-{
-    if reads.len() <= FEW {
-        return insert_reads(ops, reads);
+    let mut sequence = Sequence::new(alloc);
+    // From the last to the first, so that the first at a place stays.
+    let mut left = run.len();
+    while left > 0 {
+        left -= 1;
+        let (at, op) = run[left];
+        sequence.insert(alloc, at, op)?;
     }
-    merge_reads(alloc, ops, reads)
+    Ok(sequence)
 }
 
-/// Puts reads at places, one by one.
-fn insert_reads(ops: &mut BTreeMap<At, Op>, reads: &[At]) -> Result<(), AllocError>
-    ensures ok { OnOk result ((at : At) → map.get (seen at_cmp ops.new) at
-        ≡ with_reads reads.now (map.get (seen at_cmp ops.old)) at) }
-    ensures err { OnErr result (SomeReads reads.now
-        (map.get (seen at_cmp ops.old)) (map.get (seen at_cmp ops.new))) }
+/// The places of a list, if all its operations are saves and each stands after the one before it.
+/// Refused for memory.
+fn saves_in_order(alloc: Global, run: &[(At, Op)]) -> Result<Option<Vec<(At, ())>>, AllocError>
+    ensures rise { IfOk result (λ places. IfSome places (λ places. Ascend at_cmp places.items)) }
+    ensures same { IfOk result (λ places. IfSome places (λ places.
+        as_ops Save places.items ≡ run.now)) }
 {
-    put_each(ops, reads)
+    let mut places = Vec::with_capacity(alloc, run.len())?;
+    let mut before = None;
+    for operation in run {
+        match operation.1 {
+            Op::Read => return Ok(None),
+            Op::Save => {
+                if !is_after(before, operation.0) {
+                    return Ok(None);
+                }
+                places.push((operation.0, ()))?;
+                before = Some(operation.0);
+            }
+        }
+    }
+    Ok(Some(places))
 }
 
-/// Puts a read at each place in turn.
-fn put_each(ops: &mut BTreeMap<At, Op>, reads: &[At]) -> Result<(), AllocError>
-    ensures ok { OnOk result (seen at_cmp ops.new ≡ fold with_read (seen at_cmp ops.old) reads.now) }
-    ensures err { OnErr result (SomeReads reads.now
-        (map.get (seen at_cmp ops.old)) (map.get (seen at_cmp ops.new))) }
+/// Places, if each stands after the one before it. Refused for memory.
+fn places_in_order(alloc: Global, reads: &[At]) -> Result<Option<Vec<(At, ())>>, AllocError>
+    ensures rise { IfOk result (λ places. IfSome places (λ places. Ascend at_cmp places.items)) }
+    ensures same { IfOk result (λ places. IfSome places (λ places.
+        keys_of places.items ≡ reads.now)) }
 {
+    let mut places = Vec::with_capacity(alloc, reads.len())?;
+    let mut before = None;
     for at in reads {
-        put(ops, *at, Op::Read)?;
+        if !is_after(before, *at) {
+            return Ok(None);
+        }
+        places.push((*at, ()))?;
+        before = Some(*at);
     }
-    Ok(())
+    Ok(Some(places))
 }
 
-/// Puts reads at places, by a tree of them that is merged in.
-fn merge_reads(alloc: Global, ops: &mut BTreeMap<At, Op>, reads: &[At]) -> Result<(), AllocError>
-    ensures ok { OnOk result ((at : At) → map.get (seen at_cmp ops.new) at
-        ≡ with_reads reads.now (map.get (seen at_cmp ops.old)) at) }
-    ensures err { OnErr result (SomeReads reads.now
-        (map.get (seen at_cmp ops.old)) (map.get (seen at_cmp ops.new))) }
-{
-    let mut added = collected_reads(alloc, reads)?;
-    ops.append(&mut added)
-}
-
-/// Reads at some places. Refused for memory.
-fn collected_reads(alloc: Global, reads: &[At]) -> Result<BTreeMap<At, Op>, AllocError>
-    ensures { IfOk result (IsFromIterResult at_cmp (as_reads reads.now)) }
-{
-    reads.iter().map(|at| (*at, Op::Read)).collect(alloc)
-}
-
-/// What the reading at each of the first of some places finds, as far as a walk over operations
-/// meets them in order. Refused for memory.
-fn met_in(
+/// What each of some reads finds among saves, if there are no other reads and each stands after the
+/// one before it. Refused for memory.
+fn sources_in_turn(
     alloc: Global,
-    ops: &BTreeMap<At, Op>,
+    saves: &Blocks<At, ()>,
     reads: &[At],
 ) -> Result<Vec<Option<At>>, AllocError>
-    ensures { IfOk result (λ found.
-        found.items ≡ met None (map.entries (seen at_cmp ops.now)) reads.now) }
+    ensures { IfOk result (λ found. (own : Places) → keys_of own ≡ reads.now → Ascend at_cmp own
+        → FindEach (map.get (both saves.now own)) reads.now found.items) }
 {
     let mut found = Vec::with_capacity(alloc, reads.len())?;
-    let mut left = reads;
-    let mut last = None;
-    for (at, op) in entries(ops) {
-        let Some((read, rest)) = left.split_first() else {
-            break;
-        };
-        if read == at {
-            found.push(last)?;
-            left = rest;
-        }
-        last = saved_by(*at, *op);
+    let mut before = None;
+    for at in reads {
+        found.push(source_after(saves, before, *at))?;
+        before = Some(*at);
     }
     Ok(found)
 }
 
-/// The place of an operation, if it saves.
-fn saved_by(at: At, op: Op) -> Option<At>
-    ensures { result ≡ saved_by at op }
+/// What a reading finds at a place, if this is the last read before it: the last save before it, if
+/// that stands after the read.
+fn source_after(saves: &Blocks<At, ()>, read: Option<At>, at: At) -> Option<At>
+    ensures { (own : Places) → IsLastOf own at read
+        → IsSource (map.get (both saves.now own)) at result }
 {
-    match op {
-        Op::Save => Some(at),
-        Op::Read => None,
+    match last_before(saves, at) {
+        None => None,
+        Some(save) => match read {
+            None => Some(save),
+            Some(read) => {
+                if is_before(read, save) {
+                    return Some(save);
+                }
+                None
+            }
+        },
+    }
+}
+
+/// Whether a place is after another, if there is another.
+fn is_after(before: Option<At>, at: At) -> bool
+    ensures { result ≡ is_after before at }
+{
+    match before {
+        None => true,
+        Some(before) => before < at,
+    }
+}
+
+/// Whether a place is before another.
+fn is_before(one: At, other: At) -> bool
+    ensures { result ≡ is_lt (at_cmp one other) }
+{
+    one.cmp(&other).is_lt()
+}
+
+/// The last of some places before another.
+fn last_before(places: &Blocks<At, ()>, at: At) -> Option<At>
+    ensures { IsLastOf places.now at result }
+{
+    match places.before(&at) {
+        None => None,
+        Some((last, ())) => Some(last),
+    }
+}
+
+/// The first of some places after another, or the first of all.
+fn first_after(places: &Blocks<At, ()>, after: Option<At>) -> Option<At>
+    ensures { IsFirstOf places.now after result }
+{
+    let first = match after {
+        None => places.first(),
+        Some(at) => places.after(&at),
+    };
+    match first {
+        None => None,
+        Some((first, ())) => Some(first),
     }
 }

@@ -33,8 +33,7 @@ pub(crate) struct Act<'a> {
 }
 
 impl<'a> Act<'a> {
-    /// Counts the event where it is a hit. The trigger's counter has no hit there yet. Refused for
-    /// memory.
+    /// Counts the event if it is a hit. The trigger's counter has no hit there yet. Refused for memory.
     pub(crate) fn replay(
         &self,
         counters: &mut BTreeMap<u32, Counter>,
@@ -81,7 +80,7 @@ impl<'a> Act<'a> {
                 save(counter, self.at, key, saved)
             }
             Role::Reads(saver) => {
-                let Some(place) = found(saved, Variable { saver, key }) else {
+                let Some(place) = take_saved(saved, Variable { saver, key }) else {
                     return Ok(());
                 };
                 counter.add(self.hit(key, Some(place)), Some(place), work)
@@ -108,8 +107,8 @@ impl<'a> Act<'a> {
     }
 }
 
-/// Sets the variable of a saver's hit that is in its counter, where the key is in the table.
-/// Refused for memory.
+/// Sets the variable of a saver's hit that is in its counter, if the key is in the table. Refused for
+/// memory.
 fn save(
     counter: &Counter,
     at: At,
@@ -131,8 +130,8 @@ fn save(
     Ok(())
 }
 
-/// What a variable is set to. It is unset then.
-fn found(saved: &mut BTreeMap<Variable, Pos>, variable: Variable) -> Option<Pos>
+/// Takes what a variable is set to, and unsets it.
+fn take_saved(saved: &mut BTreeMap<Variable, Pos>, variable: Variable) -> Option<Pos>
     ensures value { result ≡ map.get (seen variable_cmp saved.old) variable }
     ensures unset { seen variable_cmp saved.new
         ≡ map.remove (seen variable_cmp saved.old) variable }

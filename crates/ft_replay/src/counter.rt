@@ -69,8 +69,8 @@ impl Counter {
         &self.pairs
     }
 
-    /// Adds a hit where none stands, and its pair where it read what was saved at a place. Refused
-    /// for memory.
+    /// Adds a hit at a free place, and its pair if it read what was saved at a place. Refused for
+    /// memory.
     pub(crate) fn add(
         &mut self,
         hit: Hit,

@@ -1,12 +1,12 @@
 //! Replaying: what the attached triggers count if all held events go past them in order, now.
 //!
-//! All held events stand in one merged order: by stamp, then by CPU, then by line. At each the
-//! triggers act in order of id: a hit is counted, and may save a variable or read one. `replayed`
-//! answers a `Counter` for each attached trigger. What is asked of them stands in `ft_answers`.
+//! All held events are in one merged order: by stamp, then by CPU, then by line. At each the
+//! triggers act in order of id: a hit is counted, and may save a variable or read one. `replay_held`
+//! answers a `Counter` for each attached trigger. The answers are made of them in `ft_answers`.
 //!
 //! ```ignore
 //! let mut work = Work::new();
-//! let counters = replayed(rt.alloc(), &lanes, &triggers, &mut work)?;
+//! let counters = replay_held(rt.alloc(), &lanes, &triggers, &mut work)?;
 //! let counter = counters.get(&id).unwrap();
 //! let totals = counter.table().totals();
 //! let pairs = counter.pairs();
@@ -14,7 +14,7 @@
 //!
 //! # Contracts
 //!
-//! - `replayed`, `Counter`: a counter for each attached trigger, whose hits and pairs are the tally
+//! - `replay_held`, `Counter`: a counter for each attached trigger, whose hits and pairs are the tally
 //!   that replaying what is held gives (`specs/Counters.antt`), with the trigger's role and size,
 //!   and only keys that fit it; no count of steps falls. `Counter::role`, `table`, `pairs`: exact.
 //!   Lets through: running out of memory at any time; any number of steps.
@@ -50,4 +50,4 @@ pub use laws::{
 pub use merge::{events_with, merged_events, merged_events_but};
 pub use names::Names;
 pub use pair::Pair;
-pub use replay::replayed;
+pub use replay::replay_held;

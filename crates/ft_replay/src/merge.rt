@@ -77,7 +77,7 @@ fn events_but<'a>(
     let mut ordered = Ordered::new(alloc);
     walk(
         lanes,
-        walked_places(lanes, but),
+        walk_limit(lanes, but),
         &mut rests,
         names,
         &mut ordered,
@@ -88,9 +88,9 @@ fn events_but<'a>(
     Ok(events)
 }
 
-/// How many places of the store a walk goes over: all, where at least one of eight is that of an
-/// event of a CPU that is not left out, else none, since sorting then costs less.
-fn walked_places(lanes: &Lanes, but: &[u16]) -> u32 {
+/// How many places of the store a walk goes over: all, if at least one of eight is that of an event of
+/// a CPU that is not left out; otherwise none, since sorting costs less then.
+fn walk_limit(lanes: &Lanes, but: &[u16]) -> u32 {
     let mut count = lanes.len();
     for cpu in but {
         count = count.saturating_sub(lanes.held_on(*cpu));
@@ -102,8 +102,8 @@ fn walked_places(lanes: &Lanes, but: &[u16]) -> u32 {
     u32::try_from(lanes.stored()).unwrap_or(u32::MAX)
 }
 
-/// Takes events out of the lanes in the order in which they stand at so many places of the store,
-/// and adds those that have one of the names. Refused for memory.
+/// Takes events out of the lanes in the order of so many places of the store, and adds those that have
+/// one of the names. Refused for memory.
 fn walk<'a>(
     lanes: &Lanes,
     places: u32,

@@ -6,11 +6,11 @@ use ft_fields::Pos;
 use ft_store::Stored;
 use std::alloc::{AllocError, Global};
 
-/// How many places back each event may move, on the mean.
+/// How many places back each event may move, on average.
 const MOVES_EACH: usize = 4;
 
-/// Events with their places. A new event is moved forward to its place in the merged order. Where the
-/// moves would be more than a few for each event so far, it stays at the end.
+/// Events with their places. A new event is moved forward to its place in the merged order. If that
+/// would take more than a few moves for each event so far, it stays at the end.
 #[derive(Drop)]
 pub(crate) struct Ordered<'a> {
     events: Vec<(Pos, Stored<'a>)>,
@@ -60,7 +60,7 @@ impl<'a> Ordered<'a> {
     }
 }
 
-/// How many of the last events a place stands before, if they are no more than so many.
+/// How many of the last events come after a place, if they are at most `most`.
 fn moves_back(events: &[(Pos, Stored<'_>)], pos: Pos, most: usize) -> Option<usize>
     ensures within { IfSome result (λ moves. moves ≤ length events.now) }
     ensures few { IfSome result (λ moves. moves ≤ most) }
@@ -75,7 +75,7 @@ fn moves_back(events: &[(Pos, Stored<'_>)], pos: Pos, most: usize) -> Option<usi
     Some(moves)
 }
 
-/// Puts an event at an index, before those that stand there. Refused for memory.
+/// Inserts an event at an index. Refused for memory.
 fn put_at<'a>(
     events: &mut Vec<(Pos, Stored<'a>)>,
     index: usize,

@@ -28,7 +28,7 @@ use std::alloc::{AllocError, Global};
 use std::collections::BTreeMap;
 
 /// The counter of each attached trigger after all held events. Refused for memory.
-pub fn replayed(
+pub fn replay_held(
     alloc: Global,
     lanes: &Lanes,
     triggers: &Triggers,

@@ -46,7 +46,7 @@ impl<'a> Rest<'a> {
         }
     }
 
-    /// Whether its first event stands at a place of the store.
+    /// Whether its first event is at a place of the store.
     fn is_at(&self, place: u32) -> bool {
         match self.first {
             Some((_, stored)) => stored.place() == place,
@@ -86,14 +86,14 @@ impl<'a> Iterator for Rest<'a> {
     }
 }
 
-/// The lanes that are listed, and where each of them stands.
+/// The lanes that are listed, and how far each of them has been read.
 #[derive(Drop)]
 pub(crate) struct Rests<'a> {
     rests: Vec<Rest<'a>>,
     by_cpu: Vec<u16>,
 }
 
-/// What stands for a CPU without a lane that is listed.
+/// Marks a CPU without a lane that is listed.
 const NO_REST: u16 = u16::MAX;
 
 impl<'a> Rests<'a> {

@@ -15,9 +15,9 @@ use Rattle.ft_base.specs.After.{after_load}
 use Rattle.ft_base.specs.Base.{Base}
 use Rattle.ft_base.specs.declared.refused.Refused.{Refused}
 use Rattle.ft_base.specs.declared.refused.Refused.TheVariants.{LaneHeld, Full}
-use Rattle.ft_script.specs.Lines.{lines_of}
-use Rattle.ft_desk.specs.Edits as desk
-use Rattle.ft_desk.specs.Edits.{line_in_front, events_from, after_load_text, ◌>>=◌}
+use Rattle.ft_text.specs.Lines.{lines_of}
+use Rattle.ft_desk_core.specs.Edits as desk
+use Rattle.ft_desk_core.specs.Edits.{line_in_front, events_from, after_load_text, ◌>>=◌}
 use Rattle.ft_waits.specs.Reading.{with_line, events_of, history, dispatches_in}
 use Rattle.ft_held_waits.specs.Held.{dispatches_held}
 use Rattle.ft_same_waits.specs.Loaded.{loaded}

@@ -4,7 +4,7 @@ ghost use Rattle.std.specs.Prelude.{◌≡◌, ℕ, List, [], Ok, reverse};
 ghost use Rattle.std.specs.FinMap as map;
 ghost use Rattle.ft_fields.specs.Traced.{Traced};
 ghost use Rattle.ft_base.specs.Base.{Base};
-ghost use Rattle.ft_desk.specs.Edits.{after_load_text};
+ghost use Rattle.ft_desk_core.specs.Edits.{after_load_text};
 ghost use Rattle.ft_dispatch.specs.Dispatches.{dispatches};
 ghost use Rattle.ft_waits.specs.Reading.{acts_of, in_order, dispatches_in};
 ghost use Rattle.ft_held_waits.specs.Held.{dispatches_held};

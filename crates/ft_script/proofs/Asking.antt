@@ -8,7 +8,7 @@ use Rattle.ft_fields.specs.declared.event.Name.TheVariants as names
 use Rattle.ft_fields.specs.Names.{name_called}
 use Rattle.ft_script.specs.declared.script.Numbered.{Numbered}
 use Rattle.ft_script.specs.declared.script.Numbered.TheVariants as numbers
-use Rattle.ft_script.specs.Script.{Asked, Nothing, Load, Insert, Strike, Attach, Refilter, About, NoForm, line_limit, is_space, is_in_word, drop_while, trimmed, first_word, after_word, command_number, load_in, attach_in, strike_in, refilter_in, filter_in, about, worded, inserted, asked_by}
+use Rattle.ft_script.specs.Script.{Asked, Nothing, Load, Insert, Strike, Attach, Refilter, About, NoForm, line_limit, is_space, is_in_word, drop_while, trimmed, first_word, after_word, command_number, load_in, attach_in, strike_in, refilter_in, filter_in, about, command_by_word, insert_text, asked_by}
 use Rattle.ft_script.specs.Written.{IsCommandNumber, IsStripped, IsWritable, spaced, written}
 use Rattle.ft_script.proofs.Spelled.{Closes, bare_kept, bare_both, closes_behind, word_closes, word_first, word_after, word_opens, spaced_ends, text_after, spaced_closes, number_word, number_some, number_again, colon_cut}
 
@@ -16,7 +16,7 @@ use Rattle.ft_script.proofs.Spelled.{Closes, bare_kept, bare_both, closes_behind
 
 -- a line that is no insert, and not silent, is asked for by its words
 by_words : (front text : List ℕ) → length (front ++ text) ≤ line_limit → 0 < length text → Closes text → is_space (slice_index (front ++ text) 0) ≡ false
-    → (list_all is_space (front ++ text) || slice_index (front ++ text) 0 == 35) ≡ false → inserted (front ++ text) ≡ None → asked_by (front ++ text) ≡ worded (front ++ text)
+    → (list_all is_space (front ++ text) || slice_index (front ++ text) 0 == 35) ≡ false → insert_text (front ++ text) ≡ None → asked_by (front ++ text) ≡ command_by_word (front ++ text)
 unfolding asked_by
 by_words front text short some closes first seen apart =
     let within : nat_lt line_limit (length (front ++ text)) ≡ false = grind (arith, nat_tests) in
@@ -30,14 +30,14 @@ number_left n low = ap (λ (t : List ℕ). command_number (drop_while is_space t
 
 -- a trace file is loaded
 load_asked : (n : ℕ) → IsCommandNumber n → length (written (Load n)) ≤ line_limit → asked_by (written (Load n)) ≡ Load n
-unfolding inserted worded first_word after_word load_in
+unfolding insert_text command_by_word first_word after_word load_in
 load_asked n low short =
     by_words (codes "load @") (decimal n) short (number_some n low) (word_closes (decimal n) (number_word n low)) refl refl refl
     ∙ ap (λ (o : Option ℕ). option_map_or Load o NoForm) (number_again n low)
 
 -- what is asked about a number
 about_asked : (what : Numbered) (n : ℕ) → IsCommandNumber n → length (written (About what n)) ≤ line_limit → asked_by (written (About what n)) ≡ About what n
-unfolding inserted worded first_word after_word
+unfolding insert_text command_by_word first_word after_word
 about_asked what n low short = by what short
   where
     some : 0 < length (decimal n)
@@ -58,7 +58,7 @@ about_asked what n low short = by what short
 
 -- an event is struck
 strike_asked : (cpu line : ℕ) → IsCommandNumber cpu → IsCommandNumber line → length (written (Strike cpu line)) ≤ line_limit → asked_by (written (Strike cpu line)) ≡ Strike cpu line
-unfolding inserted worded first_word after_word strike_in
+unfolding insert_text command_by_word first_word after_word strike_in
 strike_asked cpu line low under short =
     let text : List ℕ = decimal cpu ++ 58 ∷ decimal line in
     let some : 0 < length text = omega (arith, length-append (decimal cpu) (58 ∷ decimal line)) in
@@ -72,7 +72,7 @@ strike_asked cpu line low under short =
 
 -- a line of a trace is inserted
 insert_asked : (text : List ℕ) → length (written (Insert text)) ≤ line_limit → asked_by (written (Insert text)) ≡ Insert text
-unfolding asked_by inserted
+unfolding asked_by insert_text
 insert_asked text short =
     let within : nat_lt line_limit (length (codes "insert " ++ text)) ≡ false = grind (arith, nat_tests) in
     rw within refl
@@ -85,7 +85,7 @@ attach_read event name text all called bare = rw (word_first name (spaced text) 
 -- a trigger is attached, by the name of its event
 attach_named : (event : Name) (name text : List ℕ) → 0 < length name → list_all is_in_word name ≡ true → name_called name ≡ Some event → IsStripped text
     → length (codes "attach " ++ (name ++ spaced text)) ≤ line_limit → asked_by (codes "attach " ++ (name ++ spaced text)) ≡ Attach event text
-unfolding inserted worded first_word after_word
+unfolding insert_text command_by_word first_word after_word
 attach_named event name text some all called bare short =
     by_words (codes "attach ") (name ++ spaced text) short (omega (arith, length-append name (spaced text))) (spaced_closes name text all bare) refl refl refl
     ∙ ap attach_in (word_opens name (spaced text) some all) ∙ attach_read event name text all called bare
@@ -107,7 +107,7 @@ filter_read id text what low is = rw (word_first (decimal id) (32 ∷ text) (num
 -- so it is read in a line
 filter_behind : (id : ℕ) (text : List ℕ) (what : Asked) → IsCommandNumber id → 0 < length text → Closes (32 ∷ text) → refilter_in id (drop_while is_space text) ≡ what
     → length (codes "filter " ++ (decimal id ++ 32 ∷ text)) ≤ line_limit → asked_by (codes "filter " ++ (decimal id ++ 32 ∷ text)) ≡ what
-unfolding inserted worded first_word after_word
+unfolding insert_text command_by_word first_word after_word
 filter_behind id text what low some closes is short =
     by_words (codes "filter ") (decimal id ++ 32 ∷ text) short (omega (arith, length-append (decimal id) (32 ∷ text))) (closes_behind (decimal id) (32 ∷ text) (omega arith) closes) refl refl refl
     ∙ ap filter_in (word_opens (decimal id) (32 ∷ text) (number_some id low) (number_word id low)) ∙ filter_read id text what low is
@@ -131,7 +131,7 @@ filter_asked id text low bare short =
 
 -- what is written out is asked for
 pub asked_written : (what : Asked) → IsWritable what → length (written what) ≤ line_limit → asked_by (written what) ≡ what
-unfolding asked_by trimmed inserted worded first_word after_word command_number
+unfolding asked_by trimmed insert_text command_by_word first_word after_word command_number
 asked_written Nothing fits short = refl
 asked_written (Load n) fits short = load_asked n fits short
 asked_written (Insert text) fits short = insert_asked text short

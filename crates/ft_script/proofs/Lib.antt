@@ -1,5 +1,4 @@
 mod Asking
-pub mod Cuts
 mod Spelled
 pub mod WordLemmas
 pub mod WordWalk

@@ -5,7 +5,7 @@ use Rattle.std.specs.List.{prefix_len, position_or_len}
 use Rattle.std.proofs.lemmas.List.{take_rest, drop_all}
 use Rattle.std.proofs.lemmas.List.Sums.{prefix_len_is}
 use Rattle.memchr.specs.Find.{IsFirstByte, is_byte}
-use Rattle.ft_script.specs.Script.{NoForm, drop_while, command_number, is_colon, struck, strike_in}
+use Rattle.ft_script.specs.Script.{NoForm, drop_while, command_number, is_colon, strike_of, strike_in}
 
 -- one more byte that passes is dropped
 drop_more : (passes : Bool) (byte : ℕ) (bytes left : List ℕ) (n : ℕ) → left ≡ drop n bytes → cond passes left (byte ∷ bytes) ≡ drop (cond passes (1 + n) 0) (byte ∷ bytes)
@@ -30,7 +30,7 @@ first_at byte text (Some end) here =
 
 -- what is before and after the first colon is what is struck
 pub strike_at : (text : List ℕ) (colon : ℕ) → IsFirstByte (is_byte 58) text (Some colon)
-    → struck (command_number (take colon text)) (command_number (take (length text - (colon + 1)) (drop (colon + 1) text))) ≡ strike_in text
+    → strike_of (command_number (take colon text)) (command_number (take (length text - (colon + 1)) (drop (colon + 1) text))) ≡ strike_in text
 unfolding strike_in
 strike_at text colon here = let at : colon ≡ position_or_len is_colon text = first_at 58 text (Some colon) here in rw (take_rest text (colon + 1)) (rw at refl)
 

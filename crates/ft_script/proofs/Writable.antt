@@ -10,7 +10,7 @@ use Rattle.ft_fields.specs.declared.event.Name.{Name}
 use Rattle.ft_fields.specs.declared.event.Name.TheVariants as names
 use Rattle.ft_fields.specs.Names.{name_text, is_called, name_called}
 use Rattle.ft_script.specs.declared.script.Numbered.{Numbered}
-use Rattle.ft_script.specs.Script.{Asked, Nothing, Load, Insert, Attach, Refilter, NoForm, line_limit, most_digits, greatest_number, is_space, is_in_word, is_colon, drop_while, trimmed, first_word, after_word, command_number, load_in, attach_in, struck, strike_in, refilter_in, filter_in, numbered_by, about, worded, inserted, asked_by}
+use Rattle.ft_script.specs.Script.{Asked, Nothing, Load, Insert, Attach, Refilter, NoForm, line_limit, most_digits, greatest_number, is_space, is_in_word, is_colon, drop_while, trimmed, first_word, after_word, command_number, load_in, attach_in, strike_of, strike_in, refilter_in, filter_in, numbered_by, about, command_by_word, insert_text, asked_by}
 use Rattle.ft_script.specs.Written.{IsCommandNumber, IsStripped, IsWritable}
 use Rattle.ft_script.proofs.Spelled.{Opens, Closes}
 
@@ -104,7 +104,7 @@ strike_writable : (text : List ℕ) → IsWritable (strike_in text)
 unfolding strike_in
 strike_writable text = from (command_number (before_first is_colon text)) (command_number (after_first is_colon text)) (number_fits (before_first is_colon text)) (number_fits (after_first is_colon text))
   where
-    from : (o p : Option ℕ) → Fits o → Fits p → IsWritable (struck o p)
+    from : (o p : Option ℕ) → Fits o → Fits p → IsWritable (strike_of o p)
     from o None fits suits = tt
     from None (Some line) fits suits = tt
     from (Some cpu) (Some line) fits suits = (fits cpu refl, suits line refl)
@@ -139,8 +139,8 @@ about_writable what None fits = tt
 about_writable None (Some n) fits = tt
 about_writable (Some what) (Some n) fits = fits n refl
 
-worded_writable : (text : List ℕ) → Closes text → IsWritable (worded text)
-unfolding worded
+worded_writable : (text : List ℕ) → Closes text → IsWritable (command_by_word text)
+unfolding command_by_word
 worded_writable text closes =
     from (bytes_eq (first_word text) (codes "load")) (bytes_eq (first_word text) (codes "strike")) (bytes_eq (first_word text) (codes "attach")) (bytes_eq (first_word text) (codes "filter")) (after_closes text closes)
   where
@@ -155,9 +155,9 @@ worded_writable text closes =
 -- what a line asks for may be written out
 pub asked_writable : (line : List ℕ) → IsWritable (asked_by line)
 unfolding asked_by
-asked_writable line = from (nat_lt line_limit (length line)) (list_all is_space line || slice_index line 0 == 35) (inserted line) (worded_writable (trimmed line) (trimmed_closes line))
+asked_writable line = from (nat_lt line_limit (length line)) (list_all is_space line || slice_index line 0 == 35) (insert_text line) (worded_writable (trimmed line) (trimmed_closes line))
   where
-    from : (a b : Bool) (o : Option (List ℕ)) → IsWritable (worded (trimmed line)) → IsWritable (cond a NoForm (cond b Nothing (option_map_or Insert o (worded (trimmed line)))))
+    from : (a b : Bool) (o : Option (List ℕ)) → IsWritable (command_by_word (trimmed line)) → IsWritable (cond a NoForm (cond b Nothing (option_map_or Insert o (command_by_word (trimmed line)))))
     from true b o fits = tt
     from false true o fits = tt
     from false false (Some text) fits = tt

@@ -1,14 +1,14 @@
-pub mod Lines
 pub mod Script
 pub mod Command
 pub mod Written
 pub mod Words
 pub mod Files
 pub mod inner
+pub use Rattle.ft_text.specs.Lines
 pub use Rattle.ft_fields.specs.Names
 pub mod Answered
 pub mod Refusals
 pub use Rattle.ft_base.specs.Refused
 pub use Rattle.ft_event.specs.LineFault
 pub use Rattle.ft_filter.specs.FilterFault
-pub use Rattle.ft_head.specs.TriggerFault
+pub use Rattle.ft_hist.specs.TriggerFault

@@ -2,9 +2,9 @@
 use Rattle.std.specs.Prelude.{ℕ, List, [], ◌++◌, Option, Some, None, codes, decimal}
 use Rattle.ft_event.specs.LineFault.{line_number}
 use Rattle.ft_filter.specs.FilterFault.{filter_number, filter_place}
-use Rattle.ft_head.specs.TriggerFault.{trigger_number, trigger_place}
-use Rattle.ft_head.specs.declared.fault.TriggerFault.{TriggerFault}
-use Rattle.ft_head.specs.declared.fault.TriggerFault.TheVariants as faults
+use Rattle.ft_hist.specs.TriggerFault.{trigger_number, trigger_place}
+use Rattle.ft_hist.specs.declared.fault.TriggerFault.{TriggerFault}
+use Rattle.ft_hist.specs.declared.fault.TriggerFault.TheVariants as faults
 use Rattle.ft_base.specs.Refused.{refused_number}
 use Rattle.ft_base.specs.declared.refused.Refused.{Refused}
 use Rattle.ft_base.specs.declared.refused.Refused.TheVariants.{BadLine, LaneHeld, NoLane, BadTrigger, BadFilter, InUse, NameTaken}

@@ -78,14 +78,14 @@ abbrev pub is_colon : ℕ → Bool
 is_colon byte = byte == 58
 
 -- the numbers of a CPU and of a line, where both stand
-abbrev pub struck : Option ℕ → Option ℕ → Asked
-struck cpu None = NoForm
-struck None (Some line) = NoForm
-struck (Some cpu) (Some line) = Strike cpu line
+abbrev pub strike_of : Option ℕ → Option ℕ → Asked
+strike_of cpu None = NoForm
+strike_of None (Some line) = NoForm
+strike_of (Some cpu) (Some line) = Strike cpu line
 
 -- after `strike`: `C:L`, a CPU's number and a line's number
 unfoldable pub strike_in : List ℕ → Asked
-strike_in text = struck (command_number (before_first is_colon text)) (command_number (after_first is_colon text))
+strike_in text = strike_of (command_number (before_first is_colon text)) (command_number (after_first is_colon text))
 
 -- after a trigger's id: `if` and a filter's text, which may be empty, or `none` alone
 unfoldable pub refilter_in : ℕ → List ℕ → Asked
@@ -118,8 +118,8 @@ abbrev pub worded_forms : List (List ℕ × (List ℕ → Asked))
 worded_forms = (codes "load", load_in) ∷ (codes "strike", strike_in) ∷ (codes "attach", attach_in) ∷ (codes "filter", filter_in) ∷ []
 
 -- a command by its first word
-unfoldable pub worded : List ℕ → Asked
-worded text =
+unfoldable pub command_by_word : List ℕ → Asked
+command_by_word text =
     option_map_or (λ form. form.1 (after_word text)) (find (λ form. bytes_eq (first_word text) form.0) worded_forms)
     (about (numbered_by (first_word text)) (command_number (after_word text)))
 
@@ -129,12 +129,12 @@ behind_space [] = Some []
 behind_space (byte ∷ bytes) = if byte == 32 then Some bytes else None
 
 -- the line of a trace after `insert` and one space, byte for byte, where they begin the line; `insert` alone has the empty one
-unfoldable pub inserted : List ℕ → Option (List ℕ)
-inserted line = if bytes_eq (take 6 line) (codes "insert") then behind_space (drop 6 line) else None
+unfoldable pub insert_text : List ℕ → Option (List ℕ)
+insert_text line = if bytes_eq (take 6 line) (codes "insert") then behind_space (drop 6 line) else None
 
 -- what a line asks for: nothing where it is empty, of spaces, or begins with `#`; a line over the limit has no form
 unfoldable pub asked_by : List ℕ → Asked
 asked_by line =
     if nat_lt line_limit (length line) then NoForm
     else (if list_all is_space line || slice_index line 0 == 35 then Nothing
-    else option_map_or Insert (inserted line) (worded (trimmed line)))
+    else option_map_or Insert (insert_text line) (command_by_word (trimmed line)))

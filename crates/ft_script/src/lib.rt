@@ -47,7 +47,6 @@
 //!   time; of the system's files, of which the kit's contracts tell nothing, any bytes.
 //! - `read_command`: what a script line asks for, `asked_by` of the line (`specs/Script.antt`,
 //!   `specs/Command.antt`); exact.
-//! - `next_line`: a text is its first line and the lines of what is left (`specs/Lines.antt`).
 //! - Law `written_commands`: a command that is written out, within the limit of lines, asks for
 //!   just what it names (`specs/Written.antt`): each form with every number of 32 bits, every event
 //!   that has a name, and the text of every trigger and filter without spaces at its ends.
@@ -66,7 +65,6 @@ mod accepted;
 mod answered;
 mod files;
 pub mod laws;
-mod lines;
 mod numbers;
 mod refusals;
 mod script;
@@ -75,8 +73,8 @@ mod words;
 pub use accepted::{EditValue, done_line};
 pub use answered::Answer;
 pub use files::{FILE_LIMIT, FileFault, Paths, READ_LIMIT, read_file, read_whole};
+pub use ft_text::next_line;
 pub use laws::{writable_commands, written_commands};
-pub use lines::next_line;
 pub use refusals::refused_line;
 pub use script::{Command, LINE_LIMIT, Numbered, read_command};
 pub use words::{Words, WordsFault, read_words};

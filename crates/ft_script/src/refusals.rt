@@ -5,7 +5,7 @@ ghost use Rattle.ft_script.specs.Refusals.{detail, fault_detail, place_text, ref
 
 use crate::numbers::add;
 use ft_base::Refused;
-use ft_head::TriggerFault;
+use ft_hist::TriggerFault;
 use std::alloc::{AllocError, Global};
 
 /// The line of a refused command: the refusal's number, and what else it says.

@@ -3,7 +3,7 @@
 ghost use Rattle.std.specs.Prelude.{◌≡◌, ◌==◌, ◌||◌, reverse, slice_index, option_map};
 ghost use Rattle.std.specs.List.{list_all, prefix_len};
 ghost use Rattle.ft_script.specs.Command.{asked};
-ghost use Rattle.ft_script.specs.Script.{asked_by, inserted, worded, numbered_by, about, is_space, is_in_word, drop_while, trimmed, first_word, after_word, command_number, load_in, strike_in, struck, attach_in, filter_in, refilter_in};
+ghost use Rattle.ft_script.specs.Script.{asked_by, insert_text, command_by_word, numbered_by, about, is_space, is_in_word, drop_while, trimmed, first_word, after_word, command_number, load_in, strike_in, strike_of, attach_in, filter_in, refilter_in};
 
 use ft_fields::Name;
 use ft_text::{is_same, number_within};
@@ -65,17 +65,16 @@ pub fn read_command(line: &[u8]) -> Command<'_>
     if is_silent(line) {
         return Command::Nothing;
     }
-    match inserted(line) {
+    match insert_text(line) {
         Some(text) => Command::Insert(text),
-        None => worded(trim(line)),
+        None => command_by_word(trim(line)),
     }
 }
 
-/// The trace line after `insert` and one space, where they begin the line: all its bytes as they
-/// stand.
-#[tactic(auto, unfolding(crate::specs::Script::inserted))]
-fn inserted(line: &[u8]) -> Option<&[u8]>
-    ensures { option_map (λ text. text.now) result ≡ inserted line.now }
+/// The trace line after `insert` and one space, with all its bytes, if the line begins with these.
+#[tactic(auto, unfolding(crate::specs::Script::insert_text))]
+fn insert_text(line: &[u8]) -> Option<&[u8]>
+    ensures { option_map (λ text. text.now) result ≡ insert_text line.now }
 {
     match line.strip_prefix(b"insert") {
         Some([b' ', text @ ..]) => Some(text),
@@ -85,9 +84,9 @@ fn inserted(line: &[u8]) -> Option<&[u8]>
 }
 
 /// A command by its first word.
-#[tactic(auto, unfolding(crate::specs::Script::worded))]
-fn worded(text: &[u8]) -> Command<'_>
-    ensures { asked result ≡ worded text.now }
+#[tactic(auto, unfolding(crate::specs::Script::command_by_word))]
+fn command_by_word(text: &[u8]) -> Command<'_>
+    ensures { asked result ≡ command_by_word text.now }
 {
     let (word, rest) = split_word(text);
     if is_same(word, b"load") {
@@ -103,7 +102,7 @@ fn worded(text: &[u8]) -> Command<'_>
     }
 }
 
-/// What is asked about a number, by its word.
+/// The command about a number that a word names.
 fn numbered_by(word: &[u8]) -> Option<Numbered>
     ensures { result ≡ numbered_by word.now }
 {
@@ -124,7 +123,7 @@ fn numbered_by(word: &[u8]) -> Option<Numbered>
     }
 }
 
-/// A command about one number, where its word is one and the number is one.
+/// A command about one number, if the word names one and the number is valid.
 fn about<'a>(what: Option<Numbered>, number: Option<u32>) -> Command<'a>
     ensures { asked result ≡ about what number }
 {
@@ -134,7 +133,7 @@ fn about<'a>(what: Option<Numbered>, number: Option<u32>) -> Command<'a>
     }
 }
 
-/// Whether a line is of spaces alone, or a comment.
+/// Whether a line has only spaces, or is a comment.
 fn is_silent(line: &[u8]) -> bool
     ensures { result ≡ (list_all is_space line.now || slice_index line.now 0 == 35) }
 {
@@ -227,14 +226,14 @@ fn strike(text: &[u8]) -> Command<'_>
     ensures { asked result ≡ strike_in text.now }
 {
     match memchr(b':', text) {
-        Some(colon) => struck(number(&text[..colon]), number(&text[colon + 1..])),
+        Some(colon) => strike_of(number(&text[..colon]), number(&text[colon + 1..])),
         None => Command::NoForm,
     }
 }
 
-/// The event to strike, where its CPU and its line are numbers.
-fn struck<'a>(cpu: Option<u32>, line: Option<u32>) -> Command<'a>
-    ensures { asked result ≡ struck cpu line }
+/// The event to strike, if its CPU and its line are numbers.
+fn strike_of<'a>(cpu: Option<u32>, line: Option<u32>) -> Command<'a>
+    ensures { asked result ≡ strike_of cpu line }
 {
     match (cpu, line) {
         (Some(cpu), Some(line)) => Command::Strike(cpu, line),

@@ -5,7 +5,7 @@ use Rattle.std.specs.Option.{option_map_or}
 use Rattle.ft_base.specs.Base.{Base}
 use Rattle.ft_base.specs.declared.refused.Refused.{Refused}
 use Rattle.ft_answers.specs.After.{after_refilter, after_remove}
-use Rattle.ft_desk.specs.Edits.{after_refilter_text, ◌>>=◌}
+use Rattle.ft_desk_core.specs.Edits.{after_refilter_text, ◌>>=◌}
 
 -- what is done with something that is there, where it is accepted
 found : {H T : Type 0} (o : Option H) (f : H → Result T Refused) (refused : Refused) (done : T) → option_map_or f o (Err refused) ≡ Ok done → (h : H) × (f h ≡ Ok done)

@@ -62,7 +62,7 @@ impl JointReport {
     }
 
     /// What all edits report, with the place of the last one; none if there was no edit.
-    pub(crate) fn edited(&self, alloc: Global) -> Option<Edited>
+    pub(crate) fn joint_edit(&self, alloc: Global) -> Option<Edited>
         ensures none { self.now.last ≡ None → result ≡ None }
         ensures some { (place : Place) → self.now.last ≡ Some place → IsSomeAnd result (λ edited.
             (edited.place ≡ place) × Lists self.now.rows edited.report × Lists self.now.made edited.made) }
@@ -70,8 +70,8 @@ impl JointReport {
         match self.last {
             Some(place) => Some(Edited {
                 place,
-                report: listed(alloc, &self.rows),
-                made: listed(alloc, &self.made),
+                report: list_rows(alloc, &self.rows),
+                made: list_rows(alloc, &self.made),
             }),
             None => None,
         }
@@ -118,8 +118,8 @@ fn add_rows(rows: &mut RowSet, named: &[Changed]) -> Result<(), AllocError>
     Ok(())
 }
 
-/// The rows as a list. If they aren't reported, or memory runs out, there is none.
-fn listed(alloc: Global, rows: &Option<RowSet>) -> Option<Vec<Changed>>
+/// The rows as a list; `None` if they aren't reported, or memory runs out.
+fn list_rows(alloc: Global, rows: &Option<RowSet>) -> Option<Vec<Changed>>
     ensures { Lists rows.now result }
 {
     match rows {

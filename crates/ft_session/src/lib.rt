@@ -45,8 +45,8 @@
 
 mod joint_report;
 mod lines;
+mod outcome;
 mod session;
 mod strikes;
-mod told;
 
 pub use session::Session;

@@ -4,8 +4,8 @@ ghost use Rattle.std.specs.Prelude.{◌≡◌, [], Ok, None};
 ghost use Rattle.ft_lines.specs.Lines.{text_lines};
 ghost use Rattle.ft_session.specs.Calls.{ReadsLines, ReadsLosses};
 
+use crate::outcome::{accept, hold, refuse};
 use crate::session::Session;
-use crate::told::{accept, hold, refuse};
 use ft_answers::Refused;
 use ft_lines::{LossesLayout, lines_in, losses_in};
 use ft_losses::LossesRead;

@@ -3,11 +3,11 @@
 ghost use Rattle.std.specs.Prelude.{◌≡◌, Ok, [], unwrap_or};
 ghost use Rattle.std.specs.Option.{option_copied};
 ghost use Rattle.ft_answers.specs.After.{after_unload, after_strike, after_remove};
-ghost use Rattle.ft_answers.specs.Answers.{hist_text, counts_shown, totals, pairs_shown};
+ghost use Rattle.ft_answers.specs.Answers.{hist_text, rows_shown, totals, pairs_shown};
 ghost use Rattle.ft_base.specs.Answers.{list_text, trigger_text, attached_in};
-ghost use Rattle.ft_desk.specs.Edits.{after_load_text, after_insert_text};
-ghost use Rattle.ft_desk.specs.Edits.{after_attach_text, after_refilter_text};
-ghost use Rattle.ft_desk.specs.Found.{event_found, lane_found, matching_found};
+ghost use Rattle.ft_desk_core.specs.Edits.{after_load_text, after_insert_text};
+ghost use Rattle.ft_desk_core.specs.Edits.{after_attach_text, after_refilter_text};
+ghost use Rattle.ft_desk_core.specs.Found.{event_found, lane_found, matching_found};
 ghost use Rattle.ft_answers.specs.Places.{places};
 ghost use Rattle.ft_layout.specs.Rows.{report_layout};
 ghost use Rattle.ft_session.specs.Told.{rows_told, made_told};
@@ -18,10 +18,10 @@ ghost use Rattle.ft_session.specs.Calls.{AnswersPairs, ReadsText, ReadsPlaces};
 ghost use Rattle.ft_session.specs.Calls.{ReadsTriggers, ReadsEvent, HoldsWaits};
 
 use crate::lines::no_losses;
-use crate::told::{accept, all_told, hold, refuse, told};
+use crate::outcome::{accept, as_rows, hold, refuse, rows_or_empty};
 use ft_answers::{AttachedTrigger, Changed, Edited, Pair, Refused, Row};
 use ft_board::KeptBoard;
-use ft_desk::Desk;
+use ft_desk_core::Desk;
 use ft_fields::{Name, Pos};
 use ft_layout::{EventLayout, LineLayout, ReportLayout, TotalsLayout};
 use ft_lines::TextLine;
@@ -50,7 +50,7 @@ pub struct Session {
     pub lines: Vec<TextLine>,
     /// What the text reports lost that was last asked for by `losses`.
     pub losses: LossesRead,
-    /// What the last accepted insert or strike told, or the strikes of one call together.
+    /// What the last accepted insert or strike reported, or the strikes of one call together.
     pub edited: Option<Edited>,
     /// Why the last call with a code was refused, if it was.
     pub refused: Option<Refused>,
@@ -205,13 +205,13 @@ impl Session {
         hold(answer, &mut self.text, length, &mut self.refused)
     }
 
-    /// Asks for the rows of a trigger's table: how many they are. Refused as `Desk::counts` is.
+    /// Asks for the rows of a trigger's table: how many they are. Refused as `Desk::rows` is.
     #[tactic(auto, unfolding(crate::specs::Calls::AnswersRows))]
     pub fn rows(&mut self, id: u32, count: &mut u64) -> u32
-        ensures { AnswersRows (counts_shown self.old.desk.base id)
+        ensures { AnswersRows (rows_shown self.old.desk.base id)
             self.old count.old result count.new self.new }
     {
-        let answer = self.desk.counts(id);
+        let answer = self.desk.rows(id);
         hold(answer, &mut self.rows, count, &mut self.refused)
     }
 
@@ -284,7 +284,7 @@ impl Session {
         ensures { ReadsTriggers (Ok (attached_in self.old.desk.base.triggers))
             self.old count.old result count.new self.new }
     {
-        let answer = self.desk.attached();
+        let answer = self.desk.attached_triggers();
         hold(answer, &mut self.attached, count, &mut self.refused)
     }
 
@@ -317,34 +317,34 @@ impl Session {
         self.waits.hold(self.desk.lanes(), count)
     }
 
-    /// How many rows the last accepted insert or strike may have changed, where that is told.
+    /// How many rows the last accepted insert or strike may have changed, if that is reported.
     pub fn report(&self) -> ReportLayout
         ensures { result ≡ report_layout (rows_told self.now.edited) (made_told self.now.edited) }
     {
         match &self.edited {
-            Some(edited) => ReportLayout::of(told(&edited.report), told(&edited.made)),
+            Some(edited) => ReportLayout::of(as_rows(&edited.report), as_rows(&edited.made)),
             None => ReportLayout::of(None, None),
         }
     }
 
     /// The rows of triggers that count held events that the last accepted insert or strike may have
-    /// changed; none where that isn't told.
+    /// changed; none if that isn't reported.
     pub fn rows_changed(&self) -> &[Changed]
         ensures { result.now ≡ unwrap_or (rows_told self.now.edited) [] }
     {
         match &self.edited {
-            Some(edited) => all_told(&edited.report),
+            Some(edited) => rows_or_empty(&edited.report),
             None => &[],
         }
     }
 
     /// The rows of triggers that count made events that the last accepted insert or strike may have
-    /// changed; none where that isn't told.
+    /// changed; none if that isn't reported.
     pub fn made_changed(&self) -> &[Changed]
         ensures { result.now ≡ unwrap_or (made_told self.now.edited) [] }
     {
         match &self.edited {
-            Some(edited) => all_told(&edited.made),
+            Some(edited) => rows_or_empty(&edited.made),
             None => &[],
         }
     }

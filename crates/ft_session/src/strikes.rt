@@ -8,11 +8,11 @@ ghost use Rattle.ft_session.specs.Strikes.{after_strikes};
 ghost use Rattle.ft_session.specs.inner.JointReports.{Joins, IsHeld};
 
 use crate::joint_report::JointReport;
+use crate::outcome::{accept, refuse};
 use crate::session::Session;
-use crate::told::{accept, refuse};
 use ft_answers::{Edited, Refused};
 use ft_board::KeptBoard;
-use ft_desk::Desk;
+use ft_desk_core::Desk;
 use ft_layout::PlaceLayout;
 use std::alloc::Global;
 
@@ -80,7 +80,7 @@ fn strike_each(
 fn hold_report(alloc: Global, joint: &JointReport, edited: &mut Option<Edited>)
     ensures { IsHeld joint.now edited.old edited.new }
 {
-    if let Some(told) = joint.edited(alloc) {
+    if let Some(told) = joint.joint_edit(alloc) {
         *edited = Some(told);
     }
 }

@@ -7,7 +7,7 @@ use Rattle.ft_lanes.specs.Held.{Lanes}
 use Rattle.ft_waits.specs.Choice.{Choice, all_events}
 use Rattle.ft_waits.specs.declared.fault.BadLines.{BadLines}
 use Rattle.ft_waits.specs.declared.fault.WaitsFault.TheVariants.{Memory}
-use Rattle.ft_stream.specs.Doubting.{doubted}
+use Rattle.ft_stream.specs.Doubting.{with_doubt}
 use Rattle.ft_stream.specs.Faults.{fault_code, code_of}
 use Rattle.ft_stream.specs.Joining.{CanBeJoined, IsNotJoined, JoinsTold, RanOut}
 use Rattle.ft_stream.specs.Layouts.{read_layout}
@@ -125,5 +125,5 @@ Holds lanes old before code count new =
 unfoldable pub DoubtsWaits : List WaitLayout → Stream → ℕ → List WaitLayout → Stream → Type 0
 DoubtsWaits before old code waits new =
     MatchOption (unfinished_at old.phase)
-    ((code ≡ 0) × (waits ≡ map (doubted (holes_at old.phase)) before) × (new ≡ record old { refused = None }))
+    ((code ≡ 0) × (waits ≡ map (with_doubt (holes_at old.phase)) before) × (new ≡ record old { refused = None }))
     (λ why. Refuses why old code new × (waits ≡ before))

@@ -46,5 +46,5 @@ abbrev pub with_wait : WaitLayout → Wait → WaitLayout
 with_wait layout wait = record layout { began = place_layout wait.began.place; cause = cause_number wait.began.cause; doubt = doubt_number wait.doubt }
 
 -- a wait by the holes of its text; it stays if it began with nothing
-abbrev pub doubted : List Hole → WaitLayout → WaitLayout
-doubted holes layout = option_map_or (λ began. with_wait layout (wait_of_both holes (pos_of layout.ended) began (began_of layout.awoken_cause layout.awoken))) (began_of layout.cause layout.began) layout
+abbrev pub with_doubt : List Hole → WaitLayout → WaitLayout
+with_doubt holes layout = option_map_or (λ began. with_wait layout (wait_of_both holes (pos_of layout.ended) began (began_of layout.awoken_cause layout.awoken))) (began_of layout.cause layout.began) layout

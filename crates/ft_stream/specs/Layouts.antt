@@ -107,7 +107,14 @@ task_sum_layout sum = record {
 
 -- what acts sum up to for a CPU
 abbrev pub cpu_sum_layout : CpuSum → CpuSumLayout
-cpu_sum_layout sum = record { idle = sum.idle; idle_with_waiters = sum.idle_with_waiters; cpu = sum.cpu; zero = 0 }
+cpu_sum_layout sum = record {
+  idle = sum.idle;
+  idle_with_waiters = sum.idle_with_waiters;
+  longest = sum.longest;
+  longest_from = sum.longest_from;
+  cpu = sum.cpu;
+  zero = 0;
+}
 
 -- what a text without the kernel's header tells of the buffers
 abbrev pub no_buffers : Buffers

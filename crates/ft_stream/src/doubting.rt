@@ -1,7 +1,7 @@
 //! How sure waits are, by the holes of their text.
 
 ghost use Rattle.std.specs.Prelude.{◌≡◌, map};
-ghost use Rattle.ft_stream.specs.Doubting.{pos_of, cause_numbered, began_of, doubt_number, with_wait, doubted};
+ghost use Rattle.ft_stream.specs.Doubting.{pos_of, cause_numbered, began_of, doubt_number, with_wait, with_doubt};
 
 use crate::layouts::{WaitLayout, cause_number};
 use ft_dispatch::{Began, Cause};
@@ -72,10 +72,10 @@ impl WaitLayout {
         }
     }
 
-    /// By the holes of its text: how sure it is, and if only the wait since the task was woken or created is
-    /// sure, that it began with that. It stays if its cause is none.
-    fn doubted(self, doubts: &Doubts) -> WaitLayout
-        ensures { result ≡ doubted doubts.now self }
+    /// The wait with how sure it is, by the holes of its text. If only the wait since the task was woken or
+    /// created is sure, it begins with that. Without a cause it stays as it is.
+    fn with_doubt(self, doubts: &Doubts) -> WaitLayout
+        ensures { result ≡ with_doubt doubts.now self }
     {
         match began_of(self.cause, &self.began) {
             Some(began) => {
@@ -89,9 +89,9 @@ impl WaitLayout {
 
 /// Writes how sure waits are.
 pub(crate) fn doubt_all(doubts: &Doubts, waits: &mut [WaitLayout])
-    ensures { waits.new ≡ map (doubted doubts.now) waits.old }
+    ensures { waits.new ≡ map (with_doubt doubts.now) waits.old }
 {
     for number in 0..waits.len() {
-        waits[number] = waits[number].doubted(doubts);
+        waits[number] = waits[number].with_doubt(doubts);
     }
 }

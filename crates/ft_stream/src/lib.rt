@@ -51,7 +51,7 @@
 //!   the counts so far, of lines that have ended.
 //! - `Stream::sum_up`: the text is summed up by task and by CPU as well (`specs/Summing.antt`), as
 //!   `ft_summary` sums up; `Phase::tasks`, `cpus`: these sums, once the text has ended.
-//! - `Stream::doubt`: how sure waits of a text that has ended are, by its holes; exact, `doubted`
+//! - `Stream::doubt`: how sure waits of a text that has ended are, by its holes; exact, `with_doubt`
 //!   (`specs/Doubting.antt`), over `wait_of_both` of `ft_losses`.
 //! - `Stream::hold`: the waits of held events, by `ft_held_waits`.
 //! - `WaitLayout::of` and the other layouts: each struct is a function of what it shows

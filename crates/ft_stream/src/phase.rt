@@ -6,7 +6,7 @@ ghost use Rattle.ft_waits.specs.Streams.{HasRead, AreDispatches};
 ghost use Rattle.ft_waits.specs.Choice.{Choice};
 ghost use Rattle.ft_dispatch.specs.declared.dispatch.Dispatch.{Dispatch as Told};
 ghost use Rattle.ft_stream.specs.Telling.{Kind, Whole, HasTold, AreWaits, Streams, Ends, refused_at, no_whole_at, failed_at, unfinished_at, untold_at, finished_at, holes_at, left_out_at, events_at, last_at, waits_of};
-ghost use Rattle.ft_stream.specs.Doubting.{doubted};
+ghost use Rattle.ft_stream.specs.Doubting.{with_doubt};
 ghost use Rattle.ft_stream.specs.Layouts.{read_layout};
 
 use crate::apart::Part;
@@ -193,7 +193,7 @@ pub(crate) fn finish_phase(
 /// Writes how sure waits are, if the text has ended.
 pub(crate) fn doubt_phase(phase: &Phase, waits: &mut [WaitLayout]) -> Result<(), StreamFault>
     ensures accepted { OnOk result ((unfinished_at phase.now ≡ None)
-        × (waits.new ≡ map (doubted (holes_at phase.now)) waits.old)) }
+        × (waits.new ≡ map (with_doubt (holes_at phase.now)) waits.old)) }
     ensures refused { IfErr result (λ why. (unfinished_at phase.now ≡ Some why)
         × (waits.new ≡ waits.old)) }
 {

@@ -42,6 +42,10 @@ pub struct CpuSumLayout {
     pub idle: u64,
     /// How much of that time some task waited for a processor.
     pub idle_with_waiters: u64,
+    /// The most of that in one run of task 0.
+    pub longest: u64,
+    /// When the first such run began; 0 if `longest` is 0.
+    pub longest_from: u64,
     /// The CPU's number.
     pub cpu: u32,
     /// 0.
@@ -74,6 +78,8 @@ impl CpuSumLayout {
         CpuSumLayout {
             idle: sum.idle,
             idle_with_waiters: sum.idle_with_waiters,
+            longest: sum.longest,
+            longest_from: sum.longest_from,
             cpu: u32::from(sum.cpu),
             zero: 0,
         }

@@ -9,7 +9,7 @@ use Rattle.std.specs.Cmp.{IsTotalOrder, on_total, int_cmp_total}
 use Rattle.std.proofs.Common.{ap, arith, cond, sym, ◌∙◌}
 use Rattle.std.proofs.lemmas.List.Sums.{count_by-le-length}
 use Rattle.std.proofs.lemmas.Map.Entries.{length-values_of, sum_by-insert_entry, sum_by-set_value}
-use Rattle.ft_summary.specs.inner.Changes.{number_waiting, recounted, standing_waits, task_cmp}
+use Rattle.ft_summary.specs.inner.Changes.{number_waiting, count_after, standing_waits, task_cmp}
 use Rattle.ft_summary.specs.declared.standing.Standing.{Standing}
 use Rattle.ft_summary.specs.declared.tasks.Task.{Task}
 
@@ -43,7 +43,7 @@ count-changed m n task v w is here =
     ∙ sum_by-set_value one (is_at (task_cmp task)) m.entries v w (sym here)
 
 -- the number that is kept
-pub recount : (waiting n m : ℕ) (a b : Bool) → waiting ≡ n → m + cond a 1 0 ≡ n + cond b 1 0 → m < 2 ^ 64 → recounted waiting a b ≡ m
+pub recount : (waiting n m : ℕ) (a b : Bool) → waiting ≡ n → m + cond a 1 0 ≡ n + cond b 1 0 → m < 2 ^ 64 → count_after waiting a b ≡ m
 recount waiting n m true true same sum small = omega arith
 recount waiting n m true false same sum small = omega arith
 recount waiting n m false true same sum small = omega arith

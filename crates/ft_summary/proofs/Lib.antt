@@ -3,6 +3,7 @@ mod Written
 mod Summing
 mod Naming
 mod Anyone
+mod Longest
 mod Turning
 mod Listing
 mod Taking

@@ -1,5 +1,5 @@
 -- What a CPU runs after one act more.
-use Rattle.std.specs.Prelude.{◌≡◌, ◌+◌, ◌-◌, ◌≤◌, ℕ, ℤ, pos, Bool, true, false, ◌&&◌, List, [], ◌∷◌, Option, Some, None, is_some, option_map, nat_eq}
+use Rattle.std.specs.Prelude.{◌≡◌, ◌+◌, ◌-◌, ◌≤◌, ℕ, ℤ, pos, Bool, true, false, ◌&&◌, List, [], ◌∷◌, Option, Some, None, is_some, max, option_map, nat_eq, nat_lt}
 use Rattle.std.specs.Cmp.{unsigned_Decides}
 use Rattle.std.specs.Option.{option_or}
 use Rattle.std.specs.Ordering.{int_eq}
@@ -9,12 +9,13 @@ use Rattle.ft_dispatch.specs.Acts.{Act, Waking, Creation, Switch, Handover}
 use Rattle.ft_dispatch.specs.Telling.{handover_of}
 use Rattle.ft_dispatch.specs.declared.act.PlacedAct.{PlacedAct}
 use Rattle.ft_summary.specs.Figures.{cpu_sum, idled_for, idled_with_waiters, waited_in_run}
-use Rattle.ft_summary.specs.Runs.{capped, last_switch, lasted, run_begun, run_ended, total}
+use Rattle.ft_summary.specs.Runs.{capped, last_switch, lasted, most, run_begun, run_ended, total}
 use Rattle.ft_summary.specs.Telling.{cpu_since, waited}
 use Rattle.ft_summary.specs.Waiting.{waited_since_switch, waited_up_to}
-use Rattle.ft_summary.specs.inner.Changes.{cpu_from}
+use Rattle.ft_summary.specs.inner.Changes.{cpu_from, idled}
 use Rattle.ft_summary.specs.declared.cpus.Cpu.{Cpu}
 use Rattle.ft_summary.specs.declared.sums.CpuSum.{CpuSum}
+use Rattle.ft_summary.proofs.Longest.{from-none, longest-more, longest_from_of, longest_of, most-within, none-from, stamp_of}
 use Rattle.ft_summary.proofs.Summing.{capped-more, capped-none}
 
 abbrev Entry : Type 0
@@ -23,8 +24,8 @@ Entry = Pos × Act
 abbrev Told : Type 0
 Told = Option (Pos × Handover)
 
-abbrev sum_at : ℕ → ℕ → ℕ → CpuSum
-sum_at cpu idle waited = record { cpu = cpu; idle = idle; idle_with_waiters = waited }
+abbrev sum_at : ℕ → ℕ → ℕ → ℕ → ℕ → CpuSum
+sum_at cpu idle waited longest from = record { cpu = cpu; idle = idle; idle_with_waiters = waited; longest = longest; longest_from = from }
 
 abbrev cpu_at : ℤ → ℕ → ℕ → CpuSum → Cpu
 cpu_at pid stamp waited sum = record { pid = pid; stamp = stamp; waited = waited; sum = sum }
@@ -65,44 +66,84 @@ never-waited cpu ((place, Creation created) ∷ before) h = nothing-more (total 
 never-waited cpu ((place, Switch turn) ∷ before) h =
     no-turn (nat_eq place.cpu cpu) (int_eq turn.prev_pid (pos 0)) (waited_in_run (run_begun turn.prev_pid (last_switch place.cpu before)) place before) (total (idled_with_waiters cpu) before) (place, turn) (last_switch cpu before) h (never-waited cpu before)
 
+most-none : (m t : ℕ) → m ≤ t → t ≡ 0 → m ≡ 0
+most-none m t h e = omega arith
+
+pub never-longest : (cpu : ℕ) (acts : List Entry) → last_switch cpu acts ≡ None → longest_of cpu acts ≡ 0
+never-longest cpu acts h = most-none (longest_of cpu acts) (total (idled_with_waiters cpu) acts) (most-within (idled_with_waiters cpu) acts) (never-waited cpu acts h)
+
 -- ---- another act, or a switch of another CPU
 
 same-since : (w s g : ℕ) → (w + g) - (s + g) ≡ w - s
 same-since w s g = omega arith
 
-unturned : (cpu w s g i j : ℕ) (last : Told) →
-    option_map (λ l. cpu_at l.1.next_pid l.0.stamp ((w + g) - (s + g)) (sum_at cpu (capped (i + 0)) (capped (j + 0)))) last
-    ≡ option_map (λ l. cpu_at l.1.next_pid l.0.stamp (w - s) (sum_at cpu (capped i) (capped j))) last
-unturned cpu w s g i j None = refl
-unturned cpu w s g i j (Some l) =
-    ap (λ x. Some (cpu_at l.1.next_pid l.0.stamp x (sum_at cpu (capped (i + 0)) (capped (j + 0))))) (same-since w s g)
-    ∙ ap (λ x. Some (cpu_at l.1.next_pid l.0.stamp (w - s) (sum_at cpu x (capped (j + 0))))) (capped-none i)
-    ∙ ap (λ x. Some (cpu_at l.1.next_pid l.0.stamp (w - s) (sum_at cpu (capped i) x))) (capped-none j)
+longest-none : (m : ℕ) → max m 0 ≡ m
+longest-none m = omega arith
+
+sum-none : (cpu i j m f : ℕ) → sum_at cpu (capped i) (capped j) m f ≡ sum_at cpu (capped (i + 0)) (capped (j + 0)) (max m 0) (cond (nat_lt m 0) 0 f)
+sum-none cpu i j m f =
+    ap (λ x. sum_at cpu x (capped j) m f) (sym (capped-none i)) ∙ ap (λ x. sum_at cpu (capped (i + 0)) x m f) (sym (capped-none j))
+    ∙ ap (λ x. sum_at cpu (capped (i + 0)) (capped (j + 0)) x f) (sym (longest-none m)) ∙ ap (λ x. sum_at cpu (capped (i + 0)) (capped (j + 0)) (max m 0) x) (sym (from-none m f))
+
+-- what a CPU runs after an act that is no switch of it
+abbrev unturned_by : ℕ → ℕ → ℕ → ℕ → ℕ → ℕ → ℕ → Told → ℕ → Option Cpu
+unturned_by cpu w s g i j m last from = option_map (λ (l : Pos × Handover). cpu_at l.1.next_pid l.0.stamp ((w + g) - (s + g)) (sum_at cpu (capped (i + 0)) (capped (j + 0)) (max m 0) from)) last
+
+unturned : (cpu w s g i j m f : ℕ) (last : Told) →
+    unturned_by cpu w s g i j m last (cond (nat_lt m 0) 0 f) ≡ option_map (λ l. cpu_at l.1.next_pid l.0.stamp (w - s) (sum_at cpu (capped i) (capped j) m f)) last
+unturned cpu w s g i j m f None = refl
+unturned cpu w s g i j m f (Some l) =
+    ap (λ x. Some (cpu_at l.1.next_pid l.0.stamp ((w + g) - (s + g)) x)) (sym (sum-none cpu i j m f))
+    ∙ ap (λ x. Some (cpu_at l.1.next_pid l.0.stamp x (sum_at cpu (capped i) (capped j) m f))) (same-since w s g)
+
+unturned-at : (cpu g : ℕ) (before : List Entry) →
+    unturned_by cpu (waited before) (waited_since_switch cpu before) g (total (idled_for cpu) before) (total (idled_with_waiters cpu) before) (longest_of cpu before) (last_switch cpu before) (cond (nat_lt (longest_of cpu before) 0) 0 (longest_from_of cpu before))
+    ≡ option_map (cpu_since cpu before) (last_switch cpu before)
+unfolding cpu_sum
+unturned-at cpu g before =
+    unturned cpu (waited before) (waited_since_switch cpu before) g (total (idled_for cpu) before) (total (idled_with_waiters cpu) before) (longest_of cpu before) (longest_from_of cpu before) (last_switch cpu before)
 
 pub cpu-woken : (cpu : ℕ) (place : Pos) (woken : ℤ) (before : List Entry) →
     option_map (cpu_since cpu ((place, Waking woken) ∷ before)) (last_switch cpu ((place, Waking woken) ∷ before)) ≡ option_map (cpu_since cpu before) (last_switch cpu before)
-unfolding last_switch total cpu_sum waited_since_switch
-cpu-woken cpu place woken before = unturned cpu (waited before) (waited_since_switch cpu before) (waited_up_to place before) (total (idled_for cpu) before) (total (idled_with_waiters cpu) before) (last_switch cpu before)
+unfolding last_switch total most cpu_sum waited_since_switch
+cpu-woken cpu place woken before =
+    ap (unturned_by cpu (waited before) (waited_since_switch cpu before) (waited_up_to place before) (total (idled_for cpu) before) (total (idled_with_waiters cpu) before) (longest_of cpu before) (last_switch cpu before))
+    (longest-more cpu place (Waking woken) before)
+    ∙ unturned-at cpu (waited_up_to place before) before
 
 pub cpu-created : (cpu : ℕ) (place : Pos) (created : ℤ) (before : List Entry) →
     option_map (cpu_since cpu ((place, Creation created) ∷ before)) (last_switch cpu ((place, Creation created) ∷ before)) ≡ option_map (cpu_since cpu before) (last_switch cpu before)
-unfolding last_switch total cpu_sum waited_since_switch
-cpu-created cpu place created before = unturned cpu (waited before) (waited_since_switch cpu before) (waited_up_to place before) (total (idled_for cpu) before) (total (idled_with_waiters cpu) before) (last_switch cpu before)
+unfolding last_switch total most cpu_sum waited_since_switch
+cpu-created cpu place created before =
+    ap (unturned_by cpu (waited before) (waited_since_switch cpu before) (waited_up_to place before) (total (idled_for cpu) before) (total (idled_with_waiters cpu) before) (longest_of cpu before) (last_switch cpu before))
+    (longest-more cpu place (Creation created) before)
+    ∙ unturned-at cpu (waited_up_to place before) before
 
 -- ---- a switch of the CPU
 
--- what a CPU runs after a switch at a place, by whether that is on the CPU
-abbrev after_switch : Bool → ℕ → Pos → Handover → List Entry → Option Cpu
-after_switch b cpu place turn before =
+-- the run of task 0 that a switch ends: where it began, and how long some task waited in it
+abbrev begun_by : Bool → Pos → Handover → List Entry → Option Pos
+begun_by b place turn before = cond (b && int_eq turn.prev_pid (pos 0)) (run_begun turn.prev_pid (last_switch place.cpu before)) None
+
+abbrev waited_by : Bool → Pos → Handover → List Entry → ℕ
+waited_by b place turn before = cond (b && int_eq turn.prev_pid (pos 0)) (waited_in_run (run_begun turn.prev_pid (last_switch place.cpu before)) place before) 0
+
+-- what a CPU runs after a switch at a place, by whether that is on the CPU, and by when the longest run began
+abbrev after_from : Bool → ℕ → Pos → Handover → List Entry → ℕ → Option Cpu
+after_from b cpu place turn before from =
     option_map (λ (l : Pos × Handover). cpu_at l.1.next_pid l.0.stamp ((waited before + waited_up_to place before) - cond (is_some {T = Pos × Handover} (cond b (Some (place, turn)) None)) 0 (waited_since_switch cpu before + waited_up_to place before))
     (sum_at cpu (capped (total (idled_for cpu) before + cond (b && int_eq turn.prev_pid (pos 0)) (run_ended place turn before) 0))
-    (capped (total (idled_with_waiters cpu) before + cond (b && int_eq turn.prev_pid (pos 0)) (waited_in_run (run_begun turn.prev_pid (last_switch place.cpu before)) place before) 0))))
+    (capped (total (idled_with_waiters cpu) before + waited_by b place turn before))
+    (max (longest_of cpu before) (waited_by b place turn before)) from))
     (option_or (cond b (Some (place, turn)) None) (last_switch cpu before))
+
+abbrev after_switch : Bool → ℕ → Pos → Handover → List Entry → Option Cpu
+after_switch b cpu place turn before = after_from b cpu place turn before (cond (nat_lt (longest_of cpu before) (waited_by b place turn before)) (stamp_of (begun_by b place turn before)) (longest_from_of cpu before))
 
 by-place : (cpu : ℕ) (place : Pos) (turn : Handover) (before : List Entry) →
     after_switch (nat_eq place.cpu cpu) cpu place turn before ≡ option_map (cpu_since cpu ((place, Switch turn) ∷ before)) (last_switch cpu ((place, Switch turn) ∷ before))
-unfolding last_switch total cpu_sum waited_since_switch
-by-place cpu place turn before = refl
+unfolding last_switch total most cpu_sum waited_since_switch
+by-place cpu place turn before = ap (after_from (nat_eq place.cpu cpu) cpu place turn before) (sym (longest-more cpu place (Switch turn) before))
 
 minus-none : (n : ℕ) → n ≡ n - 0
 minus-none n = omega arith
@@ -111,23 +152,33 @@ either-none : (y : Bool) (t : ℕ) → t ≡ 0 → 0 ≡ capped (t + cond y 0 0)
 either-none true t h = omega arith
 either-none false t h = omega arith
 
+none-longest : (y : Bool) (m : ℕ) → m ≡ 0 → 0 ≡ max m (cond y 0 0)
+none-longest true m h = omega arith
+none-longest false m h = omega arith
+
+no-longest-from : (y : Bool) (m f : ℕ) → f ≡ 0 → 0 ≡ cond (nat_lt m (cond y 0 0)) (stamp_of (cond y None None)) f
+no-longest-from true m f h = sym (from-none m f ∙ h)
+no-longest-from false m f h = sym (from-none m f ∙ h)
+
 -- the time since the last switch
 time-since : (w s g now : ℕ) → s ≤ w → now ≡ w + g → now - (w - s) ≡ s + g
 time-since w s g now h e = omega arith
 
-sum-none : (cpu i j : ℕ) → sum_at cpu (capped i) (capped j) ≡ sum_at cpu (capped (i + 0)) (capped (j + 0))
-sum-none cpu i j = ap (λ x. sum_at cpu x (capped j)) (sym (capped-none i)) ∙ ap (λ x. sum_at cpu (capped (i + 0)) x) (sym (capped-none j))
+-- what is summed up after a switch, by whether it leaves task 0, where the run began that it ends, and how long some task waited in it
+abbrev after_run : ℕ → ℕ → ℕ → ℕ → ℕ → Bool → Option Pos → Pos → ℕ → CpuSum
+after_run cpu i j m f y run place waited =
+    sum_at cpu (capped (i + cond y (lasted run place) 0)) (capped (j + cond y waited 0)) (max m (cond y waited 0)) (cond (nat_lt m (cond y waited 0)) (stamp_of (cond y run None)) f)
 
-run-sum : (z y : Bool) (cpu i j : ℕ) (begun place : Pos) (w s g now : ℕ) → s ≤ w → now ≡ w + g →
-    cond (z && y) (sum_at cpu (capped (capped i + (place.stamp - begun.stamp))) (capped (capped j + (now - (w - s))))) (sum_at cpu (capped i) (capped j))
-    ≡ sum_at cpu (capped (i + cond y (lasted (cond z (Some begun) None) place) 0)) (capped (j + cond y (cond z (s + g) 0) 0))
-run-sum true true cpu i j begun place w s g now h e =
-    ap (λ x. sum_at cpu (capped (capped i + (place.stamp - begun.stamp))) (capped (capped j + x))) (time-since w s g now h e)
-    ∙ ap (λ x. sum_at cpu x (capped (capped j + (s + g)))) (sym (capped-more i (place.stamp - begun.stamp)))
-    ∙ ap (λ x. sum_at cpu (capped (i + (place.stamp - begun.stamp))) x) (sym (capped-more j (s + g)))
-run-sum true false cpu i j begun place w s g now h e = sum-none cpu i j
-run-sum false true cpu i j begun place w s g now h e = sum-none cpu i j
-run-sum false false cpu i j begun place w s g now h e = sum-none cpu i j
+run-sum : (z y : Bool) (cpu i j m f : ℕ) (begun place : Pos) (w s g now : ℕ) → s ≤ w → now ≡ w + g →
+    cond (z && y) (idled begun.stamp (place.stamp - begun.stamp) (now - (w - s)) (sum_at cpu (capped i) (capped j) m f)) (sum_at cpu (capped i) (capped j) m f)
+    ≡ after_run cpu i j m f y (cond z (Some begun) None) place (cond z (s + g) 0)
+run-sum true true cpu i j m f begun place w s g now h e =
+    ap (λ x. idled begun.stamp (place.stamp - begun.stamp) x (sum_at cpu (capped i) (capped j) m f)) (time-since w s g now h e)
+    ∙ ap (λ x. sum_at cpu x (capped (capped j + (s + g))) (max m (s + g)) (cond (nat_lt m (s + g)) begun.stamp f)) (sym (capped-more i (place.stamp - begun.stamp)))
+    ∙ ap (λ x. sum_at cpu (capped (i + (place.stamp - begun.stamp))) x (max m (s + g)) (cond (nat_lt m (s + g)) begun.stamp f)) (sym (capped-more j (s + g)))
+run-sum true false cpu i j m f begun place w s g now h e = sum-none cpu i j m f
+run-sum false true cpu i j m f begun place w s g now h e = sum-none cpu i j m f
+run-sum false false cpu i j m f begun place w s g now h e = sum-none cpu i j m f
 
 waited-run : (z : Bool) (begun place : Pos) (before : List Entry) → waited_in_run (cond z (Some begun) None) place before ≡ cond z (waited_since_switch place.cpu before + waited_up_to place before) 0
 waited-run true begun place before = refl
@@ -140,28 +191,38 @@ unfolding cpu_sum
 own-switch None act before now is e =
     let cpu = act.place.cpu in
     let y = int_eq act.prev_pid (pos 0) in
-    ap (λ x. Some (cpu_at act.pid act.place.stamp x (sum_at cpu 0 0))) (e ∙ minus-none _)
-    ∙ ap (λ x. Some (cpu_at act.pid act.place.stamp (waited before + waited_up_to act.place before - 0) (sum_at cpu x 0))) (either-none y (total (idled_for cpu) before) (never-idle cpu before (sym is)))
-    ∙ ap (λ x. Some (cpu_at act.pid act.place.stamp (waited before + waited_up_to act.place before - 0) (sum_at cpu (capped (total (idled_for cpu) before + cond y 0 0)) x))) (either-none y (total (idled_with_waiters cpu) before) (never-waited cpu before (sym is)))
-    ∙ ap (λ l. Some (cpu_at act.pid act.place.stamp (waited before + waited_up_to act.place before - 0) (sum_at cpu (capped (total (idled_for cpu) before + cond y (lasted (run_begun act.prev_pid l) act.place) 0)) (capped (total (idled_with_waiters cpu) before + cond y (waited_in_run (run_begun act.prev_pid l) act.place before) 0))))) is
+    let i = total (idled_for cpu) before in
+    let j = total (idled_with_waiters cpu) before in
+    let m = longest_of cpu before in
+    let f = longest_from_of cpu before in
+    let none = never-longest cpu before (sym is) in
+    let since = waited before + waited_up_to act.place before - 0 in
+    ap (λ x. Some (cpu_at act.pid act.place.stamp x (sum_at cpu 0 0 0 0))) (e ∙ minus-none _)
+    ∙ ap (λ x. Some (cpu_at act.pid act.place.stamp since (sum_at cpu x 0 0 0))) (either-none y i (never-idle cpu before (sym is)))
+    ∙ ap (λ x. Some (cpu_at act.pid act.place.stamp since (sum_at cpu (capped (i + cond y 0 0)) x 0 0))) (either-none y j (never-waited cpu before (sym is)))
+    ∙ ap (λ x. Some (cpu_at act.pid act.place.stamp since (sum_at cpu (capped (i + cond y 0 0)) (capped (j + cond y 0 0)) x 0))) (none-longest y m none)
+    ∙ ap (λ x. Some (cpu_at act.pid act.place.stamp since (sum_at cpu (capped (i + cond y 0 0)) (capped (j + cond y 0 0)) (max m (cond y 0 0)) x))) (no-longest-from y m f (none-from cpu before none))
+    ∙ ap (λ l. Some (cpu_at act.pid act.place.stamp since (after_run cpu i j m f y (run_begun act.prev_pid l) act.place (waited_in_run (run_begun act.prev_pid l) act.place before)))) is
 own-switch (Some last) act before now is e =
     let cpu = act.place.cpu in
     let y = int_eq act.prev_pid (pos 0) in
     let z = int_eq last.1.next_pid act.prev_pid in
     let i = total (idled_for cpu) before in
     let j = total (idled_with_waiters cpu) before in
-    let sum = run-sum z y cpu i j last.0 act.place (waited before) (waited_since_switch cpu before) (waited_up_to act.place before) now (since-within cpu before) e in
-    ap (λ x. Some (cpu_at act.pid act.place.stamp now x)) sum
-    ∙ ap (λ x. Some (cpu_at act.pid act.place.stamp now (sum_at cpu (capped (i + cond y (lasted (cond z (Some last.0) None) act.place) 0)) (capped (j + cond y x 0))))) (sym (waited-run z last.0 act.place before))
-    ∙ ap (λ x. Some (cpu_at act.pid act.place.stamp x (sum_at cpu (capped (i + cond y (lasted (cond z (Some last.0) None) act.place) 0)) (capped (j + cond y (waited_in_run (cond z (Some last.0) None) act.place before) 0))))) (e ∙ minus-none _)
-    ∙ ap (λ l. Some (cpu_at act.pid act.place.stamp (waited before + waited_up_to act.place before - 0) (sum_at cpu (capped (i + cond y (lasted (run_begun act.prev_pid l) act.place) 0)) (capped (j + cond y (waited_in_run (run_begun act.prev_pid l) act.place before) 0))))) is
+    let m = longest_of cpu before in
+    let f = longest_from_of cpu before in
+    let begun : Option Pos = cond z (Some last.0) None in
+    ap (λ x. Some (cpu_at act.pid act.place.stamp now x)) (run-sum z y cpu i j m f last.0 act.place (waited before) (waited_since_switch cpu before) (waited_up_to act.place before) now (since-within cpu before) e)
+    ∙ ap (λ x. Some (cpu_at act.pid act.place.stamp now (after_run cpu i j m f y begun act.place x))) (sym (waited-run z last.0 act.place before))
+    ∙ ap (λ x. Some (cpu_at act.pid act.place.stamp x (after_run cpu i j m f y begun act.place (waited_in_run begun act.place before)))) (e ∙ minus-none _)
+    ∙ ap (λ l. Some (cpu_at act.pid act.place.stamp (waited before + waited_up_to act.place before - 0) (after_run cpu i j m f y (run_begun act.prev_pid l) act.place (waited_in_run (run_begun act.prev_pid l) act.place before)))) is
 
 by-cpu : (b : Bool) (cpu : ℕ) (act : PlacedAct) (before : List Entry) (now : ℕ) (own rest : Option Cpu) → nat_eq act.place.cpu cpu ≡ b
     → (act.place.cpu ≡ cpu → own ≡ after_switch true cpu act.place (handover_of act) before) → rest ≡ option_map (cpu_since cpu before) (last_switch cpu before)
     → cond b own rest ≡ after_switch b cpu act.place (handover_of act) before
 unfolding cpu_sum
 by-cpu true cpu act before now own rest is same other = same ((unsigned_Decides act.place.cpu cpu).0 is)
-by-cpu false cpu act before now own rest is same other = other ∙ sym (unturned cpu (waited before) (waited_since_switch cpu before) (waited_up_to act.place before) (total (idled_for cpu) before) (total (idled_with_waiters cpu) before) (last_switch cpu before))
+by-cpu false cpu act before now own rest is same other = other ∙ sym (unturned-at cpu (waited_up_to act.place before) before)
 
 -- what each CPU runs after a switch
 pub cpu-turned : (cpus new : ℕ → Option Cpu) (act : PlacedAct) (before : List Entry) (now : ℕ) → now ≡ waited before + waited_up_to act.place before

@@ -1,13 +1,14 @@
 -- What acts sum up to, by task and by CPU. Acts stand with their places, newest first.
 use Rattle.std.specs.Prelude.{ℕ, ◌+◌, ℤ, pos, Bool, true, false, not, ◌&&◌, ◌||◌, List, [], ◌∷◌, ◌++◌, Option, Some, None, nat_eq, map as list_map, if◌then◌else◌}
 use Rattle.std.specs.FinMap as finite
+use Rattle.std.specs.Option.{option_map_or, option_or}
 use Rattle.std.specs.Ordering.{int_cmp, int_eq, nat_cmp}
 use Rattle.ft_fields.specs.declared.pos.Pos.{Pos}
 use Rattle.ft_dispatch.specs.Acts.{Act, Waking, Creation, Switch, Handover, can_run}
 use Rattle.ft_dispatch.specs.Dispatches.{leaves, runs}
 use Rattle.ft_dispatch.specs.declared.act.PrevState.{PrevState}
 use Rattle.ft_dispatch.specs.declared.act.PrevState.TheVariants as states
-use Rattle.ft_summary.specs.Runs.{capped, one_if, total, last_switch, run_begun, run_ended}
+use Rattle.ft_summary.specs.Runs.{capped, one_if, total, most, last_switch, run_begun, run_ended}
 use Rattle.ft_summary.specs.Waiting.{tasks_of, waited_since_switch, waited_up_to}
 use Rattle.ft_summary.specs.declared.sums.CpuSum.{CpuSum}
 use Rattle.ft_summary.specs.declared.sums.TaskSum.{TaskSum}
@@ -97,12 +98,31 @@ idled_with_waiters cpu place (Waking woken) before = 0
 idled_with_waiters cpu place (Creation created) before = 0
 idled_with_waiters cpu place (Switch turn) before = if ends_idling cpu place turn then waited_in_run (run_begun turn.prev_pid (last_switch place.cpu before)) place before else 0
 
+-- where a run of task 0 on a CPU began that an act ends
+abbrev pub idle_begun : ℕ → Pos → Act → List (Pos × Act) → Option Pos
+idle_begun cpu place (Waking woken) before = None
+idle_begun cpu place (Creation created) before = None
+idle_begun cpu place (Switch turn) before = if ends_idling cpu place turn then run_begun turn.prev_pid (last_switch place.cpu before) else None
+
+-- where the first run of task 0 on a CPU began in which some task waited so long
+unfoldable pub first_idle_begun : ℕ → ℕ → List (Pos × Act) → Option Pos
+first_idle_begun cpu waited [] = None
+first_idle_begun cpu waited (entry ∷ before) =
+    option_or (first_idle_begun cpu waited before)
+    (if nat_eq (idled_with_waiters cpu entry.0 entry.1 before) waited then idle_begun cpu entry.0 entry.1 before else None)
+
+-- its stamp; 0 if no task waited
+abbrev pub idle_from : ℕ → Option Pos → ℕ
+idle_from waited begun = if nat_eq waited 0 then 0 else option_map_or (λ place. place.stamp) begun 0
+
 -- what acts sum up to for a CPU
 unfoldable pub cpu_sum : ℕ → List (Pos × Act) → CpuSum
 cpu_sum cpu acts = record {
   cpu = cpu;
   idle = capped (total (idled_for cpu) acts);
   idle_with_waiters = capped (total (idled_with_waiters cpu) acts);
+  longest = most (idled_with_waiters cpu) acts;
+  longest_from = idle_from (most (idled_with_waiters cpu) acts) (first_idle_begun cpu (most (idled_with_waiters cpu) acts) acts);
 }
 
 -- the CPU of a switch

@@ -1,5 +1,5 @@
 -- Runs of tasks on CPUs, and sums over acts. Acts stand with their places, newest first.
-use Rattle.std.specs.Prelude.{ℕ, ◌+◌, ◌-◌, ◌^◌, ℤ, Bool, List, [], ◌∷◌, Option, Some, None, min, nat_eq, if◌then◌else◌}
+use Rattle.std.specs.Prelude.{ℕ, ◌+◌, ◌-◌, ◌^◌, ℤ, Bool, List, [], ◌∷◌, Option, Some, None, max, min, nat_eq, if◌then◌else◌}
 use Rattle.std.specs.Option.{option_or}
 use Rattle.std.specs.Ordering.{int_eq}
 use Rattle.ft_fields.specs.declared.pos.Pos.{Pos}
@@ -19,6 +19,11 @@ one_if b = if b then 1 else 0
 unfoldable pub total : (Pos → Act → List (Pos × Act) → ℕ) → List (Pos × Act) → ℕ
 total part [] = 0
 total part (entry ∷ before) = total part before + part entry.0 entry.1 before
+
+-- the most that one act adds
+unfoldable pub most : (Pos → Act → List (Pos × Act) → ℕ) → List (Pos × Act) → ℕ
+most part [] = 0
+most part (entry ∷ before) = max (most part before) (part entry.0 entry.1 before)
 
 -- ---- runs
 

@@ -1,9 +1,9 @@
 //! What each CPU runs since its last switch.
 
-ghost use Rattle.std.specs.Prelude.{◌≡◌, ℕ, Some, OnOk, IfOk, map as list_map, nat_eq, if◌then◌else◌};
+ghost use Rattle.std.specs.Prelude.{◌≡◌, ◌-◌, ℕ, Some, OnOk, IfOk, map as list_map, nat_eq, if◌then◌else◌};
 ghost use Rattle.std.specs.Ordering.{nat_cmp};
 ghost use Rattle.std.specs.BTreeMap.{IsOrdered, values};
-ghost use Rattle.ft_summary.specs.inner.Changes.{cpu_turned, cpu_from, found_cpu, run_of};
+ghost use Rattle.ft_summary.specs.inner.Changes.{cpu_turned, cpu_from, found_cpu, idled, run_of};
 
 use crate::sums::CpuSum;
 use ft_dispatch::PlacedAct;
@@ -36,20 +36,32 @@ impl Cpu {
         }
     }
 
+    /// What the acts sum up to once a run of task 0 ends: some task waited so long by now.
+    #[inline(always)]
+    fn idle_until(&self, stamp: u64, waited: u64) -> CpuSum
+        ensures { result ≡ idled self.now.stamp (stamp - self.now.stamp) (waited - self.now.waited) self.now.sum }
+    {
+        let mut sum = self.sum;
+        let waited_in_run = waited.saturating_sub(self.waited);
+        sum.idle = sum.idle.saturating_add(stamp.saturating_sub(self.stamp));
+        sum.idle_with_waiters = sum.idle_with_waiters.saturating_add(waited_in_run);
+        if waited_in_run > sum.longest {
+            sum.longest = waited_in_run;
+            sum.longest_from = self.stamp;
+        }
+        sum
+    }
+
     /// Takes a switch of the CPU: some task waited so long by now.
     #[inline(always)]
     fn turn(&mut self, turn: &PlacedAct, waited: u64)
         ensures { self.new ≡ cpu_turned self.old turn.now waited }
     {
-        let mut sum = self.sum;
-        if self.pid == turn.prev_pid && turn.prev_pid == 0 {
-            sum.idle = sum
-                .idle
-                .saturating_add(turn.place.stamp.saturating_sub(self.stamp));
-            sum.idle_with_waiters = sum
-                .idle_with_waiters
-                .saturating_add(waited.saturating_sub(self.waited));
-        }
+        let sum = if self.pid == turn.prev_pid && turn.prev_pid == 0 {
+            self.idle_until(turn.place.stamp, waited)
+        } else {
+            self.sum
+        };
         *self = Cpu {
             pid: turn.pid,
             stamp: turn.place.stamp,
@@ -71,6 +83,8 @@ impl Cpu {
                 cpu: turn.place.cpu,
                 idle: 0,
                 idle_with_waiters: 0,
+                longest: 0,
+                longest_from: 0,
             },
         }
     }

@@ -95,9 +95,9 @@ fn is_another(known: Option<u16>, cpu: u16) -> bool
     }
 }
 
-/// Adds 1 to a figure, if it is to count.
+/// Adds 1 to a figure if `counts`.
 #[inline(always)]
-fn counted(figure: u64, counts: bool) -> u64
+fn add_if(figure: u64, counts: bool) -> u64
     ensures { result ≡ summed figure (one_if counts) }
 {
     figure.saturating_add(if counts { 1 } else { 0 })
@@ -145,9 +145,9 @@ impl Standing {
             pid: self.sum.pid,
             run_time: self.sum.run_time.saturating_add(leaving.ran_for),
             switches: self.sum.switches,
-            preempted: counted(self.sum.preempted, to && can_run),
-            slept: counted(self.sum.slept, to && is_asleep(leaving.state)),
-            blocked: counted(self.sum.blocked, to && is_blocked(leaving.state)),
+            preempted: add_if(self.sum.preempted, to && can_run),
+            slept: add_if(self.sum.slept, to && is_asleep(leaving.state)),
+            blocked: add_if(self.sum.blocked, to && is_blocked(leaving.state)),
             moved: self.sum.moved,
         };
         Standing {
@@ -167,11 +167,11 @@ impl Standing {
         let sum = TaskSum {
             pid: self.sum.pid,
             run_time: self.sum.run_time,
-            switches: counted(self.sum.switches, true),
+            switches: add_if(self.sum.switches, true),
             preempted: self.sum.preempted,
             slept: self.sum.slept,
             blocked: self.sum.blocked,
-            moved: counted(self.sum.moved, is_another(self.cpu, cpu)),
+            moved: add_if(self.sum.moved, is_another(self.cpu, cpu)),
         };
         Standing {
             sum,

@@ -29,6 +29,10 @@ pub struct CpuSum {
     pub idle: u64,
     /// How much of that time some task waited for a processor, in microseconds.
     pub idle_with_waiters: u64,
+    /// The most of `idle_with_waiters` that one such run has, in microseconds.
+    pub longest: u64,
+    /// When the first run began that has so much, in microseconds; 0 if `longest` is 0.
+    pub longest_from: u64,
 }
 
 /// What acts sum up to.

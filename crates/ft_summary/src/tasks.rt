@@ -5,7 +5,7 @@ ghost use Rattle.std.specs.Option.{unwrap_or};
 ghost use Rattle.std.specs.Ordering.{int_eq};
 ghost use Rattle.std.specs.BTreeMap.{IsOrdered, values};
 ghost use Rattle.ft_summary.specs.Waiting.{is_counted};
-ghost use Rattle.ft_summary.specs.inner.Changes.{changed, changed_in, found_task, none, number_waiting, recounted, task_cmp};
+ghost use Rattle.ft_summary.specs.inner.Changes.{changed, changed_in, found_task, none, number_waiting, count_after, task_cmp};
 
 use crate::standing::{Change, Standing};
 use crate::sums::TaskSum;
@@ -28,8 +28,8 @@ fn is_counted(pid: i32) -> bool
 
 /// How many tasks wait after one of them changed: whether it waited, and whether it waits.
 #[inline(always)]
-fn recounted(waiting: usize, waited: bool, waits: bool) -> usize
-    ensures { result ≡ recounted waiting waited waits }
+fn count_after(waiting: usize, waited: bool, waits: bool) -> usize
+    ensures { result ≡ count_after waiting waited waits }
 {
     if waits && !waited {
         waiting.saturating_add(1)
@@ -57,7 +57,7 @@ fn add(
     let mut standing = Standing::none(pid);
     standing.change(change);
     tasks.insert(Task { pid }, standing)?;
-    *waiting = recounted(*waiting, false, standing.waits());
+    *waiting = count_after(*waiting, false, standing.waits());
     // So many tasks wait at most, and that is below the greatest number.
     prove!(tasks.len() < usize::MAX);
     Ok(())
@@ -84,7 +84,7 @@ pub(crate) fn change(
         Some(standing) => {
             let waited = standing.waits();
             standing.change(change);
-            *waiting = recounted(*waiting, waited, standing.waits());
+            *waiting = count_after(*waiting, waited, standing.waits());
             Ok(())
         }
         None => add(tasks, waiting, pid, change),

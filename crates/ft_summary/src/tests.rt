@@ -78,12 +78,15 @@ fn task(pid: i32, run_time: u64, switches: u64, left: [u64; 3], moved: u64) -> T
     }
 }
 
-/// A CPU's figures.
-fn cpu(cpu: u16, idle: u64, idle_with_waiters: u64) -> CpuSum {
+/// A CPU's figures: how much of its idle time had waiters, how much of that in one run, and when that began.
+fn cpu(cpu: u16, idle: u64, waiters: [u64; 3]) -> CpuSum {
+    let [idle_with_waiters, longest, longest_from] = waiters;
     CpuSum {
         cpu,
         idle,
         idle_with_waiters,
+        longest,
+        longest_from,
     }
 }
 
@@ -96,7 +99,7 @@ fn acts_sum_up_in_whatever_calls_they_come(rt: HostRuntime) {
         task(8, 21, 2, [1, 0, 0], 1),
         task(9, 21, 3, [0, 2, 0], 0),
     ];
-    let cpus = [cpu(0, 8, 4), cpu(1, 14, 11)];
+    let cpus = [cpu(0, 8, [4, 4, 26]), cpu(1, 14, [11, 6, 60])];
     for cut in 0..16 {
         let Ok(sums) = sums(rt.alloc(), &acts, cut) else {
             panic!(rt; "memory for four tasks");

@@ -1,4 +1,5 @@
 pub mod Appends
+pub mod Breaks
 pub mod Fronts
 pub mod Numbers
 mod Quotes

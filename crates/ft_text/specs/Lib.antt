@@ -4,6 +4,7 @@ pub mod Tokens
 pub mod Ranged
 pub mod inner
 pub mod Items
+pub mod Lines
 pub mod Spelling
 pub use Rattle.ft_text.specs.Tokens
 pub mod Glob

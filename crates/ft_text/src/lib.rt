@@ -1,4 +1,4 @@
-//! Texts of bytes: numbers, names, pieces between separators, words, and globs.
+//! Texts of bytes: lines, numbers, names, pieces between separators, words, and globs.
 //!
 //! A text grows in a vector and may run out of memory. What was added before a refusal stays, so
 //! that the vector begins with its old bytes, and who began the text cuts it back.
@@ -7,9 +7,9 @@
 //! found there and the text after it, or nothing. A number is read whole however large it is, so
 //! that one which is out of range is told from a text that begins with no number.
 //!
-//! A text is cut into pieces at a separator. Each piece keeps the place of the text that it begins
-//! at, so that a fault can name it. A word is what a piece of a trigger's text may be: a `$` or
-//! none, a name, and a suffix after a `.`, or none.
+//! A text is cut into lines at line breaks, and into pieces at a separator. Each piece keeps the
+//! place of the text that it begins at, so that a fault can name it. A word is what a piece of a
+//! trigger's text may be: a `$` or none, a name, and a suffix after a `.`, or none.
 //!
 //! A glob is a pattern in which `*` matches any run of bytes, `?` one byte, a class such as `[a-c]`
 //! or `[!a-c]` one byte that it has or has not, and any other byte itself. It matches a whole text
@@ -68,6 +68,7 @@
 //!   it is within the limit (`specs/Digits.antt`); exact.
 //! - `is_gap`, `skip`, `name_at`, `is_quote`, `quoted_at`, `number_at`, `Number`: what stands at
 //!   the head of a text, and the text after it (`specs/Tokens.antt`, `specs/Ranged.antt`); exact.
+//! - `next_line`: a text is its first line and the lines of what is left (`specs/Lines.antt`).
 //! - `Pieces::of`, `Pieces::next_piece`, `Piece`: the pieces of a text between separators, in
 //!   order, each with the place at which it begins (`specs/Items.antt`); exact.
 //! - `word_of`, `Word`: the word that a text is, or none where it has another form; its parts;
@@ -91,6 +92,7 @@ mod digits;
 mod globs;
 mod items;
 pub mod laws;
+mod lines;
 mod number;
 mod pieces;
 mod same;
@@ -101,6 +103,7 @@ pub use digits::{are_digits, number_within};
 pub use globs::{glob, is_glob};
 pub use items::{Word, is_name, number_in, word_of};
 pub use laws::{one_list, one_reading, one_word, what_matches};
+pub use lines::next_line;
 pub use number::{Number, number_at};
 pub use pieces::{Piece, Pieces};
 pub use same::is_same;

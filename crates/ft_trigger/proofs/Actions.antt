@@ -11,8 +11,8 @@ use Rattle.ft_fields.specs.declared.event.Name.TheVariants as names
 use Rattle.ft_fields.specs.declared.field.Field.{Field}
 use Rattle.ft_fields.specs.Fields.{is_field_named, all_fields, is_text, field_text, has_field}
 use Rattle.ft_fields.specs.Names.{is_traced, name_text}
-use Rattle.ft_head.specs.declared.fault.TriggerFault.{TriggerFault}
-use Rattle.ft_head.specs.declared.fault.TriggerFault.TheVariants.{NoField, NotNumeric, Duplicate, LeftOut}
+use Rattle.ft_hist.specs.declared.fault.TriggerFault.{TriggerFault}
+use Rattle.ft_hist.specs.declared.fault.TriggerFault.TheVariants.{NoField, NotNumeric, Duplicate, LeftOut}
 use Rattle.ft_hist.specs.Canonical.{onmatch_part}
 use Rattle.ft_hist.specs.Hit.{same_name}
 use Rattle.ft_hist.specs.Sound.{number_suits}

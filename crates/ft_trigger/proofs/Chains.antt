@@ -3,8 +3,8 @@ use Rattle.std.proofs.Common.{◌≡◌, ℕ, suc, true, List, [], ◌∷◌, �
 use Rattle.std.proofs.lemmas.Bool.{and_from}
 use Rattle.std.proofs.lemmas.List.Folds.{list_all-append}
 use Rattle.std.specs.List.{list_all}
-use Rattle.ft_head.specs.declared.fault.TriggerFault.{TriggerFault}
-use Rattle.ft_head.specs.declared.fault.TriggerFault.TheVariants.{Syntax}
+use Rattle.ft_hist.specs.declared.fault.TriggerFault.{TriggerFault}
+use Rattle.ft_hist.specs.declared.fault.TriggerFault.TheVariants.{Syntax}
 use Rattle.ft_text.specs.Items.{Piece, pieces, Word, word_of}
 use Rattle.ft_head.specs.Draft.{given_or, items_from}
 use Rattle.ft_hist.specs.Canonical.{more_items}

@@ -3,8 +3,8 @@ use Rattle.std.proofs.Common.{◌≡◌, ◌<◌, ◌+◌, ℕ, Bool, true, fals
 use Rattle.std.specs.List.{starts_with}
 use Rattle.std.specs.Option.{option_map_or, is_some}
 use Rattle.ft_fields.specs.declared.event.Name.{Name}
-use Rattle.ft_head.specs.declared.fault.TriggerFault.{TriggerFault}
-use Rattle.ft_head.specs.declared.fault.TriggerFault.TheVariants.{Duplicate, BadSize, LeftOut}
+use Rattle.ft_hist.specs.declared.fault.TriggerFault.{TriggerFault}
+use Rattle.ft_hist.specs.declared.fault.TriggerFault.TheVariants.{Duplicate, BadSize, LeftOut}
 use Rattle.ft_head.specs.declared.draft.Kind.{Kind}
 use Rattle.ft_head.specs.declared.draft.Kind.TheVariants.{Keys, Values, Sort, Size}
 use Rattle.ft_head.specs.Draft.{Draft, empty_draft, ◌>>=◌, given_or, items_of, with_key, with_value, with_sort, size_of, labels, is_part_left_out, with_kind, with_variable, with_onmatch, with_other, with_part, parts_from}

@@ -3,8 +3,8 @@ use Rattle.std.proofs.Common.{◌≡◌, refl, ℕ, List, [], ◌∷◌, false, 
 use Rattle.std.specs.Prelude.{Result, Ok, Err, Some, None, codes}
 use Rattle.ft_fields.specs.declared.event.Name.TheVariants as names
 use Rattle.ft_fields.specs.declared.field.Field.TheVariants as fields
-use Rattle.ft_head.specs.declared.fault.TriggerFault.{TriggerFault}
-use Rattle.ft_head.specs.declared.fault.TriggerFault.TheVariants.{Syntax, NoField, NotNumeric, TooMany, Duplicate, BadSize, BadSort, BadModifier, LeftOut, BadFilter}
+use Rattle.ft_hist.specs.declared.fault.TriggerFault.{TriggerFault}
+use Rattle.ft_hist.specs.declared.fault.TriggerFault.TheVariants.{Syntax, NoField, NotNumeric, TooMany, Duplicate, BadSize, BadSort, BadModifier, LeftOut, BadFilter}
 use Rattle.ft_hist.specs.declared.modifier.Mode.TheVariants as modes
 use Rattle.ft_hist.specs.declared.item.Item.TheVariants as items
 use Rattle.ft_hist.specs.declared.item.SortBy.TheVariants as sorts

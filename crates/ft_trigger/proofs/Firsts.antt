@@ -4,8 +4,8 @@ use Rattle.std.proofs.lemmas.Bool.{and_parts}
 use Rattle.std.specs.Prelude.{◌↔◌, codes}
 use Rattle.std.specs.List.{list_all, list_any}
 use Rattle.ft_fields.specs.declared.event.Name.{Name}
-use Rattle.ft_head.specs.declared.fault.TriggerFault.{TriggerFault}
-use Rattle.ft_head.specs.declared.fault.TriggerFault.TheVariants.{Syntax}
+use Rattle.ft_hist.specs.declared.fault.TriggerFault.{TriggerFault}
+use Rattle.ft_hist.specs.declared.fault.TriggerFault.TheVariants.{Syntax}
 use Rattle.ft_head.specs.Draft.{Draft, empty_draft, ◌>>=◌, given_or, items_from, items_of, with_part, parts_from}
 use Rattle.ft_text.specs.Items.{Piece, Word, word_of, pieces}
 use Rattle.ft_text.proofs.Separators.{Free, pieces_last, pieces_append}

@@ -12,8 +12,8 @@ use Rattle.ft_hist.specs.declared.label.Var.{Var}
 use Rattle.ft_hist.specs.Hit.{same_name}
 use Rattle.ft_head.specs.declared.draft.Kind.{Kind}
 use Rattle.ft_head.specs.declared.draft.Kind.TheVariants.{Keys, Values, Sort, Size}
-use Rattle.ft_head.specs.declared.fault.TriggerFault.{TriggerFault}
-use Rattle.ft_head.specs.declared.fault.TriggerFault.TheVariants.{Syntax, Duplicate, BadSize, LeftOut}
+use Rattle.ft_hist.specs.declared.fault.TriggerFault.{TriggerFault}
+use Rattle.ft_hist.specs.declared.fault.TriggerFault.TheVariants.{Syntax, Duplicate, BadSize, LeftOut}
 use Rattle.ft_head.specs.Draft.{Draft, empty_draft, ◌>>=◌, unless, given_or, items_of, with_key, with_value, with_sort, size_of, variable_stamp, is_taken, var_of, labels, is_part_left_out, action_of, with_kind, with_named, with_variable, with_handed, with_onmatch, with_other, with_part}
 use Rattle.ft_head.specs.Onmatch.{Action, Handed, handed_of}
 use Rattle.ft_text.specs.Items.{Piece, Word}

@@ -4,8 +4,8 @@ use Rattle.std.proofs.lemmas.Bool.{and_from}
 use Rattle.std.proofs.lemmas.List.Folds.{list_all-append}
 use Rattle.std.specs.List.{list_all}
 use Rattle.ft_fields.specs.declared.event.Name.{Name}
-use Rattle.ft_head.specs.declared.fault.TriggerFault.{TriggerFault}
-use Rattle.ft_head.specs.declared.fault.TriggerFault.TheVariants.{BadSize}
+use Rattle.ft_hist.specs.declared.fault.TriggerFault.{TriggerFault}
+use Rattle.ft_hist.specs.declared.fault.TriggerFault.TheVariants.{BadSize}
 use Rattle.ft_hist.specs.declared.item.KeyItem.{KeyItem}
 use Rattle.ft_hist.specs.declared.label.Var.{Var}
 use Rattle.ft_hist.specs.Canonical.{listed, more_items, key_item_text}

@@ -1,7 +1,7 @@
 -- What stands after an answer without a fault.
 use Rattle.std.proofs.Common.{◌≡◌, Bool, true, false, List, ◌∷◌, Option, Some, None, Result, Ok, Err, refl}
 use Rattle.std.specs.Option.{option_map_or}
-use Rattle.ft_head.specs.declared.fault.TriggerFault.{TriggerFault}
+use Rattle.ft_hist.specs.declared.fault.TriggerFault.{TriggerFault}
 use Rattle.ft_head.specs.Draft.{◌>>=◌, unless, given_or}
 
 -- both steps have an answer

@@ -7,8 +7,8 @@ use Rattle.ft_hist.specs.declared.item.KeyItem.{KeyItem}
 use Rattle.ft_hist.specs.declared.item.Item.{Item}
 use Rattle.ft_hist.specs.declared.item.SortItem.{SortItem}
 use Rattle.ft_hist.specs.Hist.{Hist, IsWithin}
-use Rattle.ft_head.specs.declared.fault.TriggerFault.{TriggerFault}
-use Rattle.ft_head.specs.declared.fault.TriggerFault.TheVariants.{NoField, BadSort}
+use Rattle.ft_hist.specs.declared.fault.TriggerFault.{TriggerFault}
+use Rattle.ft_hist.specs.declared.fault.TriggerFault.TheVariants.{NoField, BadSort}
 use Rattle.ft_head.specs.Draft.{Draft, ◌>>=◌, besides_hitcount}
 use Rattle.ft_text.specs.Items.{is_word, Word, pieces}
 use Rattle.ft_trigger.specs.TriggerIs.{head_len, behind_head, trigger_tail, own_name, value_item, value_items, sort_by, sorts_of, is_descending, by_hits, sort_of, trigger_of}

@@ -4,7 +4,7 @@ use Rattle.std.proofs.lemmas.Bool.{not-false}
 use Rattle.std.specs.List.{starts_with}
 use Rattle.ft_fields.specs.declared.event.Name.{Name}
 use Rattle.ft_hist.specs.Hist.{Hist}
-use Rattle.ft_head.specs.declared.fault.TriggerFault.TheVariants.{Syntax}
+use Rattle.ft_hist.specs.declared.fault.TriggerFault.TheVariants.{Syntax}
 use Rattle.ft_head.specs.Draft.{Draft, empty_draft, ◌>>=◌, parts_from}
 use Rattle.ft_trigger.specs.TriggerIs.{head_len, behind_head, trigger_tail, finished, trigger_of}
 use Rattle.ft_text.specs.Items.{pieces}

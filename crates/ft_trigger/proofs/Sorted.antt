@@ -9,8 +9,8 @@ use Rattle.std.specs.List.{list_any, list_all}
 use Rattle.std.specs.Option.{option_map_or}
 use Rattle.std.specs.Str.{bytes_eq}
 use Rattle.ft_fields.specs.Fields.{field_text}
-use Rattle.ft_head.specs.declared.fault.TriggerFault.{TriggerFault}
-use Rattle.ft_head.specs.declared.fault.TriggerFault.TheVariants.{TooMany, Duplicate, BadSort}
+use Rattle.ft_hist.specs.declared.fault.TriggerFault.{TriggerFault}
+use Rattle.ft_hist.specs.declared.fault.TriggerFault.TheVariants.{TooMany, Duplicate, BadSort}
 use Rattle.ft_hist.specs.declared.item.KeyItem.{KeyItem}
 use Rattle.ft_hist.specs.declared.item.Item.{Item}
 use Rattle.ft_hist.specs.declared.item.Item.TheVariants as items

@@ -11,7 +11,7 @@ use Rattle.ft_filter.specs.Canonical.{canonical as filter_text}
 use Rattle.ft_filter.specs.FilterIs.{FilterIs}
 use Rattle.ft_filter.specs.Tree.{Tree}
 use Rattle.ft_text.specs.Tokens.{is_gap, skip}
-use Rattle.ft_head.specs.declared.fault.TriggerFault.TheVariants.{Syntax}
+use Rattle.ft_hist.specs.declared.fault.TriggerFault.TheVariants.{Syntax}
 use Rattle.ft_hist.specs.Canonical.{if_text}
 use Rattle.ft_head.specs.Draft.{given_or}
 use Rattle.ft_trigger.specs.TriggerIs.{behind_if, filter_or_fault, tail_filter}

@@ -17,7 +17,7 @@ pub use Rattle.ft_head.specs.Onmatch
 pub use Rattle.ft_head.specs.Sizes
 pub use Rattle.ft_head.specs.PartSpelling
 pub use Rattle.ft_text.specs.Spelling
-pub use Rattle.ft_head.specs.TriggerFault
+pub use Rattle.ft_hist.specs.TriggerFault
 pub use Rattle.ft_text.specs.Items
 pub use Rattle.ft_hist.specs.Canonical
 pub use Rattle.ft_hist.specs.Hist

@@ -1,8 +1,8 @@
 -- Faults of a head's parts, and those that are found after them (kernel: histogram.rst, hist triggers).
 use Rattle.std.specs.Prelude.{◌≡◌, ℕ, Bool, true, false, nat_le, List, Err}
 use Rattle.ft_fields.specs.declared.event.Name.{Name}
-use Rattle.ft_head.specs.declared.fault.TriggerFault.{TriggerFault}
-use Rattle.ft_head.specs.declared.fault.TriggerFault.TheVariants.{Syntax, NoField, BadSort, BadFilter}
+use Rattle.ft_hist.specs.declared.fault.TriggerFault.{TriggerFault}
+use Rattle.ft_hist.specs.declared.fault.TriggerFault.TheVariants.{Syntax, NoField, BadSort, BadFilter}
 use Rattle.ft_head.specs.Draft.{empty_draft, parts_from}
 use Rattle.ft_text.specs.Items.{pieces}
 

@@ -7,8 +7,8 @@ use Rattle.ft_filter.specs.FilterIs.{FilterIs}
 use Rattle.ft_filter.specs.Tree.{Tree}
 use Rattle.ft_text.specs.Tokens.{is_gap}
 use Rattle.ft_hist.specs.Hist.{Hist, with_filter}
-use Rattle.ft_head.specs.declared.fault.TriggerFault.{TriggerFault}
-use Rattle.ft_head.specs.declared.fault.TriggerFault.TheVariants.{Syntax, BadFilter}
+use Rattle.ft_hist.specs.declared.fault.TriggerFault.{TriggerFault}
+use Rattle.ft_hist.specs.declared.fault.TriggerFault.TheVariants.{Syntax, BadFilter}
 use Rattle.ft_trigger.specs.TriggerIs.{TriggerIs}
 
 -- ---- head and tail

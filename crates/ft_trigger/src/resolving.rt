@@ -5,7 +5,7 @@ ghost use Rattle.std.specs.Option.{option_copied, option_map_or};
 ghost use Rattle.std.specs.List.{find};
 ghost use Rattle.std.specs.Str.{bytes_eq};
 ghost use Rattle.ft_fields.specs.Fields.{field_text, is_field_named, all_fields};
-ghost use Rattle.ft_head.specs.declared.fault.TriggerFault.TheVariants.{NoField, BadSort};
+ghost use Rattle.ft_hist.specs.declared.fault.TriggerFault.TheVariants.{NoField, BadSort};
 ghost use Rattle.ft_hist.specs.declared.item.Item.TheVariants as items;
 ghost use Rattle.ft_head.specs.Draft.{given_or, besides_hitcount};
 ghost use Rattle.ft_text.specs.Items.{is_word};

@@ -11,7 +11,7 @@ ghost use Rattle.ft_head.specs.Given.{Gives};
 
 use ft_fields::Name;
 use ft_filter::{Filter, FilterFault};
-use ft_head::TriggerFault;
+use ft_hist::TriggerFault;
 use ft_text::{is_gap, skip};
 use std::alloc::Global;
 

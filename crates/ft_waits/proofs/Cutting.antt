@@ -10,7 +10,7 @@ use Rattle.ft_event.specs.declared.fault.Line.{Line}
 use Rattle.ft_event.specs.declared.fault.Line.TheVariants as lines
 use Rattle.ft_event.specs.declared.fault.LineFault.{LineFault}
 use Rattle.ft_event.specs.declared.fault.LineFault.TheVariants.{LineLong}
-use Rattle.ft_script.specs.Lines.{lines_of, onto_first}
+use Rattle.ft_text.specs.Lines.{lines_of, onto_first}
 use Rattle.ft_waits.specs.Reading.{history, refused, events_of, refusal_of, latest, FailsAt, Fails}
 use Rattle.ft_waits.specs.declared.fault.BadLines.{BadLines}
 use Rattle.ft_waits.specs.declared.fault.WaitsFault.{WaitsFault}

@@ -5,7 +5,7 @@ use Rattle.std.specs.declared.alloc.Global.{Global}
 use Rattle.std.proofs.Common.{refl, sym, ap, subst, ◌∙◌, arith}
 use Rattle.std.proofs.lemmas.List.{append-nil, map-append, length-append, length-reverse, nil_from_length, reverse-append, reverse-reverse}
 use Rattle.std.proofs.lemmas.List.Sorted.{length_permutation}
-use Rattle.ft_script.specs.Lines.{lines_of, onto_first, ended_lines, onto_ended}
+use Rattle.ft_text.specs.Lines.{lines_of, onto_first, ended_lines, onto_ended}
 use Rattle.ft_dispatch.specs.Acts.{Act}
 use Rattle.ft_dispatch.specs.Telling.{entries_of}
 use Rattle.ft_dispatch.specs.declared.act.PlacedAct.{PlacedAct}

@@ -10,7 +10,7 @@ use Rattle.ft_event.specs.declared.fault.Line.{Line}
 use Rattle.ft_event.specs.declared.fault.Line.TheVariants as lines
 use Rattle.ft_event.specs.declared.fault.LineFault.{LineFault}
 use Rattle.ft_event.specs.Line.{line_of}
-use Rattle.ft_script.specs.Lines.{lines_of, ended_lines}
+use Rattle.ft_text.specs.Lines.{lines_of, ended_lines}
 use Rattle.ft_dispatch.specs.Acts.{Act}
 use Rattle.ft_dispatch.specs.Dispatches.{dispatches}
 use Rattle.ft_dispatch.specs.declared.dispatch.Dispatch.{Dispatch}

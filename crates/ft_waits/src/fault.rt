@@ -8,12 +8,12 @@ use ft_summary::Sums;
 use std::alloc::AllocError;
 use thiserror::Error;
 
-/// What is done with lines that can't be read.
+/// What to do with lines that can't be read.
 #[derive(Clone, Copy, Debug, PartialEq, Eq)]
 pub enum BadLines {
-    /// The first one ends the reading.
+    /// Stop at the first one.
     Refuse,
-    /// They are counted and skipped.
+    /// Count and skip them.
     Skip,
 }
 
@@ -52,37 +52,37 @@ pub struct TextRead {
     pub missing: Missing,
     /// How many events were left out.
     pub left_out: Vec<LeftOut>,
-    /// What the acts of its events sum up to, if that was wanted.
+    /// The sums of the acts of its events, if they were requested.
     pub sums: Option<Sums>,
     /// Where events were lost.
     pub losses: LossesRead,
 }
 
-/// Why a text is read no further.
+/// Why reading a text was stopped.
 #[derive(Clone, Copy, Debug, PartialEq, Eq, Error)]
 pub enum WaitsFault {
     /// Out of memory.
     #[error("out of memory")]
     Memory,
     /// The first line that can't be read.
-    #[error("line {}: it can't be read", .0.line)]
+    #[error("line {} can't be read", .0.line)]
     BadLine(BadLine),
-    /// The number of the first line whose stamp is before the last event's.
-    #[error("line {0}: its stamp is before that of the event above")]
+    /// The number of the first line whose stamp is before that of the event above.
+    #[error("line {0}: the timestamp is before that of the event above")]
     Backwards(u64),
     /// The text has more than 4,294,967,295 lines.
     #[error("more than 4294967295 lines")]
     TooLong,
 }
 
-/// Why events are not left out of a stream.
+/// Why a stream can't leave events out.
 #[derive(Clone, Copy, Debug, PartialEq, Eq, Error)]
 pub enum WithoutFault {
     /// Out of memory.
     #[error("out of memory")]
     Memory,
-    /// Bytes of the text were read, or the stream failed.
-    #[error("the text has begun")]
+    /// Part of the text has already been read, or the stream failed.
+    #[error("part of the text has already been read")]
     Late,
 }
 

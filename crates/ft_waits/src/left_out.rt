@@ -9,7 +9,7 @@ ghost use Rattle.ft_waits.specs.LeftOut.{has_name, leaves_out, is_left_out, left
 ghost use Rattle.ft_waits.specs.inner.Known.{left_out_by, with_event, IsFull};
 
 use crate::fault::WaitsFault;
-use crate::owned::owned;
+use crate::owned::owned_event;
 use crate::reading::one_more;
 use ft_fields::{BodyRef, EventRef, Name};
 use ft_filter::Filter;
@@ -64,7 +64,7 @@ fn passes(filter: Option<&Filter>, event: &EventRef<'_>) -> bool
         ≡ passes_filter (option_map (λ f. f.tree) (option_copied filter.entry)) (event_told event.now) }
 {
     match filter {
-        Some(filter) => filter.holds(&owned(event)),
+        Some(filter) => filter.holds(&owned_event(event)),
         None => true,
     }
 }

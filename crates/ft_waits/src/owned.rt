@@ -54,7 +54,7 @@ fn owned_body(body: &BodyRef<'_>) -> Body
 }
 
 /// The event. It takes no memory.
-pub(crate) fn owned(event: &EventRef<'_>) -> Event
+pub(crate) fn owned_event(event: &EventRef<'_>) -> Event
     ensures { result ≡ event_told event.now }
 {
     Event {

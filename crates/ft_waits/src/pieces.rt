@@ -22,9 +22,9 @@ use std::alloc::{AllocError, Global};
 /// So many bytes are kept of a line that has not ended: one more than a line may have.
 const ROOM: usize = 4097;
 
-/// The first line of a text that a byte 10 ends, and what follows.
+/// Splits off the first line of a text, if byte 10 ends it.
 #[inline(always)]
-fn ended_line(text: &[u8]) -> Option<(&[u8], &[u8])>
+fn split_first_line(text: &[u8]) -> Option<(&[u8], &[u8])>
     ensures cut { IfSome result (λ cut. text.now ≡ cut.0.now ++ 10 ∷ cut.1.now) }
     ensures line { IfSome result (λ cut. list_any (λ b. b == 10) cut.0.now ≡ false) }
     ensures none { IfNone result (list_any (λ b. b == 10) text.now ≡ false) }
@@ -57,7 +57,7 @@ fn take_lines<'t>(
     ensures choice { OnOk result (choice_of reading.new ≡ choice_of reading.old) }
 {
     let mut rest = text;
-    while let Some((line, behind)) = ended_line(rest) {
+    while let Some((line, behind)) = split_first_line(rest) {
         reading.take_line(line, out)?;
         rest = behind;
     }
@@ -117,7 +117,7 @@ fn take_piece(
         → Reads choice reading.old unended.old.items text (told ++ out.old.items)
         → Fails choice.bad_lines (text ++ piece.now) fault) }
 {
-    match ended_line(piece) {
+    match split_first_line(piece) {
         Some((front, behind)) => {
             keep(unended, front)?;
             take_unended(reading, unended, out)?;

@@ -11,29 +11,29 @@ use ft_dispatch::Dispatch;
 use std::alloc::AllocError;
 use thiserror::Error;
 
-/// Why a part is not joined.
+/// Why a part can't be joined.
 #[derive(Clone, Copy, Debug, PartialEq, Eq, Error)]
 pub enum JoinFault {
     /// One of the two failed.
     #[error("one of the parts was refused")]
     Failed,
     /// The text before the part doesn't end with a line break.
-    #[error("the part begins within a line")]
+    #[error("the part starts in the middle of a line")]
     Unended,
-    /// The two are not read in the same way.
-    #[error("the parts are not read in the same way")]
+    /// The two were read with different options.
+    #[error("the parts were read with different options")]
     Differs,
     /// One of the two sums up its tasks and CPUs.
-    #[error("sums of parts are not joined")]
+    #[error("parts with sums can't be joined")]
     Summed,
     /// Together they have more than 4,294,967,295 lines.
     #[error("more than 4294967295 lines")]
     TooLong,
     /// The part's first event doesn't come after the last stamp before it.
-    #[error("the part begins before the last event's microsecond is over")]
+    #[error("the part starts in the microsecond of the last event, or before it")]
     Overlaps,
     /// A CPU lost events at the seam.
-    #[error("a CPU lost events where the part begins")]
+    #[error("a CPU lost events where the part starts")]
     Torn,
     /// Out of memory.
     #[error("out of memory")]

@@ -20,7 +20,7 @@ use Rattle.ft_base.specs.declared.refused.Refused.{Refused}
 use Rattle.ft_base.specs.declared.refused.Refused.TheVariants.{NoLane, NoTrigger, InUse}
 use Rattle.ft_base.specs.declared.refused.Place.{Place}
 use Rattle.ft_answers.specs.Base.{Triggers, Base, trigger_limit, id_limit}
-use Rattle.ft_answers.specs.After.{after_load, after_unload, after_insert, after_strike, after_attach, after_refilter, after_remove, variable_refused, reader_on}
+use Rattle.ft_answers.specs.After.{after_load, after_unload, after_insert, after_strike, after_attach, after_refilter, after_remove, variable_refusal, reader_on}
 use Rattle.ft_script.specs.Script.{Asked}
 use Rattle.ft_script.specs.declared.script.Numbered.TheVariants as numbers
 use Rattle.ft_desk.specs.Edits.{after_load_text, after_insert_text, after_attach_text, after_refilter_text, events_of, trigger_for, filter_for, ◌>>=◌}
@@ -139,7 +139,7 @@ attach_attaches : (base : Base) (hist : Hist) → Attaches base (after_attach ba
 unfolding after_attach base_in value_in
 attach_attaches base hist =
     either (Attaches base) (nat_le trigger_limit (finite.len base.triggers) || nat_lt id_limit base.next_id) _ _ (λ new id e. absurd (refused_not _ _ e))
-    (maybe (Attaches base) Err (variable_refused base.triggers hist hist.variable) _ (λ _ new id e. absurd (refused_not _ _ e))
+    (maybe (Attaches base) Err (variable_refusal base.triggers hist hist.variable) _ (λ _ new id e. absurd (refused_not _ _ e))
     (λ new id e q.
     ap (λ (b : Base). is_some (finite.get b.triggers q)) (sym (ap (base_in base) e)) ∙ ids_with base.triggers base.next_id hist q
     ∙ ap (λ i. cond (eq_by_cmp nat_cmp q i) true (is_some (finite.get base.triggers q))) (ap (value_in 0) e)))

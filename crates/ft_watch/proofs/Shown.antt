@@ -27,7 +27,7 @@ use Rattle.ft_base.specs.Base.{empty_base}
 use Rattle.ft_base.proofs.Apart.{entries_found}
 use Rattle.ft_answers.specs.Base.{Triggers, Base}
 use Rattle.ft_answers.specs.declared.edited.Edited.{Edited}
-use Rattle.ft_answers.specs.Answers.{rows_shown, row_shown, tally_rows, tally_row, tally_shown, tally_made, tally_at}
+use Rattle.ft_answers.specs.Answers.{row_texts_shown, row_text_shown, tally_row_texts, tally_row_text, tally_shown, tally_made, tally_at}
 use Rattle.ft_answers.specs.Counting.{counts_made}
 use Rattle.ft_answers.specs.Reporting.{row_in, made_row_in, IsReport, IsMadeReport}
 use Rattle.ft_answers.specs.Rows.{RowIsAmong, text_among}
@@ -51,23 +51,23 @@ not_both x e same = true≢false (sym (ap is_err same))
 
 module _ (among : RowIsAmong) (base : Base) (id : ℕ) where
   -- the row of a key of an attached trigger
-  pub row_is : (hist : Hist) → finite.get base.triggers id ≡ Some hist → (key : List Part) → row_shown base id key ≡ Ok (finite.get (texts_at base id) key)
-  unfolding rows_shown
+  pub row_is : (hist : Hist) → finite.get base.triggers id ≡ Some hist → (key : List Part) → row_text_shown base id key ≡ Ok (finite.get (texts_at base id) key)
+  unfolding row_texts_shown
   row_is hist attached key =
-      let rows = tally_rows hist (tally_shown base.triggers (merged base.lanes) id hist) in
-      let shown : rows_shown base id ≡ Ok rows = ap (λ o. option_map_or (λ h. Ok (tally_rows h (tally_shown base.triggers (merged base.lanes) id h))) o (Err NoTrigger)) attached in
+      let rows = tally_row_texts hist (tally_shown base.triggers (merged base.lanes) id hist) in
+      let shown : row_texts_shown base id ≡ Ok rows = ap (λ o. option_map_or (λ h. Ok (tally_row_texts h (tally_shown base.triggers (merged base.lanes) id h))) o (Err NoTrigger)) attached in
       among base id key rows shown ∙ ap Ok (sym (get-texts_of rows key)) ∙ ap (λ r. Ok (finite.get (texts_in r) key)) (sym shown)
 
-  no_row : finite.get base.triggers id ≡ None → (key : List Part) → row_shown base id key ≡ Err NoTrigger
-  unfolding row_shown
-  no_row none key = ap (λ o. option_map_or (λ h. Ok (tally_row h (tally_shown base.triggers (merged base.lanes) id h) key)) o (Err NoTrigger)) none
+  no_row : finite.get base.triggers id ≡ None → (key : List Part) → row_text_shown base id key ≡ Err NoTrigger
+  unfolding row_text_shown
+  no_row none key = ap (λ o. option_map_or (λ h. Ok (tally_row_text h (tally_shown base.triggers (merged base.lanes) id h) key)) o (Err NoTrigger)) none
 
   no_texts : finite.get base.triggers id ≡ None → texts_at base id ≡ finite.empty
-  unfolding rows_shown
-  no_texts none = ap (λ o. texts_in (option_map_or (λ h. Ok (tally_rows h (tally_shown base.triggers (merged base.lanes) id h))) o (Err NoTrigger))) none
+  unfolding row_texts_shown
+  no_texts none = ap (λ o. texts_in (option_map_or (λ h. Ok (tally_row_texts h (tally_shown base.triggers (merged base.lanes) id h))) o (Err NoTrigger))) none
 
   -- an answered row is the key's
-  pub answered_row : (key : List Part) (text : Option (List ℕ)) → row_shown base id key ≡ Ok text → text ≡ finite.get (texts_at base id) key
+  pub answered_row : (key : List Part) (text : Option (List ℕ)) → row_text_shown base id key ≡ Ok text → text ≡ finite.get (texts_at base id) key
   answered_row key text is = by (finite.get base.triggers id) refl
     where
       by : (o : Option Hist) → finite.get base.triggers id ≡ o → text ≡ finite.get (texts_at base id) key
@@ -75,7 +75,7 @@ module _ (among : RowIsAmong) (base : Base) (id : ℕ) where
       by None none = absurd (not_both text NoTrigger (sym is ∙ no_row none key))
 
   -- where a row is refused, there is none
-  pub refused_row : (key : List Part) (refused : Refused) → row_shown base id key ≡ Err refused → None ≡ finite.get (texts_at base id) key
+  pub refused_row : (key : List Part) (refused : Refused) → row_text_shown base id key ≡ Err refused → None ≡ finite.get (texts_at base id) key
   refused_row key refused is = by (finite.get base.triggers id) refl
     where
       by : (o : Option Hist) → finite.get base.triggers id ≡ o → None ≡ finite.get (texts_at base id) key
@@ -173,16 +173,16 @@ shown_attached base tables shown id = ap is_some (shown id) ∙ by (finite.get b
 
 -- the row of a key of an attached trigger is told by what it has counted
 row_told : RowIsAmong → (base : Base) (id : ℕ) (hist : Hist) → finite.get base.triggers id ≡ Some hist → (key : List Part)
-    → finite.get (texts_at base id) key ≡ tally_row hist (tally_shown base.triggers (merged base.lanes) id hist) key
-unfolding row_shown tally_row
+    → finite.get (texts_at base id) key ≡ tally_row_text hist (tally_shown base.triggers (merged base.lanes) id hist) key
+unfolding row_text_shown tally_row_text
 row_told among base id hist attached key =
-    ap (ok_in None) (sym (row_is among base id hist attached key) ∙ ap (λ o. option_map_or (λ h. Ok (tally_row h (tally_shown base.triggers (merged base.lanes) id h) key)) o (Err NoTrigger)) attached)
+    ap (ok_in None) (sym (row_is among base id hist attached key) ∙ ap (λ o. option_map_or (λ h. Ok (tally_row_text h (tally_shown base.triggers (merged base.lanes) id h) key)) o (Err NoTrigger)) attached)
 
 module _ (among : RowIsAmong) (old new : Base) (same : new.triggers ≡ old.triggers) (held made : List Changed) (is_held : IsReport old new held) (is_made : IsMadeReport old new made) where
   -- a row that an edit doesn't name, of an attached trigger, stays
   pub row_stays : (id : ℕ) (hist : Hist) → finite.get old.triggers id ≡ Some hist → (key : List Part) → is_reported held id key ≡ false → is_reported made id key ≡ false
       → finite.get (texts_at new id) key ≡ finite.get (texts_at old id) key
-  unfolding row_in made_row_in tally_row
+  unfolding row_in made_row_in tally_row_text
   row_stays id hist attached key apart_held apart_made =
       row_told among new id hist (ap (λ (t : Triggers). finite.get t id) same ∙ attached) key
       ∙ ap (option_map (row_text hist)) (by (counts_made hist) refl)

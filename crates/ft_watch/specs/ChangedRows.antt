@@ -7,7 +7,7 @@ use Rattle.std.specs.FinMap.{FinMap}
 use Rattle.ft_fields.specs.declared.key.Part.{Part}
 use Rattle.ft_fields.specs.Parts.{key_cmp}
 use Rattle.ft_table.specs.Keyed.{KeyedText}
-use Rattle.ft_answers.specs.Answers.{rows_shown}
+use Rattle.ft_answers.specs.Answers.{row_texts_shown}
 use Rattle.ft_answers.specs.Base.{Base}
 use Rattle.ft_base.specs.declared.refused.Refused.{Refused}
 
@@ -47,7 +47,7 @@ texts_in (Err refused) = map.empty
 
 -- the rows that the trigger with an id shows, by key; one that isn't attached shows none
 abbrev pub texts_at : Base → ℕ → Texts
-texts_at base id = texts_in (rows_shown base id)
+texts_at base id = texts_in (row_texts_shown base id)
 
 -- the keys of two tables' rows, in order, each once
 abbrev pub both_keys : Texts → Texts → List (List Part)

@@ -172,7 +172,7 @@ fn table_now<B: Board>(desk: &mut Desk<B>, alloc: Global, id: u32) -> Result<Kno
     ensures base { desk.new.base ≡ desk.old.base }
     ensures table { IfOk result (λ table. table ≡ texts_at desk.old.base id) }
 {
-    match desk.rows(id) {
+    match desk.row_texts(id) {
         Ok(rows) => KnownRows::of_rows(alloc, rows),
         Err(Refused::Memory) => Err(AllocError),
         Err(_) => Ok(KnownRows::new(alloc)),
@@ -187,7 +187,7 @@ fn row_now<B: Board>(desk: &mut Desk<B>, id: u32, key: &Key) -> Result<Option<Ve
         option_map (λ t. t.items) text ≡ map.get (texts_at desk.old.base id) key.now) }
 {
     rows_make_the_text();
-    match desk.row(id, key) {
+    match desk.row_text(id, key) {
         Ok(text) => Ok(text),
         Err(reason) => {
             if is_memory(reason) {

@@ -34,8 +34,9 @@ pub(crate) enum Known {
 }
 
 impl Known {
-    /// What is known after an edit that attaches nothing and removes nothing.
-    pub(crate) fn attached(self) -> Known
+    /// What is known after an edit that attaches nothing and removes nothing: which tables there are, but not
+    /// their rows.
+    pub(crate) fn forget_rows(self) -> Known
         ensures { result ≡ attached_at_most self }
     {
         match self {
@@ -53,7 +54,7 @@ pub(crate) struct KnownTables {
 }
 
 impl KnownTables {
-    /// No tables, where no trigger is attached. It takes no memory.
+    /// No tables, if no trigger is attached. It takes no memory.
     pub(crate) fn new(alloc: Global) -> KnownTables
         ensures by_id { seen nat_cmp result.by_id ≡ map.empty }
         ensures known { result.known ≡ Known.Shown }
@@ -81,7 +82,7 @@ impl KnownTables {
             Known::Attached => {
                 self.known = Known::Nothing;
                 let old = mem::replace(&mut self.by_id, BTreeMap::new(alloc));
-                self.by_id = looked_at(old, desk, alloc)?;
+                self.by_id = look_at_all(old, desk, alloc)?;
                 self.known = Known::Shown;
                 Ok(())
             }
@@ -95,7 +96,7 @@ impl KnownTables {
         ensures known { OnOk result (self.new.known ≡ attached_at_most self.old.known) }
         ensures failed { OnErr result (self.new.known ≡ Known.Nothing) }
     {
-        let known = self.known.attached();
+        let known = self.known.forget_rows();
         self.known = Known::Nothing;
         put(&mut self.by_id, id, KnownRows::new(alloc))?;
         self.known = known;
@@ -108,7 +109,7 @@ impl KnownTables {
         ensures known { self.new.known ≡ attached_at_most known }
     {
         take(&mut self.by_id, &id);
-        self.known = known.attached();
+        self.known = known.forget_rows();
     }
 
     /// What an accepted edit of one event prints: its word, its place, the rows that changed since
@@ -138,7 +139,7 @@ impl KnownTables {
         self.known = Known::Nothing;
         let changes = SignedLines::behind(done_line(alloc, word, edited.place)?);
         let old = mem::replace(&mut self.by_id, BTreeMap::new(alloc));
-        let told = told_of(old, desk, alloc, edited, changes)?;
+        let told = report_all(old, desk, alloc, edited, changes)?;
         self.by_id = told.by_id;
         let count = told.changes.count();
         let mut text = told.changes.into_lines();
@@ -161,7 +162,7 @@ struct Looked {
 }
 
 /// The tables with the rows that they show now. Refused for memory.
-fn looked_at<B: Board>(
+fn look_at_all<B: Board>(
     old: BTreeMap<u32, KnownRows>,
     desk: &mut Desk<B>,
     alloc: Global,
@@ -180,7 +181,7 @@ fn looked_at<B: Board>(
 
 /// The tables with the rows that they show after an edit; what differs is added to the changes.
 /// Refused for memory.
-fn told_of<B: Board>(
+fn report_all<B: Board>(
     old: BTreeMap<u32, KnownRows>,
     desk: &mut Desk<B>,
     alloc: Global,

@@ -14,7 +14,7 @@
 //!
 //! # Contracts
 //!
-//! - `Watch`, a `Session`, over every board: `watched` (`specs/Watched.antt`). A command means what
+//! - `Watch`, an `Interpreter`, over every board: `watched` (`specs/Watched.antt`). A command means what
 //!   it means to a desk. An accepted insert or strike prints also `changes_text` of the bases
 //!   before and after it (`specs/ChangedRows.antt`): of each attached trigger in order of id, and of
 //!   each key of its rows before or after in order, a `-` line of the row that was and a `+` line

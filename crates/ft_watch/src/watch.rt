@@ -15,7 +15,7 @@ ghost use Rattle.ft_watch.specs.inner.Told.{KeepsIds, AsksNoEdit};
 
 use crate::known_tables::{Known, KnownTables};
 use ft_answers::rows_make_the_text;
-use ft_desk::{Board, Desk, Name, Performed, Session, perform, refused};
+use ft_desk::{Board, Desk, Interpreter, Name, Performed, perform, print_refusal};
 use ft_script::{Command, Numbered, done_line, read_command};
 use std::alloc::{AllocError, Global};
 use std::marker::Model;
@@ -47,7 +47,7 @@ impl<B: Board> Model for Watch<B> {
     ghost invariant = { λ w. AreKnown w.tables.known w.desk.base (seen nat_cmp w.tables.by_id) };
 }
 
-impl<B: Board> Session for Watch<B> {
+impl<B: Board> Interpreter for Watch<B> {
     ghost base = { λ watch. watch.base };
 
     ghost means = { watched };
@@ -108,7 +108,7 @@ impl<B: Board> Watch<B> {
             Ok(done) => self
                 .tables
                 .tell(&mut self.desk, self.alloc, b"inserted ", &done.value),
-            Err(reason) => refused(self.alloc, reason),
+            Err(reason) => print_refusal(self.alloc, reason),
         }
     }
 
@@ -123,7 +123,7 @@ impl<B: Board> Watch<B> {
             Ok(done) => self
                 .tables
                 .tell(&mut self.desk, self.alloc, b"struck ", &done.value),
-            Err(reason) => refused(self.alloc, reason),
+            Err(reason) => print_refusal(self.alloc, reason),
         }
     }
 
@@ -140,7 +140,7 @@ impl<B: Board> Watch<B> {
                     refused: false,
                 })
             }
-            Err(reason) => refused(self.alloc, reason),
+            Err(reason) => print_refusal(self.alloc, reason),
         }
     }
 
@@ -170,7 +170,7 @@ impl<B: Board> Watch<B> {
         let known = self.tables.known;
         self.tables.known = Known::Nothing;
         let done = perform(&mut self.desk, self.alloc, files, line)?;
-        self.tables.known = known.attached();
+        self.tables.known = known.forget_rows();
         Ok(done)
     }
 

@@ -8,7 +8,7 @@ use Rattle.ft_changes.specs.declared.changed.ReadingChange.{ReadingChange}
 use Rattle.ft_table.specs.Tabled.{Tabled}
 use Rattle.ft_base.specs.Base.{Triggers}
 use Rattle.ft_replay.specs.Merged.{Events, merged}
-use Rattle.ft_made.specs.Turning.{CanTurn, HasTurned}
+use Rattle.ft_made.specs.Updating.{CanUpdate, IsUpdated}
 use Rattle.ft_board.specs.MadeShelves.{MadeTables, AreMadeBy}
 use Rattle.ft_board.specs.declared.mend.Mending.{Mending}
 
@@ -47,9 +47,9 @@ abbrev pub events_in : Mending → Events
 events_in mending = merged mending.content.now.lanes
 
 -- a trigger's table is made of what readings found, from which the changes lead on
-abbrev pub CanTurnBy : Mending → Hist → Tabled → Type 0
-CanTurnBy mending = CanTurn (triggers_in mending) (events_in mending) mending.changes.now
+abbrev pub CanUpdateBy : Mending → Hist → Tabled → Type 0
+CanUpdateBy mending = CanUpdate (triggers_in mending) (events_in mending) mending.changes.now
 
--- it is turned to what the changes lead to
-abbrev pub HasTurnedBy : Mending → Hist → Tabled → Tabled → Type 0
-HasTurnedBy mending = HasTurned (triggers_in mending) (events_in mending) mending.changes.now
+-- it is updated to what the changes lead to
+abbrev pub IsUpdatedBy : Mending → Hist → Tabled → Tabled → Type 0
+IsUpdatedBy mending = IsUpdated (triggers_in mending) (events_in mending) mending.changes.now

@@ -79,9 +79,9 @@ fn tells_rows<B: Board>(alloc: Global, board: B) -> Result<bool, Refused> {
     let mut board = measuring(alloc, board)?;
     let (key, other) = (Key::of_one(Part::Num(42)), Key::of_one(Part::Num(43)));
     Ok(
-        is_only(&board.rows(2)?, key, ROW)
-            && is_there(board.row(2, &key)?, ROW)
-            && board.row(2, &other)?.is_none(),
+        is_only(&board.row_texts(2)?, key, ROW)
+            && is_there(board.row_text(2, &key)?, ROW)
+            && board.row_text(2, &other)?.is_none(),
     )
 }
 

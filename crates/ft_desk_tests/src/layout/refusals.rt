@@ -3,8 +3,8 @@
 use ft_base::Refused;
 use ft_event::LineFault;
 use ft_filter::FilterFault;
-use ft_head::TriggerFault;
-use ft_layout::{RefusalLayout, numbers_of_refusals, refused_of};
+use ft_hist::TriggerFault;
+use ft_layout::{RefusalLayout, numbers_of_refusals, refusal_in};
 use std::mem::size_of;
 use std::test::*;
 
@@ -41,13 +41,13 @@ fn a_refusal_has_what_its_text_says(rt: HostRuntime) -> Result<(), Fail> {
 fn other_numbers_are_of_no_refusal(rt: HostRuntime) -> Result<(), Fail> {
     numbers_of_refusals();
     let none = RefusalLayout::of(None);
-    assert!(rt; refused_of(&none).is_none());
+    assert!(rt; refusal_in(&none).is_none());
     assert_eq!(rt;
-        refused_of(&RefusalLayout { number: 1, ..none }),
+        refusal_in(&RefusalLayout { number: 1, ..none }),
         Some(Refused::Memory)
     );
     assert_eq!(rt;
-        refused_of(&RefusalLayout { number: 17, ..none }),
+        refusal_in(&RefusalLayout { number: 17, ..none }),
         Some(Refused::NotReading)
     );
     let others = [
@@ -95,7 +95,7 @@ fn other_numbers_are_of_no_refusal(rt: HostRuntime) -> Result<(), Fail> {
         },
     ];
     for (number, layout) in others.iter().enumerate() {
-        assert!(rt; refused_of(layout).is_none(), "at {number}");
+        assert!(rt; refusal_in(layout).is_none(), "at {number}");
     }
     Ok(())
 }

@@ -3,7 +3,7 @@
 use ft_base::Refused;
 use ft_event::LineFault;
 use ft_filter::FilterFault;
-use ft_head::TriggerFault;
+use ft_hist::TriggerFault;
 use ft_layout::{RefusalLayout, refusal_text, refusal_words};
 use std::alloc::Global;
 use std::test::*;
@@ -29,7 +29,7 @@ fn each_refusal_is_said(rt: HostRuntime) -> Result<(), Fail> {
         (
             Refused::LaneHeld(3),
             "refused 4: cpu 3",
-            "events of CPU 3 are held already",
+            "events of CPU 3 are already held",
         ),
         (
             Refused::NoLane(8192),
@@ -39,7 +39,7 @@ fn each_refusal_is_said(rt: HostRuntime) -> Result<(), Fail> {
         (
             Refused::NoEvent,
             "refused 6",
-            "that line holds no event, or none is there",
+            "there is no event on that line",
         ),
         (
             Refused::Full,
@@ -59,7 +59,7 @@ fn each_refusal_is_said(rt: HostRuntime) -> Result<(), Fail> {
         (
             Refused::NameTaken(1),
             "refused 12: trigger 1",
-            "trigger 1 saves a variable of that name already",
+            "trigger 1 already saves a variable of that name",
         ),
         (
             Refused::NoVariable,
@@ -104,43 +104,43 @@ fn each_fault_of_a_line_is_said(rt: HostRuntime) -> Result<(), Fail> {
             1,
             LineFault::NoTask,
             "1 fault 1",
-            "1: no TASK-PID [CPU] and a space begin the line",
+            "1: expected TASK-PID [CPU] and a space at the start of the line",
         ),
         (
             2,
             LineFault::BadCpu,
             "2 fault 2",
-            "2: its CPU is above 8191",
+            "2: the CPU number is above 8191",
         ),
         (
             last,
             LineFault::BadStamp,
             "18446744073709551615 fault 3",
-            "18446744073709551615: no stamp SECONDS.MICROSECONDS: stands where one is due, or the flags before it have over 16 bytes",
+            "18446744073709551615: expected a timestamp SECONDS.MICROSECONDS: here, or the flags exceed 16 bytes",
         ),
         (
             4,
             LineFault::BadPayload,
             "4 fault 4",
-            "4: the fields of its event are not in the kernel's layout",
+            "4: the event's fields are not in the kernel's layout",
         ),
         (
             5,
             LineFault::NumberRange,
             "5 fault 5",
-            "5: a number is out of its range",
+            "5: a number is out of range",
         ),
         (
             6,
             LineFault::NameLong,
             "6 fault 6",
-            "6: a name has more than 31 bytes",
+            "6: a name is longer than 31 bytes",
         ),
         (
             7,
             LineFault::LineLong,
             "7 fault 7",
-            "7: the line has more than 4096 bytes",
+            "7: the line is longer than 4096 bytes",
         ),
     ];
     for (line, fault, text, words) in &all {
@@ -156,11 +156,7 @@ fn each_fault_of_a_line_is_said(rt: HostRuntime) -> Result<(), Fail> {
 fn each_fault_of_a_filter_is_said(rt: HostRuntime) -> Result<(), Fail> {
     let all = [
         (FilterFault::Memory, "1", "out of memory"),
-        (
-            FilterFault::Syntax(0),
-            "2 at 0",
-            "no such thing may stand here",
-        ),
+        (FilterFault::Syntax(0), "2 at 0", "unexpected token"),
         (
             FilterFault::NoField(4),
             "3 at 4",
@@ -169,19 +165,15 @@ fn each_fault_of_a_filter_is_said(rt: HostRuntime) -> Result<(), Fail> {
         (
             FilterFault::WrongKind(8192),
             "4 at 8192",
-            "the operator or the value is of another kind than the field",
+            "the operator or the value does not match the type of the field",
         ),
-        (FilterFault::BadGlob(9), "5 at 9", "this is no pattern"),
+        (FilterFault::BadGlob(9), "5 at 9", "invalid glob pattern"),
         (
             FilterFault::NumberRange(7),
             "6 at 7",
-            "the number isn't in -2^63 to 2^63-1",
+            "the number is not between -2^63 and 2^63-1",
         ),
-        (
-            FilterFault::TooDeep,
-            "7",
-            "more than 32 of ( and ! are open",
-        ),
+        (FilterFault::TooDeep, "7", "more than 32 nested ( and !"),
     ];
     for (fault, text, words) in &all {
         let alone = format!(in rt.alloc(); "refused 9: filter {text}")?;
@@ -202,50 +194,46 @@ fn each_fault_of_a_filter_is_said(rt: HostRuntime) -> Result<(), Fail> {
 fn each_fault_of_a_trigger_is_said(rt: HostRuntime) -> Result<(), Fail> {
     let all = [
         (TriggerFault::Memory, "1", "out of memory"),
-        (
-            TriggerFault::Syntax(14),
-            "2 at 14",
-            "no such thing may stand here",
-        ),
+        (TriggerFault::Syntax(14), "2 at 14", "unexpected token"),
         (
             TriggerFault::NoField,
             "3",
-            "the event has no such field, or the trigger no such variable",
+            "the event has no such field, or the trigger has no such variable",
         ),
         (
             TriggerFault::NotNumeric,
             "4",
-            "a number is due, and this field is a text",
+            "expected a numeric field, but this one holds text",
         ),
         (
             TriggerFault::TooMany,
             "5",
-            "3 keys, 3 values besides hitcount and 2 sort items are the most",
+            "more than 3 keys, 3 values besides hitcount, or 2 sort items",
         ),
         (
             TriggerFault::Duplicate,
             "6",
-            "a part, an item or a name stands twice",
+            "a part, an item or a name is given twice",
         ),
         (
             TriggerFault::BadSize,
             "7",
-            "the size is no number from 65 to 131072",
+            "the size is not a number from 65 to 131072",
         ),
         (
             TriggerFault::BadSort,
             "8",
-            "a sort item is no key and no value, or has an unknown suffix",
+            "a sort item is neither a key nor a value, or has an unknown suffix",
         ),
         (
             TriggerFault::BadModifier,
             "9",
-            "a modifier is unknown, or not for its field",
+            "a modifier is unknown, or does not apply to its field",
         ),
         (
             TriggerFault::LeftOut(0),
             "10 at 0",
-            "the kernel has this form, and the desk has not",
+            "kernel syntax that histdesk does not support",
         ),
     ];
     for (fault, text, words) in &all {

@@ -3,7 +3,7 @@ use Rattle.std.specs.Prelude.{◌≡◌, ℕ, suc, List, ◌∷◌, ◌++◌, le
 use Rattle.ft_losses.specs.Notes.{Note, NoteIs, AreNotes}
 use Rattle.ft_losses.specs.Telling.{Keeps}
 use Rattle.ft_losses.specs.declared.losses.Losses.{Losses}
-use Rattle.ft_script.specs.Lines.{lines_of}
+use Rattle.ft_text.specs.Lines.{lines_of}
 
 -- what the lines before the rest of a text report is kept, newest first, and this is the number of the next line
 pub record HasNoted (text rest : List ℕ) (losses : Losses) (number : ℕ) : Type 0 where

@@ -1,5 +1,5 @@
 -- What an act changes of what is kept of tasks and CPUs.
-use Rattle.std.specs.Prelude.{◌≡◌, ℕ, ◌+◌, ◌-◌, ◌^◌, ℤ, pos, Bool, true, false, not, ◌&&◌, ◌||◌, Option, Some, None, min, nat_eq, if◌then◌else◌}
+use Rattle.std.specs.Prelude.{◌≡◌, ℕ, ◌+◌, ◌-◌, ◌^◌, ℤ, pos, Bool, true, false, not, ◌&&◌, ◌||◌, Option, Some, None, max, min, nat_eq, nat_lt, if◌then◌else◌}
 use Rattle.std.specs.List.{count_by}
 use Rattle.std.specs.Map.{lookup}
 use Rattle.std.specs.Option.{unwrap_or}
@@ -98,8 +98,8 @@ abbrev pub number_waiting : BTreeMap Task Standing → ℕ
 number_waiting tasks = count_by standing_waits (values tasks)
 
 -- the number once a task changed that waited or didn't, and waits or doesn't
-abbrev pub recounted : ℕ → Bool → Bool → ℕ
-recounted waiting waited waits =
+abbrev pub count_after : ℕ → Bool → Bool → ℕ
+count_after waiting waited waits =
     if waits && not waited then min (waiting + 1) (2 ^ 64 - 1)
     else (if waited && not waits then waiting - 1 else waiting)
 
@@ -114,11 +114,21 @@ abbrev pub run_of : Option Cpu → ℤ → ℕ → ℕ
 run_of None prev_pid stamp = 0
 run_of (Some cpu) prev_pid stamp = if int_eq cpu.pid prev_pid then stamp - cpu.stamp else 0
 
+-- a run of task 0 ended that began at a stamp and lasted so long, and in which some task waited so long
+abbrev pub idled : ℕ → ℕ → ℕ → CpuSum → CpuSum
+idled begun lasted waited sum = record {
+  cpu = sum.cpu;
+  idle = summed sum.idle lasted;
+  idle_with_waiters = summed sum.idle_with_waiters waited;
+  longest = max sum.longest waited;
+  longest_from = if nat_lt sum.longest waited then begun else sum.longest_from;
+}
+
 -- what is added up once a switch left a task
 abbrev pub cpu_summed : Cpu → PlacedAct → ℕ → CpuSum
 cpu_summed cpu turn waited =
     if int_eq cpu.pid turn.prev_pid && int_eq turn.prev_pid (pos 0)
-    then record { cpu = cpu.sum.cpu; idle = summed cpu.sum.idle (turn.place.stamp - cpu.stamp); idle_with_waiters = summed cpu.sum.idle_with_waiters (waited - cpu.waited) }
+    then idled cpu.stamp (turn.place.stamp - cpu.stamp) (waited - cpu.waited) cpu.sum
     else cpu.sum
 
 -- a CPU that went to another task, once some task waited so long
@@ -126,7 +136,7 @@ abbrev pub cpu_turned : Cpu → PlacedAct → ℕ → Cpu
 cpu_turned cpu turn waited = record { pid = turn.pid; stamp = turn.place.stamp; waited = waited; sum = cpu_summed cpu turn waited }
 
 abbrev pub cpu_from : Option Cpu → PlacedAct → ℕ → Cpu
-cpu_from None turn waited = record { pid = turn.pid; stamp = turn.place.stamp; waited = waited; sum = record { cpu = turn.place.cpu; idle = 0; idle_with_waiters = 0 } }
+cpu_from None turn waited = record { pid = turn.pid; stamp = turn.place.stamp; waited = waited; sum = record { cpu = turn.place.cpu; idle = 0; idle_with_waiters = 0; longest = 0; longest_from = 0 } }
 cpu_from (Some cpu) turn waited = cpu_turned cpu turn waited
 
 -- ---- a switch

@@ -8,7 +8,7 @@ use Rattle.ft_event.specs.Line.{line_of}
 use Rattle.ft_fields.specs.Traced.{Traced}
 use Rattle.ft_losses.specs.Notes.{Note, NoteIs, AreNotes}
 use Rattle.ft_losses.specs.Telling.{Keeps}
-use Rattle.ft_script.specs.Lines.{lines_of}
+use Rattle.ft_text.specs.Lines.{lines_of}
 use Rattle.ft_waits.specs.Choice.{Choice}
 use Rattle.ft_waits.specs.Reading.{events_of, history, lines_read, refused, FailsAt, Fails}
 use Rattle.ft_waits.specs.inner.Known.{Follows, left_out_by}

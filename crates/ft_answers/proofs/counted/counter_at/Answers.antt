@@ -18,7 +18,7 @@ pub returns-clause-tally : goal.returns-clause-tally
 returns-clause-tally c =
     let counters : Counters = seen nat_cmp c.in_ok-counters.counters in
     let there : map.get counters c.args.id ≡ Some c.unwrap.result = get-seen nat_cmp_total c.in_ok-counters.counters c.args.id ∙ sym c.remove.ensures.value ∙ c.unwrap.ensures in
-    counter_tally c.counted_made.ensures.first c.args.triggers.now (merged c.args.lanes.now) counters c.args.id c.unwrap.result c.in_ok-counters.ensures.tallies there
+    counter_tally c.made_counters.ensures.first c.args.triggers.now (merged c.args.lanes.now) counters c.args.id c.unwrap.result c.in_ok-counters.ensures.tallies there
 
 pub returns-clause-fit : goal.returns-clause-fit
 returns-clause-fit c =

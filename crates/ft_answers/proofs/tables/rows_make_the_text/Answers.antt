@@ -8,4 +8,4 @@ returns-clause-text c = rows_make_text
 pub returns-clause-row : goal.returns-clause-row
 returns-clause-row c =
     let law = c.one_row_order.ensures in
-    row_is_among law.permutation law.sorted law.alone c.counted_made.ensures.first c.counted_hits.ensures.tally c.tallied_made.ensures.tally
+    row_is_among law.permutation law.sorted law.alone c.made_counters.ensures.first c.counted_hits.ensures.tally c.made_tallies.ensures.tally

@@ -8,7 +8,7 @@ use Rattle.ft_base.specs.declared.refused.Place.{Place}
 use Rattle.ft_base.specs.declared.refused.Refused.{Refused}
 use Rattle.ft_base.specs.declared.refused.Refused.TheVariants.{Full, TooManyTriggers}
 use Rattle.ft_base.specs.Base.{Base, id_limit, trigger_limit}
-use Rattle.ft_base.specs.After.{after_insert, after_attach, variable_refused}
+use Rattle.ft_base.specs.After.{after_insert, after_attach, variable_refusal}
 use Rattle.ft_base.proofs.Cases.{insert-high, insert-ok}
 use Rattle.ft_base.proofs.After.{attach-high, attach-ok}
 use Rattle.ft_base.proofs.laws.last_numbers.Goals as goal
@@ -31,7 +31,7 @@ no-line base event lane held next =
     let high : number_limit < (lane_or_new base.lanes event.cpu).next = omega arith in
     insert-high base event high
 
-last-id : (base : Base) (hist : Hist) → base.next_id ≡ id_limit → map.len base.triggers < trigger_limit → variable_refused base.triggers hist hist.variable ≡ None
+last-id : (base : Base) (hist : Hist) → base.next_id ≡ id_limit → map.len base.triggers < trigger_limit → variable_refusal base.triggers hist hist.variable ≡ None
     → after_attach base hist ≡ Ok (record base { triggers = map.insert base.triggers id_limit hist; next_id = id_limit + 1 }, id_limit)
 last-id base hist next few free =
     let low : base.next_id ≤ id_limit = omega arith in

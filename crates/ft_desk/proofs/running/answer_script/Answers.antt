@@ -50,18 +50,18 @@ returns-in_err-refused-in-Line g c =
     let at = c.loop-turn.invariant in
     let turn : c.loop-turn.script.asked.made < asking_limit = omega (arith, at.made) in
     let took = rw c.in-Line.is at c.in_ok-take_part.ensures.gives in
-    let means = g.S.Session.means (texts_of c.args.files.now) in
+    let means = g.S.Interpreter.means (texts_of c.args.files.now) in
     let piece = c.take_part.new.piece.items in
     let fault = c.in_err-refused-in-Line.field-0.0 in
     let rest = g.R.Read.remaining c.take_part.new.script.reader.now in
     let later = g.W.Write.contents c.answer_line.new.out.writer.now in
-    let held = g.S.Session.base c.answer_line.new.session in
-    let gives = line_of_piece means (g.S.Session.base c.loop-turn.session) held c.deref.result.now piece (g.W.Write.contents c.loop-turn.out.writer.now) later (Err fault) c.deref.ensures.value c.in_err-refused-in-Line.ensures.gives in
+    let held = g.S.Interpreter.base c.answer_line.new.interpreter in
+    let gives = line_of_piece means (g.S.Interpreter.base c.loop-turn.interpreter) held c.deref.result.now piece (g.W.Write.contents c.loop-turn.out.writer.now) later (Err fault) c.deref.ensures.value c.in_err-refused-in-Line.ensures.gives in
     let next = line_begins means _ _ _ piece _ _ _ rest _ _ at.progress turn took in
     rw (p.1, p.2) (record {
       ends = line_fails means _ _ _ piece _ _ _ rest _ _ at.progress fault later held next gives;
       turns = omega (arith, c.in_ok-take_part.ensures.made);
-      asks = asked_well means (g.S.Session.base c.loop-turn.session) held piece fault _ later gives c.take_part.new.script.asked c.in_ok-take_part.ensures.failed;
+      asks = asked_well means (g.S.Interpreter.base c.loop-turn.interpreter) held piece fault _ later gives c.take_part.new.script.asked c.in_ok-take_part.ensures.failed;
       failed = c.in_err-refused-in-Line.ensures.failed;
       flushed = c.in_err-refused-in-Line.ensures.flushed ∙ at.flushed;
       same_reader = c.in_ok-take_part.ensures.same ∙ at.same_reader;
@@ -74,18 +74,18 @@ returns-in_err-refused-in-End g c =
     let at = c.loop-turn.invariant in
     let turn : c.loop-turn.script.asked.made < asking_limit = omega (arith, at.made) in
     let took = rw c.in-End.is at c.in_ok-take_part.ensures.gives in
-    let means = g.S.Session.means (texts_of c.args.files.now) in
+    let means = g.S.Interpreter.means (texts_of c.args.files.now) in
     let piece = c.take_part.new.piece.items in
     let fault = c.in_err-refused-in-End.field-0.0 in
     let rest = g.R.Read.remaining c.take_part.new.script.reader.now in
     let later = g.W.Write.contents c.answer_line-then-not-is_empty.new.out.writer.now in
-    let held = g.S.Session.base c.answer_line-then-not-is_empty.new.session in
-    let gives = line_of_piece means (g.S.Session.base c.loop-turn.session) held c.deref-then-not-is_empty.result.now piece (g.W.Write.contents c.loop-turn.out.writer.now) later (Err fault) c.deref-then-not-is_empty.ensures.value c.in_err-refused-in-End.ensures.gives in
+    let held = g.S.Interpreter.base c.answer_line-then-not-is_empty.new.interpreter in
+    let gives = line_of_piece means (g.S.Interpreter.base c.loop-turn.interpreter) held c.deref-then-not-is_empty.result.now piece (g.W.Write.contents c.loop-turn.out.writer.now) later (Err fault) c.deref-then-not-is_empty.ensures.value c.in_err-refused-in-End.ensures.gives in
     let next = last_begins means _ _ _ piece _ _ _ rest _ _ at.progress turn took (λ none. eqb-false _ 0 (sym c.is_empty.ensures ∙ c.if-not-is_empty.true) (omega (arith, ap length none))) in
     rw (p.1, p.2) (record {
       ends = line_fails means _ _ _ piece _ _ _ rest _ _ at.progress fault later held next gives;
       turns = omega (arith, c.in_ok-take_part.ensures.made);
-      asks = asked_well means (g.S.Session.base c.loop-turn.session) held piece fault _ later gives c.take_part.new.script.asked c.in_ok-take_part.ensures.failed;
+      asks = asked_well means (g.S.Interpreter.base c.loop-turn.interpreter) held piece fault _ later gives c.take_part.new.script.asked c.in_ok-take_part.ensures.failed;
       failed = c.in_err-refused-in-End.ensures.failed;
       flushed = c.in_err-refused-in-End.ensures.flushed ∙ at.flushed;
       same_reader = c.in_ok-take_part.ensures.same ∙ at.same_reader;
@@ -97,15 +97,15 @@ returns-in-End-clause-ends g c =
     let at = c.loop-turn.invariant in
     let turn : c.loop-turn.script.asked.made < asking_limit = omega (arith, at.made) in
     let took = rw c.in-End.is at c.in_ok-take_part.ensures.gives in
-    let means = g.S.Session.means (texts_of c.args.files.now) in
+    let means = g.S.Interpreter.means (texts_of c.args.files.now) in
     let piece = c.take_part.new.piece.items in
     let rest = g.R.Read.remaining c.take_part.new.script.reader.now in
     rw c.status_from.ensures (elim c.if-not-is_empty.branch [
       | then-not-is_empty+in_ok-refused-in-End w ↦
           let told = w.in_ok-refused-in-End.field-0 in
           let later = g.W.Write.contents w.answer_line-then-not-is_empty.new.out.writer.now in
-          let held = g.S.Session.base w.answer_line-then-not-is_empty.new.session in
-          let gives = line_of_piece means (g.S.Session.base c.loop-turn.session) held w.deref-then-not-is_empty.result.now piece (g.W.Write.contents c.loop-turn.out.writer.now) later (Ok told) w.deref-then-not-is_empty.ensures.value w.in_ok-refused-in-End.ensures.gives in
+          let held = g.S.Interpreter.base w.answer_line-then-not-is_empty.new.interpreter in
+          let gives = line_of_piece means (g.S.Interpreter.base c.loop-turn.interpreter) held w.deref-then-not-is_empty.result.now piece (g.W.Write.contents c.loop-turn.out.writer.now) later (Ok told) w.deref-then-not-is_empty.ensures.value w.in_ok-refused-in-End.ensures.gives in
           rw (w.out-is, w.refused-is) (ends_with means _ _ _ piece _ _ _ rest _ _ at.progress turn took (λ none. eqb-false _ 0 (sym c.is_empty.ensures ∙ w.if-not-is_empty.true) (omega (arith, ap length none))) later held told gives)
       | else-not-is_empty w ↦ rw (w.out-is, w.refused-is) (ends means _ _ _ piece _ _ _ rest _ _ at.progress turn took (nil_from_length piece (omega (arith, eqb-true _ 0 (sym c.is_empty.ensures ∙ w.if-not-is_empty.false)))))
     ])
@@ -154,14 +154,14 @@ returns g c =
 pub loop-turn-preserved : goal.loop-turn-preserved
 loop-turn-preserved g c =
     let at = c.loop-turn.invariant in
-    let means = g.S.Session.means (texts_of c.args.files.now) in
+    let means = g.S.Interpreter.means (texts_of c.args.files.now) in
     let piece = c.take_part.new.piece.items in
     let rest = g.R.Read.remaining c.take_part.new.script.reader.now in
     elim c.match-branch-2.branch [
       | in-Part w ↦
           let took = rw w.in-Part.is at c.in_ok-take_part.ensures.gives in
           record {
-            progress = rw (w.out-is, w.session-is, w.piece-is, w.refused-is) (reads_part means _ _ rest _ _ _ _ _ piece _ _ c.in_ok-take_part.ensures.made at.progress took);
+            progress = rw (w.out-is, w.interpreter-is, w.piece-is, w.refused-is) (reads_part means _ _ rest _ _ _ _ _ piece _ _ c.in_ok-take_part.ensures.made at.progress took);
             made = omega (arith, at.made, c.in_ok-take_part.ensures.made);
             well = c.in_ok-take_part.ensures.failed;
             unfailed = rw w.out-is at.unfailed;
@@ -173,10 +173,10 @@ loop-turn-preserved g c =
           let took = rw w.in-Line.is at c.in_ok-take_part.ensures.gives in
           let told = w.in_ok-refused-in-Line.field-0 in
           let later = g.W.Write.contents w.answer_line.new.out.writer.now in
-          let held = g.S.Session.base w.answer_line.new.session in
-          let gives = line_of_piece means (g.S.Session.base c.loop-turn.session) held w.deref.result.now piece (g.W.Write.contents c.loop-turn.out.writer.now) later (Ok told) w.deref.ensures.value w.in_ok-refused-in-Line.ensures.gives in
+          let held = g.S.Interpreter.base w.answer_line.new.interpreter in
+          let gives = line_of_piece means (g.S.Interpreter.base c.loop-turn.interpreter) held w.deref.result.now piece (g.W.Write.contents c.loop-turn.out.writer.now) later (Ok told) w.deref.ensures.value w.in_ok-refused-in-Line.ensures.gives in
           record {
-            progress = rw (w.out-is, w.session-is, w.piece-is, w.refused-is, w.clear.ensures.items) (reads_line means _ _ rest _ _ _ _ _ piece _ _ c.in_ok-take_part.ensures.made at.progress took later held told gives);
+            progress = rw (w.out-is, w.interpreter-is, w.piece-is, w.refused-is, w.clear.ensures.items) (reads_line means _ _ rest _ _ _ _ _ piece _ _ c.in_ok-take_part.ensures.made at.progress took later held told gives);
             made = omega (arith, at.made, c.in_ok-take_part.ensures.made);
             well = c.in_ok-take_part.ensures.failed;
             unfailed = rw w.out-is w.in_ok-refused-in-Line.ensures.failed;

@@ -18,7 +18,7 @@ read_enclosed-returns-in_err-inside-clause-reads t c text is =
 
 pub read_enclosed-returns-clause-reads : goal.read_enclosed-returns-clause-reads
 read_enclosed-returns-clause-reads t c text is =
-    gives c.closed.result (enclosed_so c.args.source.event c.args.source.len c.args.room (c.args.room - 1) text c.args.behind.now _ _ (omega (arith, c.if-room-eq0.false)) is c.in_ok-inside.ensures.reads) c.closed.ensures.reads
+    gives c.close_group.result (enclosed_so c.args.source.event c.args.source.len c.args.room (c.args.room - 1) text c.args.behind.now _ _ (omega (arith, c.if-room-eq0.false)) is c.in_ok-inside.ensures.reads) c.close_group.ensures.reads
 
 pub read_joined-returns-in_err-first-clause-reads :
     goal.read_joined-returns-in_err-first-clause-reads
@@ -72,8 +72,8 @@ pub read_more-returns-clause-reads : goal.read_more-returns-clause-reads
 read_more-returns-clause-reads t c rest is =
     let inv = c.loop-behind.invariant in
     let none : behind_joint c.args.joint c.loop-behind.rest.now ≡ None = search rules in
-    completes_all c.args.source.event c.args.source.len c.args.joint c.args.room c.args.behind.now c.loop-behind.rest.now inv.0 inv.3 none rest is (tree_of c.args.first) (tree_of c.joined.result) inv.2
-    (c.joined.ensures ∙ ap (λ list. tree_of_joint c.args.joint (trees list)) inv.1)
+    completes_all c.args.source.event c.args.source.len c.args.joint c.args.room c.args.behind.now c.loop-behind.rest.now inv.0 inv.3 none rest is (tree_of c.args.first) (tree_of c.join.result) inv.2
+    (c.join.ensures ∙ ap (λ list. tree_of_joint c.args.joint (trees list)) inv.1)
 
 pub read_not-returns-then-room-eq0-clause-reads : goal.read_not-returns-then-room-eq0-clause-reads
 read_not-returns-then-room-eq0-clause-reads t c text is = inr (no_room c.args.source.event c.args.source.len c.args.room text c.args.behind.now 33 c.if-room-eq0.true is (inl refl))
@@ -86,13 +86,13 @@ read_not-returns-in_err-operand-clause-reads t c text is =
 
 pub read_not-returns-clause-reads : goal.read_not-returns-clause-reads
 read_not-returns-clause-reads t c text is =
-    gives c.negated.result (negated_so c.args.source.event c.args.source.len c.args.room (c.args.room - 1) text c.args.behind.now _ _ (omega (arith, c.if-room-eq0.false)) is c.in_ok-operand.ensures.reads) c.negated.ensures.reads
+    gives c.negate.result (negated_so c.args.source.event c.args.source.len c.args.room (c.args.room - 1) text c.args.behind.now _ _ (omega (arith, c.if-room-eq0.false)) is c.in_ok-operand.ensures.reads) c.negate.ensures.reads
 
 pub read_operand-returns-clause-reads : goal.read_operand-returns-clause-reads
 read_operand-returns-clause-reads t c =
     let no_not : starts_with eqb c.skip-text.result.now (33 ∷ []) ≡ false = search rules in
     let no_paren : starts_with eqb c.skip-text.result.now (40 ∷ []) ≡ false = search rules in
-    gives c.compared.result (compared_so c.args.source.event c.args.source.len c.args.room c.args.text.now c.skip-text.result.now c.skip-text.ensures.value no_not no_paren) c.compared.ensures.reads
+    gives c.read_predicate.result (compared_so c.args.source.event c.args.source.len c.args.room c.args.text.now c.skip-text.result.now c.skip-text.ensures.value no_not no_paren) c.read_predicate.ensures.reads
 
 pub read_below-returns-in-Or-clause-reads : goal.read_below-returns-in-Or-clause-reads
 read_below-returns-in-Or-clause-reads t c = search rules

@@ -1,5 +1,5 @@
 use Rattle.std.proofs.Common.{subst, sym, ap, ◌∙◌}
-use Rattle.ft_head.specs.declared.fault.TriggerFault.TheVariants.{Syntax}
+use Rattle.ft_hist.specs.declared.fault.TriggerFault.TheVariants.{Syntax}
 use Rattle.ft_text.specs.Items.{word_of}
 use Rattle.ft_head.specs.Draft.{given_or, with_sort}
 use Rattle.ft_head.specs.inner.Leaving.{Leaves}

@@ -10,4 +10,4 @@ pub returns-in_ok-refused_line-in-Some : goal.returns-in_ok-refused_line-in-Some
 returns-in_ok-refused_line-in-Some c =
     c.without_last.ensures
     ∙ without_break c.in-Some.refused _ c.in_ok-refused_line-in-Some.ensures
-    ∙ ap (λ found. option_map_or (λ why. codes "refused " ++ decimal (refused_number why) ++ detail why) found []) (sym c.in-Some.is ∙ c.refused_of.ensures.exact)
+    ∙ ap (λ found. option_map_or (λ why. codes "refused " ++ decimal (refused_number why) ++ detail why) found []) (sym c.in-Some.is ∙ c.refusal_in.ensures.exact)

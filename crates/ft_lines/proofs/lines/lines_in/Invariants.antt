@@ -1,6 +1,6 @@
 use Rattle.std.proofs.Common.{◌≡◌, ◌++◌, length}
 use Rattle.ft_lines.specs.Lines.{lines_from, text_lines}
-use Rattle.ft_script.specs.Lines.{lines_of}
+use Rattle.ft_text.specs.Lines.{lines_of}
 use Rattle.ft_lines.proofs.lines.lines_in.Given as goal
 
 abbrev pub invariant-loop-line : goal.invariant-loop-line

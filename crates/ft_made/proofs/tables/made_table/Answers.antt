@@ -41,8 +41,8 @@ loop-id-init g c =
       grow = grow_none _;
     }
 
-pub turn_made-requires : goal.turn_made-requires
-turn_made-requires g c =
+pub update_made-requires : goal.update_made-requires
+update_made-requires g c =
     let triggers : Triggers = c.args.triggers.now in
     let events : Events = merged c.args.lanes.now in
     let hist : Hist = c.args.trigger.now in
@@ -74,17 +74,17 @@ loop-id-preserved g c =
     let attached : AllByRecursion (λ (x : ℕ × Hist). map.get triggers x.0 ≡ Some x.1) (e ∷ left) = subst (AllByRecursion (λ (x : ℕ × Hist). map.get triggers x.0 ≡ Some x.1)) more c.loop-id.invariant.attached in
     record {
       made = λ found are.
-          c.in_ok-turn_made.ensures.turned (not_yet triggers pairs found are (e ∷ left)) (not_yet triggers pairs found are left)
+          c.in_ok-update_made.ensures.updated (not_yet triggers pairs found are (e ∷ left)) (not_yet triggers pairs found are left)
           (subst (λ (changes : List ReadingChange). Lead changes (not_yet triggers pairs found are (e ∷ left)) (not_yet triggers pairs found are left)) (sym (c.deref.ensures.value ∙ c.in_ok-changes.ensures))
           (lead_next triggers pairs found are e left apart.0 attached.0))
           (subst (λ (at : List (ℕ × Hist)). IsMadeTable triggers events (not_yet triggers pairs found are at) hist c.loop-id.table) more (c.loop-id.invariant.made found are));
       apart = apart.1;
       attached = attached.1;
       none = λ none.
-          (c.in_ok-turn_made.ensures.idle (c.deref.ensures.value ∙ c.in_ok-changes.ensures
+          (c.in_ok-update_made.ensures.idle (c.deref.ensures.value ∙ c.in_ok-changes.ensures
           ∙ ap (λ o. option_map_or (λ onmatch. list_map (first_change e.0) (pairs e.0)) o []) (none e.0 e.1 attached.0))).1.1
           ∙ c.loop-id.invariant.none none;
-      grow = grow_more _ _ _ c.loop-id.invariant.grow c.in_ok-turn_made.ensures.grow;
+      grow = grow_more _ _ _ c.loop-id.invariant.grow c.in_ok-update_made.ensures.grow;
     }
 
 pub returns-clause-table : goal.returns-clause-table
@@ -97,13 +97,13 @@ returns-clause-table g c =
     λ found are. all_made triggers pairs found are events hist c.loop-id.table
     (subst (λ (at : List (ℕ × Hist)). IsMadeTable triggers events (not_yet triggers pairs found are at) hist c.loop-id.table) all (c.loop-id.invariant.made found are))
 
-pub returns-in_err-turn_made-clause-idle : goal.returns-in_err-turn_made-clause-idle
-returns-in_err-turn_made-clause-idle g c =
+pub returns-in_err-update_made-clause-idle : goal.returns-in_err-update_made-clause-idle
+returns-in_err-update_made-clause-idle g c =
     let triggers : Triggers = c.args.triggers.now in
     let pairs : ℕ → List Pair = g.R.KeptReadings.pairs c.args.readings.now in
     let e : ℕ × Hist = (c.in-Some.id.now, c.in-Some.maker.now) in
     let more : c.loop-id.id-iterator ≡ e ∷ c.next.new.self = rest_more (deref_pair {K = ℕ} {X = Hist}) _ _ _ _ c.in-Some.is c.next.ensures.steps in
     let attached : map.get triggers e.0 ≡ Some e.1 = (subst (AllByRecursion (λ (x : ℕ × Hist). map.get triggers x.0 ≡ Some x.1)) more c.loop-id.invariant.attached).0 in
     λ none.
-    (c.turn_made.ensures.idle (c.deref.ensures.value ∙ c.in_ok-changes.ensures ∙ ap (λ o. option_map_or (λ onmatch. list_map (first_change e.0) (pairs e.0)) o []) (none e.0 e.1 attached))).1.1
+    (c.update_made.ensures.idle (c.deref.ensures.value ∙ c.in_ok-changes.ensures ∙ ap (λ o. option_map_or (λ onmatch. list_map (first_change e.0) (pairs e.0)) o []) (none e.0 e.1 attached))).1.1
     ∙ c.loop-id.invariant.none none

@@ -1,6 +1,6 @@
 use Rattle.std.proofs.Common.{to_z, of_z, w32, ap, arith, false, ◌∙◌}
 use Rattle.std.proofs.lemmas.Int.{to_z-of_z}
-use Rattle.ft_summary.specs.inner.Changes.{changed, found_task, none, number_waiting, recounted, standing_waits}
+use Rattle.ft_summary.specs.inner.Changes.{changed, found_task, none, number_waiting, count_after, standing_waits}
 use Rattle.ft_summary.specs.declared.standing.Standing.{Standing}
 use Rattle.ft_summary.specs.declared.tasks.Task.{Task}
 use Rattle.ft_summary.proofs.Counting.{count-added, few, recount}
@@ -22,7 +22,7 @@ returns-clause-counts c = λ same.
     let stored = to_z w32 (of_z w32 c.args.pid) in
     let key : Task = record { pid = stored } in
     let absent = ap (found_task old) (to_z-of_z w32 c.args.pid c.ranges.pid) ∙ c.requires.new in
-    c.recounted.ensures ∙ ap (recounted c.args.waiting.now false) c.waits.ensures
+    c.count_after.ensures ∙ ap (count_after c.args.waiting.now false) c.waits.ensures
     ∙ recount c.args.waiting.now (number_waiting old) (number_waiting new) false (standing_waits value) same
     (count-added old new key value c.in_ok-insert.ensures.entries c.in_ok-insert.ensures.was_ordered absent)
     (few new (omega (arith, c.len.ensures.len, c.len.ensures.small)))

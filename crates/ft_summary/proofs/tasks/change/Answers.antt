@@ -2,7 +2,7 @@ use Rattle.std.proofs.Common.{to_z, of_z, w32, ap, arith, ◌∙◌, subst, sym,
 use Rattle.std.proofs.lemmas.Int.{to_z-of_z}
 use Rattle.std.specs.Option.{IsSome}
 use Rattle.ft_summary.specs.Waiting.{is_counted}
-use Rattle.ft_summary.specs.inner.Changes.{number_waiting, recounted, standing_waits}
+use Rattle.ft_summary.specs.inner.Changes.{number_waiting, count_after, standing_waits}
 use Rattle.ft_summary.specs.declared.tasks.Task.{Task}
 use Rattle.ft_summary.proofs.Counting.{count-changed, few, recount}
 use Rattle.ft_summary.proofs.Written.{found-changed}
@@ -24,8 +24,8 @@ returns-in-Some-clause-counts c = λ same.
     let was = c.in-Some.standing.now in
     let key : Task = record { pid = to_z w32 (of_z w32 c.args.pid) } in
     let len = (c.get_mut.follows.holds value).2 in
-    c.recounted.ensures ∙ ap (λ a. recounted c.args.waiting.now a c.waits.result) c.waits-waited.ensures
-    ∙ ap (recounted c.args.waiting.now (standing_waits was)) c.waits.ensures
+    c.count_after.ensures ∙ ap (λ a. count_after c.args.waiting.now a c.waits.result) c.waits-waited.ensures
+    ∙ ap (count_after c.args.waiting.now (standing_waits was)) c.waits.ensures
     ∙ recount c.args.waiting.now (number_waiting old) (number_waiting new) (standing_waits was) (standing_waits value) same
     (count-changed old new key was value (c.get_mut.follows.holds value).0 c.in-Some.ensures.value)
     (few new (omega (arith, len, c.len.ensures.len, c.len.ensures.small)))

@@ -5,7 +5,7 @@ use Rattle.ft_lanes.proofs.Views.{at_ok}
 use Rattle.ft_base.specs.contracts.content.Content.{the_view}
 use Rattle.ft_base.specs.Base.{Base, trigger_limit}
 use Rattle.ft_base.specs.OneTrigger.{JoinsAs}
-use Rattle.ft_base.specs.After.{after_attach, variable_refused}
+use Rattle.ft_base.specs.After.{after_attach, variable_refusal}
 use Rattle.ft_base.proofs.After.{at_err, attach-many, attach-high, attach-against, attach-ok}
 use Rattle.ft_base.proofs.Attaching.{attach-IsReachable}
 use Rattle.ft_base.proofs.Unread.{attached_joins}
@@ -40,7 +40,7 @@ invariant_of-self-2 c =
     let hist = c.args.trigger in
     let triggers : c.insert.new.self ≡ map.insert base.triggers base.next_id hist = at_ok c.insert.result c.if-is_err.ensures.value c.insert.ensures.ok in
     let few : map.len base.triggers < trigger_limit = omega (arith, c.len.ensures) in
-    let free : variable_refused base.triggers hist hist.variable ≡ None = sym c.in_default.ensures in
+    let free : variable_refusal base.triggers hist hist.variable ≡ None = sym c.in_default.ensures in
     rw triggers (attach-IsReachable base hist c.self.invariant few (omega arith) free)
 
 pub returns-clause-gives : goal.returns-clause-gives
@@ -49,7 +49,7 @@ returns-clause-gives c =
     let hist = c.args.trigger in
     let triggers : c.insert.new.self ≡ map.insert base.triggers base.next_id hist = at_ok c.insert.result c.if-is_err.ensures.value c.insert.ensures.ok in
     let few : map.len base.triggers < trigger_limit = omega (arith, c.len.ensures) in
-    let free : variable_refused base.triggers hist hist.variable ≡ None = sym c.in_default.ensures in
+    let free : variable_refusal base.triggers hist hist.variable ≡ None = sym c.in_default.ensures in
     ap (λ b. after_attach b hist) (sym c.self.view_is) ∙ attach-ok base hist few (omega arith) free ∙ (λ i. Ok (record base { triggers = sym triggers i; next_id = base.next_id + 1 }, base.next_id))
 
 pub returns-clause-joins : goal.returns-clause-joins
@@ -58,6 +58,6 @@ returns-clause-joins c =
     let hist = c.args.trigger in
     let triggers : c.insert.new.self ≡ map.insert base.triggers base.next_id hist = at_ok c.insert.result c.if-is_err.ensures.value c.insert.ensures.ok in
     let few : map.len base.triggers < trigger_limit = omega (arith, c.len.ensures) in
-    let free : variable_refused base.triggers hist hist.variable ≡ None = sym c.in_default.ensures in
+    let free : variable_refusal base.triggers hist hist.variable ≡ None = sym c.in_default.ensures in
     subst (λ (b : Base × Base). JoinsAs base.next_id hist b.0 b.1) (λ i. (c.self.view_is i, record base { triggers = sym triggers i; next_id = base.next_id + 1 }))
     (attached_joins base hist c.self.invariant few (omega arith) free)

@@ -38,7 +38,7 @@ mend-kept-requires-clause-told c =
     let same : ◌≡◌ {A = Pos} _ (pos_at c.args.place c.args.event.now.stamp) = ap (λ (e : Traced). pos_at c.args.place e.stamp) c.event.view_is in
     let can : CanChange c.args.sign c.args.content.now _ c.args.self.now = subst (λ (pos : Pos). CanChange c.args.sign c.args.content.now pos c.args.self.now) (sym same) c.requires.before in
     can_change c.args.sign c.args.content.now _ can.edit can.changes c.kept_shelves.ensures.readings c.args.self.now can.fresh c.let_change.new.kept c.let_change.ensures.deferred
-    c.asked.result c.with_keys-changes.result c.let_change.new.changes c.with_keys-changes.ensures c.asked.ensures.readings c.let_change.ensures.told
+    c.changes_to_report.result c.with_keys-changes.result c.let_change.new.changes c.with_keys-changes.ensures c.changes_to_report.ensures.readings c.let_change.ensures.told
 
 pub returns-clause-fresh : goal.returns-clause-fresh
 returns-clause-fresh c edit is fresh =
@@ -58,7 +58,7 @@ returns-clause-now c small gone =
     c.let_change.ensures.now small (⊎_elim
     (λ some. c.mend-kept.ensures.quiet (none ∙ some) gone)
     (λ unasked. sym (c.mend-kept.ensures.nothing (⊎_elim (λ make. inl (λ id hist there reads. make id hist there)) inr unasked.1)).0 ∙ gone)
-    c.asked.ensures.readings)
+    c.changes_to_report.ensures.readings)
 
 pub returns-clause-reports : goal.returns-clause-reports
 returns-clause-reports c edit is fresh =

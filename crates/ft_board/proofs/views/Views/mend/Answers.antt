@@ -11,7 +11,7 @@ use Rattle.ft_made.specs.MadeTables.{found_in}
 use Rattle.ft_answers.specs.Counting.{CountNone}
 use Rattle.ft_board.specs.inner.Readings.{readings_on}
 use Rattle.ft_board.proofs.Mending.{made_of_any, rows_stay, still_made}
-use Rattle.ft_board.proofs.TurnedRows.{told_are, turned_rows_are}
+use Rattle.ft_board.proofs.UpdatedRows.{told_are, updated_rows_are}
 use Rattle.ft_board.proofs.views.Views.mend.Goals as goal
 
 pub returns-then-not-are_made-clause-made : goal.returns-then-not-are_made-clause-made
@@ -37,7 +37,7 @@ returns-in-Ok-clause-made c =
     (subst (λ told. IfSome told (λ changes. Lead changes can.found (found_in (readings_on shelves)))) (sym c.in-Some.ensures) can.lead) can.made)
 
 pub returns-in-Ok-clause-rows : goal.returns-in-Ok-clause-rows
-returns-in-Ok-clause-rows c = told_are _ _ _ c.args.rows.now c.turn_counting.new.rows c.requires.none c.in-Ok.ensures.rows
-    (IfSome_then c.args.self.now.shelves c.requires.told (λ shelves can. turned_rows_are _ _ _ _ c.some_rivals.ensures.apart c.some_rivals.ensures.others c.some_rivals.ensures.rows c.some_rivals.ensures.among
-    c.turned_keys.ensures.tables c.turned_keys.ensures.keys shelves can.found can.made
+returns-in-Ok-clause-rows c = told_are _ _ _ c.args.rows.now c.update_counting.new.rows c.requires.none c.in-Ok.ensures.rows
+    (IfSome_then c.args.self.now.shelves c.requires.told (λ shelves can. updated_rows_are _ _ _ _ c.some_rivals.ensures.apart c.some_rivals.ensures.others c.some_rivals.ensures.rows c.some_rivals.ensures.among
+    c.changed_keys.ensures.tables c.changed_keys.ensures.keys shelves can.found can.made
     (subst (λ told. IfSome told (λ changes. Lead changes can.found (found_in (readings_on shelves)))) (sym c.in-Some.ensures) can.lead)))

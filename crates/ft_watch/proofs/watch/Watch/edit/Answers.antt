@@ -16,7 +16,7 @@ invariant_of-self-2 g c =
     let base = c.self.inside.desk.base in
     let new = c.perform.new.desk.base in
     let tables = seen nat_cmp c.self.inside.tables.by_id in
-    subst (λ (k : Known). AreKnown k new tables) (sym c.attached-self-inside.ensures)
+    subst (λ (k : Known). AreKnown k new tables) (sym c.forget_rows-self-inside.ensures)
     (known_edited c.self.inside.tables.known base new tables
     (λ q. ap (λ (b : Base). is_some (finite.get b.triggers q)) c.in_ok-done.ensures.base ∙ edit_keeps (map (λ f. f.items) c.args.files.now) base (asked_by c.args.line.now) c.requires q)
     c.self.invariant)

@@ -1,5 +1,0 @@
-use Rattle.std.proofs.Common.{rules}
-use Rattle.ft_base.proofs.attach.variable_refused.Goals as goal
-
-pub returns-in-Some-Saves : goal.returns-in-Some-Saves
-returns-in-Some-Saves c = search rules

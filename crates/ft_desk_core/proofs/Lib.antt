@@ -1,0 +1,4 @@
+pub mod Reading
+pub mod Unmade
+pub mod Edits
+mod Found

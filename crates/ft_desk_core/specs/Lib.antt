@@ -1,0 +1,22 @@
+pub mod Edits
+pub mod Found
+pub mod inner
+pub use Rattle.ft_fields.specs.Traced
+pub use Rattle.ft_event.specs.Line
+pub use Rattle.ft_event.specs.LineFault
+pub use Rattle.ft_fields.specs.Names
+pub use Rattle.ft_filter.specs.Tree
+pub use Rattle.ft_filter.specs.Answers as FilterAnswers
+pub use Rattle.ft_filter.specs.FilterFault
+pub use Rattle.ft_trigger.specs.Hist
+pub use Rattle.ft_trigger.specs.TriggerFault
+pub use Rattle.ft_trigger.specs.TriggerIs
+pub use Rattle.ft_answers.specs.Refused
+pub use Rattle.ft_answers.specs.Codes
+pub use Rattle.ft_answers.specs.Base
+pub use Rattle.ft_answers.specs.After
+pub use Rattle.ft_answers.specs.Edited
+pub use Rattle.ft_answers.specs.Shown
+pub use Rattle.ft_answers.specs.Answers
+pub use Rattle.ft_answers.specs.Reporting
+pub use Rattle.ft_text.specs.Lines

@@ -1,0 +1,2 @@
+-- Words of private functions, which no public clause says.
+pub mod Reading

@@ -1,7 +1,0 @@
-use Rattle.ft_made.proofs.Counting.{made_count, made_none}
-use Rattle.ft_made.proofs.Naming.{making-named}
-use Rattle.ft_made.proofs.Turns.{first-is, none-made}
-use Rattle.ft_made.proofs.laws.counted_made.Goals as goal
-
-pub returns : goal.returns
-returns c = record { first = first-is; second = made_count; none = made_none; named = making-named; idle = none-made }
