@@ -1,0 +1,377 @@
+/* perf_filter.so: a filter for `perf script --dlfilter`, by which from-perf turns a recording. perf hands it each event before
+ * it prints it. A plain event of the scheduler is turned here, and perf prints nothing; any other one is left to perf.
+ *
+ * What goes to perf's standard output is blocks (event_lines.h): lines that are turned, and what perf itself prints, in order.
+ * The first events of each kind, each new state and every 4096th event are turned here and printed by perf too: the reader
+ * compares them. Each --dlarg tells where fields are:
+ *
+ *   NAME:ID:SIZE:STATE_SIZE:OFFSET,..   of a kind of event, in the order of event_lines.h
+ *   states:MASK:PLUS:BIT=TEXT,..        how the kernel's format prints a state
+ *   memory:FILE:PIPE                    open files for memory and for what is free of it */
+#define _GNU_SOURCE
+#include <perf/perf_dlfilter.h>
+#include <stdio.h>
+#include <stdio_ext.h>
+
+#include "event_lines.h"
+
+/* perf fills it in. */
+struct perf_dlfilter_fns perf_dlfilter_fns;
+
+/* So many events of each kind are compared at first, and then one of so many. */
+enum { FIRST = 64, EVERY = 4096 };
+/* If of so many events more than so many are left to perf, so are the next ones: what perf prints is turned faster at once. */
+enum { WINDOW = 1024, MOST_LEFT = 640, NEXT = 8192 };
+/* So much of what perf prints is handed on, even if no event is turned after it. */
+enum { TOLD_SIZE = 1 << 17 };
+enum { BITS = 24, BIT_TEXT = 8 };
+/* perf prints less of one event: its standard output is looked at between two events. */
+enum { TOLD_ROOM = 1 << 20 };
+
+/* perf's own text of a kind's name, by which it is found again. */
+static const char *texts[KINDS];
+
+/* What each CPU runs, by its last switch; it is known if it is of this age. */
+static struct {
+    unsigned age;
+    int tid;
+    char name[NAME_SIZE];
+} running[CPU_LIMIT];
+static unsigned age = 1;
+
+static int64_t state_mask, state_plus;
+static struct {
+    int64_t bit;
+    char text[BIT_TEXT];
+} state_bits[BITS];
+static int bit_count;
+
+/* What perf prints stays in its stream, with this room, in place of a file of memory: nothing is ever written into that. */
+static char told[TOLD_ROOM];
+static int told_by_perf = -1;
+
+/* So many events were seen in this window, so many of them were left to perf, and so many more are to be. */
+static unsigned seen, left, skipped;
+
+/* ---- What perf prints itself */
+
+/* Hands on what perf has printed, which is in its stream. It may tell of lost events, so no CPU's task is known any more. */
+static void hand_on(void)
+{
+    size_t length = __fpending(stdout);
+
+    flush_lines();
+    if (length > 0)
+        write_block(TOLD, told, length, 0);
+    __fpurge(stdout);
+    age++;
+}
+
+/* ---- Lines */
+
+/* The index of an event's kind, or -1. */
+static int kind_of(const struct perf_dlfilter_sample *sample)
+{
+    if (!sample->event)
+        return -1;
+    for (int which = 0; which < KINDS; which++)
+        if (sample->event == texts[which])
+            return which;
+    if (strncmp(sample->event, "sched:", 6) != 0)
+        return -1;
+    for (int which = 0; which < KINDS; which++)
+        if (kinds[which].is_known && strcmp(sample->event + 6, kind_names[which]) == 0) {
+            texts[which] = sample->event;
+            return which;
+        }
+    return -1;
+}
+
+/* Whether the raw bytes of an event are those of its kind. */
+static bool is_whole(const struct perf_dlfilter_sample *sample, const struct kind *kind)
+{
+    uint16_t id;
+
+    if (!sample->raw_data || sample->raw_size < kind->size)
+        return false;
+    memcpy(&id, sample->raw_data, sizeof id);
+    return id == kind->id && sample->cpu >= 0 && sample->cpu < CPU_LIMIT;
+}
+
+/* Whether an event is one of a virtual machine's, which perf prints otherwise. Older ones don't know. */
+static bool is_of_guest(const struct perf_dlfilter_sample *sample)
+{
+#ifdef PERF_DLFILTER_HAS_MACHINE_PID
+    const size_t end = offsetof(struct perf_dlfilter_sample, machine_pid) + sizeof sample->machine_pid;
+
+    return sample->size >= end && sample->machine_pid > 0;
+#else
+    (void)sample;
+    return false;
+#endif
+}
+
+/* The name and number of a task that perf knows. */
+static char *put_known(char *to, int tid, void *ctx)
+{
+    const struct perf_dlfilter_al *al = perf_dlfilter_fns.resolve_ip(ctx);
+
+    if (!al || al->size < offsetof(struct perf_dlfilter_al, comm) + sizeof al->comm || !al->comm)
+        return NULL;
+    to = put_name(to, al->comm, LONGEST_TASK + 1);
+    return THEN(to, "-", put_signed(to, tid));
+}
+
+/* The name and number of a task that is gone: its last switch has them itself, and any other event is of the task to which its
+ * CPU has switched. */
+static char *put_gone(char *to, const struct perf_dlfilter_sample *sample, int which)
+{
+    const char *raw = sample->raw_data;
+    const int *at = kinds[which].at;
+    int tid = which == SWITCH ? number_at(raw, at[PREV_PID]) : running[sample->cpu].tid;
+
+    if (which != SWITCH && running[sample->cpu].age != age)
+        return NULL;
+    to = put_name(to, which == SWITCH ? raw + at[PREV_COMM] : running[sample->cpu].name, NAME_SIZE);
+    return tid < 0 ? NULL : THEN(to, "-", put_signed(to, tid));
+}
+
+/* The text of a state; if it is the first of its value, `fresh` is where it may be kept. */
+static char *put_state(char *to, int64_t value, int *fresh)
+{
+    int64_t left = value & state_mask;
+    int slot = state_slot(value);
+    char text[sizeof states[0].text], *end = text;
+
+    if (slot < 0)
+        return NULL;
+    if (states[slot].is_used)
+        return put(to, states[slot].text, states[slot].length);
+    if (left == 0)
+        *end++ = 'R';
+    for (int at = 0; at < bit_count; at++)
+        if (left & state_bits[at].bit) {
+            if (end - text > (int)sizeof text - BIT_TEXT - 2)
+                return NULL;
+            if (end > text)
+                *end++ = '|';
+            end = stpcpy(end, state_bits[at].text);
+            left &= ~state_bits[at].bit;
+        }
+    if (left != 0)
+        return NULL;
+    if (value & state_plus)
+        *end++ = '+';
+    set_state(slot, value, text, (size_t)(end - text));
+    *fresh = slot;
+    return put(to, text, (size_t)(end - text));
+}
+
+static char *put_switch(char *to, const struct kind *kind, const char *raw, int *fresh)
+{
+    to = put_prev(to, kind, raw);
+    to = to ? put_state(to, state_at(kind, raw), fresh) : NULL;
+    return to ? put_next(to, kind, raw) : NULL;
+}
+
+/* A whole line. */
+static char *put_line(char *to, const struct perf_dlfilter_sample *sample, int which, void *ctx, int *fresh)
+{
+    const char *raw = sample->raw_data, *name = kind_names[which];
+
+    to = sample->tid == -1 ? put_gone(to, sample, which) : sample->tid < 0 ? NULL : put_known(to, sample->tid, ctx);
+    to = THEN(to, " [", put_cpu(to, sample->cpu));
+    to = THEN(to, "] ", put_stamp(to, sample->time));
+    to = THEN(to, ": ", put(to, name, strlen(name)));
+    if (!to)
+        return NULL;
+    to = PUT(to, ": ");
+    to = which == SWITCH ? put_switch(to, &kinds[which], raw, fresh) : put_waking(to, &kinds[which], raw);
+    if (to)
+        *to++ = '\n';
+    return to;
+}
+
+/* After an event that is left to perf, or one that is turned, its CPU runs another task. */
+static void note_switch(const struct perf_dlfilter_sample *sample, bool is_turned)
+{
+    const char *raw = sample->raw_data;
+
+    running[sample->cpu].age = is_turned ? age : 0;
+    if (!is_turned)
+        return;
+    running[sample->cpu].tid = number_at(raw, kinds[SWITCH].at[NEXT_PID]);
+    memcpy(running[sample->cpu].name, raw + kinds[SWITCH].at[NEXT_COMM], NAME_SIZE);
+}
+
+/* The line at the end of the block, up to `end`, is what Python is to make of the event that perf prints next. */
+static void await(const char *end)
+{
+    const char *line = block + block_used;
+    size_t length = (size_t)(end - line);
+
+    flush_lines();
+    write_block(AWAITED, line, length, 1);
+}
+
+/* ---- What perf calls */
+
+/* Whether an event is to be left to perf since many before it were. */
+static bool is_skipped(void)
+{
+    if (skipped > 0) {
+        skipped--;
+        return true;
+    }
+    if (++seen == WINDOW) {
+        skipped = left > MOST_LEFT ? NEXT : 0;
+        seen = left = 0;
+    }
+    return false;
+}
+
+/* Turns an event at the end of the block; the end of its line, or NULL. */
+static char *turned(const struct perf_dlfilter_sample *sample, int which, void *ctx, int *fresh)
+{
+    char *end;
+
+    if (is_of_guest(sample) || which < 0 || !is_whole(sample, &kinds[which]))
+        return NULL;
+    if (__fpending(stdout) > 0)
+        hand_on();
+    end = put_line(block + block_used, sample, which, ctx, fresh);
+    if (which == SWITCH)
+        note_switch(sample, end != NULL);
+    return end;
+}
+
+/* 0 leaves the event to perf, 1 has it print nothing, and a negative number ends perf. */
+int filter_event_early(void *data, const struct perf_dlfilter_sample *sample, void *ctx)
+{
+    char *end;
+    int which, fresh = -1;
+
+    (void)data;
+    if (sample->size < offsetof(struct perf_dlfilter_sample, event) + sizeof sample->event)
+        return -1;
+    if (__fpending(stdout) >= TOLD_SIZE)
+        hand_on();
+    which = kind_of(sample);
+    end = is_skipped() ? NULL : turned(sample, which, ctx, &fresh);
+    if (is_broken)
+        return -1;
+    if (!end) {
+        left++;
+        return 0;
+    }
+    kinds[which].seen++;
+    if (fresh < 0 && kinds[which].seen > FIRST && kinds[which].seen % EVERY != 0) {
+        take_line(end);
+        return 1;
+    }
+    if (fresh >= 0)
+        states[fresh].is_used = true;
+    await(end);
+    return 0;
+}
+
+static bool take_states(char *text)
+{
+    char *mask = strsep(&text, ":"), *plus = text ? strsep(&text, ":") : NULL, *part;
+
+    if (!plus)
+        return false;
+    state_mask = strtoll(mask, NULL, 0);
+    state_plus = strtoll(plus, NULL, 0);
+    while ((part = strsep(&text, ",")) != NULL) {
+        char *name = strchr(part, '=');
+
+        if (!name || strlen(name + 1) >= BIT_TEXT || bit_count == BITS)
+            return false;
+        state_bits[bit_count].bit = strtoll(part, NULL, 0);
+        strcpy(state_bits[bit_count++].text, name + 1);
+    }
+    return true;
+}
+
+static bool take_kind(struct kind *kind, char *text, bool is_switch)
+{
+    long numbers[3];
+    char *part;
+    int count;
+
+    for (count = 0; count < 3 && (part = strsep(&text, ":")) != NULL; count++)
+        numbers[count] = strtol(part, NULL, 10);
+    if (count < 3 || !text)
+        return false;
+    kind->id = (uint16_t)numbers[0];
+    kind->size = (uint32_t)numbers[1];
+    kind->state_size = (uint32_t)numbers[2];
+    for (count = 0; count < FIELDS && (part = strsep(&text, ",")) != NULL; count++)
+        kind->at[count] = (int)strtol(part, NULL, 10);
+    kind->is_known = count == (is_switch ? FIELDS : SUCCESS + 1) && !text && kind->size >= 2 && fits(kind, is_switch);
+    return kind->is_known;
+}
+
+static bool take_word(char *text)
+{
+    const char *name = strsep(&text, ":");
+
+    if (!text)
+        return false;
+    if (strcmp(name, "memory") == 0)
+        return take_memory(text);
+    if (strcmp(name, "states") == 0)
+        return take_states(text);
+    for (int which = 0; which < KINDS; which++)
+        if (strcmp(name, kind_names[which]) == 0)
+            return take_kind(&kinds[which], text, which == SWITCH);
+    return false;
+}
+
+/* From here on what perf prints goes into memory. */
+static bool take_output(void)
+{
+    told_by_perf = memfd_create("perf", MFD_CLOEXEC);
+    blocks_to = dup(STDOUT_FILENO);
+    if (told_by_perf < 0 || blocks_to < 0 || fflush(stdout) != 0 || dup2(told_by_perf, STDOUT_FILENO) < 0)
+        return false;
+    return setvbuf(stdout, told, _IOFBF, sizeof told) == 0;
+}
+
+int start(void **data, void *ctx)
+{
+    int count = 0;
+    char **words = perf_dlfilter_fns.args(ctx, &count);
+
+    (void)data;
+    set_plain();
+    for (int at = 0; at < count; at++)
+        if (!take_word(words[at]))
+            return -1;
+    if (!take_output())
+        return -1;
+    write_block(LINES, "", 0, 0);
+    flush_output();
+    return is_broken ? -1 : 0;
+}
+
+int stop(void *data, void *ctx)
+{
+    (void)data;
+    (void)ctx;
+    hand_on();
+    /* What perf has written by itself is in no block. */
+    if (lseek(told_by_perf, 0, SEEK_END) != 0)
+        return -1;
+    write_end();
+    if (dup2(blocks_to, STDOUT_FILENO) < 0)
+        return -1;
+    return is_broken ? -1 : 0;
+}
+
+const char *filter_description(const char **more)
+{
+    *more = "Turns the scheduler's events into lines of a trace, for tools/from-perf of histdesk.";
+    return "histdesk's lines of a trace";
+}
