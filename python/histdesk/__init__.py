@@ -35,49 +35,59 @@ What is refused raises `Refused` with the number that scripts print, and changes
 >>> desk.strike(0, 1)
 Traceback (most recent call last):
     ...
-histdesk.Refused: that line holds no event, or none is there
+histdesk.Refused: there is no event on that line
 
 Stamps and latencies are in microseconds. Texts are `str`; bytes in them that aren't UTF-8 are kept, as `surrogateescape`
-keeps them. numpy and pandas are used where they are there. The library `libhistdesk.so.0` is looked for where the
+keeps them. The package needs numpy, and pandas for DataFrames. The library `libhistdesk.so.0` is looked for where the
 environment variable `HISTDESK_LIBRARY` says, then in the folders around the package, then where the loader looks.
 """
 
 from __future__ import annotations
 
 import importlib
-from typing import TYPE_CHECKING, Any, List
+from typing import TYPE_CHECKING
 
-from ._counts import Counts, CountsRow, Greatest
-from ._desk import Desk
-from ._events import Events
-from ._loaded import Lane, Loaded
-from ._losses import Hole, Losses, LossWarning
-from ._recording import Part, Recording, read
-from ._refused import Refused, refusal_words
-from ._rows import Rows
-from ._slices import Source
-from ._trigger import Trigger
-from ._values import Bucket, Changed, Edit, Edits, Event, Latency, Log2, Place, Totals
 from ._version import __version__ as __version__  # noqa: F401
-from ._waits import Waits, waits
-from ._written import escaped, unescaped
 
 if TYPE_CHECKING:
-    from ._changed import Fate
+    from ._chain import Chain, ChainStep
+    from ._comparison import Comparison
+    from ._counts import Counts, CountsRow, Greatest
+    from ._desk import Desk
     from ._diff import Difference, DifferenceRow, Figures, Struck, diff
+    from ._events import Events
+    from ._fate import Fate
+    from ._loaded import Lane, Loaded
+    from ._losses import Hole, Losses, LossWarning
     from ._many import LeftOutWarning, Many, many
+    from ._noise import ComparisonRow, FigureComparison, Spread
     from ._questions import Asked, AskRows, AskWaits, Failed
-    from ._ran import Runner, Share, Stretch
+    from ._recording import Part, Recording, read
+    from ._refusal import Refused, refusal_words
+    from ._rows import Rows
+    from ._slices import Source
+    from ._stretches import Runner, Share, Stretch
+    from ._summary import CpuSummary, NameSummary, Summary, TaskSummary, summary
+    from ._times import Stamp
+    from ._trigger import Trigger
+    from ._values import Bucket, Changed, Edit, Edits, Event, Latency, Log2, Place, Totals, Wait
+    from ._waits import Waits, waits
     from ._why import Why, why
+    from ._writers import escaped, unescaped
 
 __all__ = [
     "AskRows",
     "AskWaits",
     "Asked",
     "Bucket",
+    "Chain",
+    "ChainStep",
     "Changed",
+    "Comparison",
+    "ComparisonRow",
     "Counts",
     "CountsRow",
+    "CpuSummary",
     "Desk",
     "Difference",
     "DifferenceRow",
@@ -87,6 +97,7 @@ __all__ = [
     "Events",
     "Failed",
     "Fate",
+    "FigureComparison",
     "Figures",
     "Greatest",
     "Hole",
@@ -98,6 +109,7 @@ __all__ = [
     "LossWarning",
     "Losses",
     "Many",
+    "NameSummary",
     "Part",
     "Place",
     "Recording",
@@ -106,10 +118,15 @@ __all__ = [
     "Runner",
     "Share",
     "Source",
+    "Spread",
+    "Stamp",
     "Stretch",
     "Struck",
+    "Summary",
+    "TaskSummary",
     "Totals",
     "Trigger",
+    "Wait",
     "Waits",
     "Why",
     "diff",
@@ -117,35 +134,65 @@ __all__ = [
     "many",
     "read",
     "refusal_words",
+    "summary",
     "unescaped",
     "waits",
     "why",
 ]
 
-# What is loaded when it is first asked for, and its module: not every tool needs it.
-_LATER = {
-    **dict.fromkeys(["Fate"], "_changed"),
-    **dict.fromkeys(["Difference", "DifferenceRow", "Figures", "Struck", "diff"], "_diff"),
-    **dict.fromkeys(["LeftOutWarning", "Many", "many"], "_many"),
-    **dict.fromkeys(["AskRows", "AskWaits", "Asked", "Failed"], "_questions"),
-    **dict.fromkeys(["Runner", "Share", "Stretch"], "_ran"),
-    **dict.fromkeys(["Why", "why"], "_why"),
+# The module that defines each public name. A module is loaded when one of its names is first used, so that a tool loads
+# only what it needs.
+_MODULES = {
+    "_chain": ("Chain", "ChainStep"),
+    "_comparison": ("Comparison",),
+    "_counts": ("Counts", "CountsRow", "Greatest"),
+    "_desk": ("Desk",),
+    "_diff": ("Difference", "DifferenceRow", "Figures", "Struck", "diff"),
+    "_events": ("Events",),
+    "_fate": ("Fate",),
+    "_loaded": ("Lane", "Loaded"),
+    "_losses": ("Hole", "LossWarning", "Losses"),
+    "_many": ("LeftOutWarning", "Many", "many"),
+    "_noise": ("ComparisonRow", "FigureComparison", "Spread"),
+    "_questions": ("AskRows", "AskWaits", "Asked", "Failed"),
+    "_recording": ("Part", "Recording", "read"),
+    "_refusal": ("Refused", "refusal_words"),
+    "_rows": ("Rows",),
+    "_slices": ("Source",),
+    "_stretches": ("Runner", "Share", "Stretch"),
+    "_summary": ("CpuSummary", "NameSummary", "Summary", "TaskSummary", "summary"),
+    "_times": ("Stamp",),
+    "_trigger": ("Trigger",),
+    "_values": ("Bucket", "Changed", "Edit", "Edits", "Event", "Latency", "Log2", "Place", "Totals", "Wait"),
+    "_waits": ("Waits", "waits"),
+    "_why": ("Why", "why"),
+    "_writers": ("escaped", "unescaped"),
 }
+_MODULE_OF = {name: module for module, names in _MODULES.items() for name in names}
 
 
-def __getattr__(name: str) -> Any:
-    if name not in _LATER:
+def __getattr__(name: str) -> object:
+    """Load the module that defines a public name, and return what the name stands for.
+
+    Raises
+    ------
+    AttributeError
+        If the package has no such name.
+    ImportError
+        If numpy or the library is missing.
+    """
+    if name not in _MODULE_OF:
         raise AttributeError(f"module {__name__!r} has no attribute {name!r}")
-    found = globals()[name] = getattr(importlib.import_module(f".{_LATER[name]}", __name__), name)
-    return found
+    try:
+        module = importlib.import_module(f".{_MODULE_OF[name]}", __name__)
+    except ImportError as error:
+        from ._requirements import explained
+
+        raise explained(error) from None
+    value: object = getattr(module, name)
+    globals()[name] = value
+    return value
 
 
-def __dir__() -> List[str]:
-    return sorted({*globals(), *_LATER})
-
-
-# They are known by the package's name, wherever in it they stand; those that come later see to that themselves.
-for _name in __all__:
-    if _name not in _LATER:
-        globals()[_name].__module__ = __name__
-del _name
+def __dir__() -> list[str]:
+    return sorted({*globals(), *_MODULE_OF})

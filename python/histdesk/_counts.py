@@ -3,15 +3,21 @@
 from __future__ import annotations
 
 import itertools
+from collections.abc import Iterable, Iterator, Sequence
 from fractions import Fraction
-from typing import Any, Dict, Iterable, Iterator, List, NamedTuple, Optional, Sequence, Tuple, Union
+from typing import TYPE_CHECKING, Any, NamedTuple
 
-from . import _shown
-from ._layout import needed
+import numpy as np
+
+from . import _tables
+from ._public import public
 from ._values import Log2
 
-Key = Tuple[Union[int, str], ...]
-Percent = Union[int, float, str, Fraction]
+if TYPE_CHECKING:
+    from numpy.typing import NDArray
+
+Key = tuple[int | str, ...]
+Percent = int | float | str | Fraction
 
 # The percentiles of a row.
 PERCENTS = (50, 90, 99)
@@ -21,11 +27,21 @@ LOW_BITS = 26
 BITS = 63
 
 
+@public
 class Greatest(NamedTuple):
-    """A key's greatest wait: how long it was, the stamp at which it ended (both in microseconds), where the switch that ended
-    it stands, the task's name there, of which recording it is, where that was told, and the task's number.
+    """A key's longest wait; of waits that are equally long, the one that ended first.
 
-    Of waits that are equally long it is the one that ended first."""
+    Attributes
+    ----------
+    micros
+        How long it was, in microseconds.
+    stamp, cpu, line
+        The timestamp, in microseconds, and the place of the switch that ended it.
+    name, pid
+        The task's name, as that switch has it, and its PID.
+    source
+        The recording that it is of, if several were counted; otherwise empty.
+    """
 
     micros: int
     stamp: int
@@ -36,20 +52,33 @@ class Greatest(NamedTuple):
     pid: int = 0
 
 
+@public
 class CountsRow(NamedTuple):
-    """What is counted under a key. Times are in microseconds, and None where nothing is counted.
+    """The waits that are counted under a key. Times are in microseconds, and None if nothing is counted.
 
-    Percentiles are by nearest rank: `p90` is the least value such that at least 90 % of the values are not above it."""
+    Attributes
+    ----------
+    key
+        The parts of the key.
+    count, total, mean
+        How many waits there are, how long they are together, and on average.
+    p50, p90, p99
+        Percentiles by nearest rank: `p90` is the least value such that at least 90 % of the values are not above it.
+    max, greatest
+        How long the longest wait is, and which one it is.
+    doubtful
+        How many waits were doubtful, counted or not.
+    """
 
     key: Key
     count: int  # type: ignore[assignment]
     total: int
-    mean: Optional[float]
-    p50: Optional[int]
-    p90: Optional[int]
-    p99: Optional[int]
-    max: Optional[int]
-    greatest: Optional[Greatest]
+    mean: float | None
+    p50: int | None
+    p90: int | None
+    p99: int | None
+    max: int | None
+    greatest: Greatest | None
     doubtful: int
 
 
@@ -57,13 +86,14 @@ class Columns(NamedTuple):
     """How many waits of a key, by its number, were so many microseconds long: arrays, ordered by key and microseconds, in which
     no pair stands twice and no count is 0."""
 
-    key: Any
-    micros: Any
-    count: Any
+    key: NDArray[np.int64]
+    micros: NDArray[np.int64]
+    count: NDArray[np.int64]  # type: ignore[assignment]
 
 
+@public
 class Counts:
-    """Waits counted by key and by microsecond, with the greatest of each key, and how many were doubtful.
+    """Waits counted by key and by length in microseconds, with the longest of each key, and how many were doubtful.
 
     A key is a tuple of numbers and texts, which `fields` names. `Waits.counts` makes it. What several recordings give is added
     up exactly, so percentiles of all together are exact too. It can be pickled, and two are equal where they hold the same.
@@ -72,7 +102,7 @@ class Counts:
     |---|---|
     | `counts.rows()` | a `CountsRow` for each key, the greatest wait first |
     | `counts.row(key)`, `counts.whole()` | that of one key, or None; that of all keys together |
-    | `counts.by("kind")` | the same waits counted by some of the fields alone |
+    | `counts.by("kind")` | the same waits counted by some of the fields only |
     | `counts.merge(other)`, `Counts.merged(many)` | all of them together |
     | `counts.percentile(99.9)`, `counts.longer(1000)`, `counts.histogram()` | of all keys together; with a key, of one |
     """
@@ -82,10 +112,10 @@ class Counts:
         fields: Sequence[str],
         keys: Sequence[Key],
         columns: Columns,
-        greatest: Sequence[Optional[Greatest]],
-        doubtful: Any,
+        greatest: Sequence[Greatest | None],
+        doubtful: NDArray[np.int64],
     ) -> None:
-        """Of sorted keys, and columns in which they go by their number; for each key the greatest wait, and how many of all
+        """Take sorted keys, and columns in which they go by their number; for each key the greatest wait, and how many of all
         were doubtful."""
         self.fields = tuple(fields)
         self.keys = tuple(keys)
@@ -96,31 +126,100 @@ class Counts:
 
     @classmethod
     def empty(cls, fields: Sequence[str]) -> Counts:
-        """Nothing, counted by these fields."""
-        nothing = needed().zeros(0, "int64")
+        """Return counts that have nothing.
+
+        Parameters
+        ----------
+        fields
+            The names of a key's parts.
+
+        Returns
+        -------
+        Counts
+            Counts without a key.
+        """
+        nothing = np.zeros(0, "int64")
         return cls(fields, (), Columns(nothing, nothing, nothing), (), nothing)
 
     @classmethod
     def merged(cls, many: Iterable[Counts]) -> Counts:
-        """All of them together. Raises `ValueError` where there are none, or where they are counted by different fields."""
+        """Return all of them together.
+
+        Parameters
+        ----------
+        many
+            Counts by the same fields.
+
+        Returns
+        -------
+        Counts
+            What they count together, key by key.
+
+        Raises
+        ------
+        ValueError
+            If there are none, or if they are counted by different fields.
+        """
         parts = list(many)
         fields = {part.fields for part in parts}
         if len(fields) != 1:
             raise ValueError(f"counts by one list of fields can be merged, and these are by {sorted(fields)}")
-        return combined(fields.pop(), [(part, part.keys) for part in parts])
+        return combine(fields.pop(), [(part, part.keys) for part in parts])
 
     def merge(self, *others: Counts) -> Counts:
-        """This and others together. Raises `ValueError` where they are counted by different fields."""
+        """Return this and others together.
+
+        Parameters
+        ----------
+        others
+            Counts by the same fields.
+
+        Returns
+        -------
+        Counts
+            What they count together, key by key.
+
+        Raises
+        ------
+        ValueError
+            If they are counted by different fields.
+        """
         return Counts.merged([self, *others])
 
     def by(self, *fields: str) -> Counts:
-        """The same waits, counted by these of the fields; without a word, all under one key, `()`. Raises `ValueError` of a
-        field by which they aren't counted."""
+        """Return the same waits, counted by some of the fields.
+
+        Parameters
+        ----------
+        fields
+            The fields; without any, all waits are counted under one key, `()`.
+
+        Returns
+        -------
+        Counts
+            The same waits by these fields.
+
+        Raises
+        ------
+        ValueError
+            If they aren't counted by one of these fields.
+        """
         places = [self.fields.index(field) for field in fields]
-        return combined(fields, [(self, [tuple(key[at] for at in places) for key in self.keys])])
+        return combine(fields, [(self, [tuple(key[at] for at in places) for key in self.keys])])
 
     def named(self, source: str) -> Counts:
-        """The same, with each greatest wait told to be of that recording."""
+        """Return the same counts as those of a recording.
+
+        Parameters
+        ----------
+        source
+            The recording, which each longest wait then names.
+
+        Returns
+        -------
+        Counts
+            The same counts.
+        """
         greatest = [wait and wait._replace(source=source) for wait in self._greatest]
         return Counts(self.fields, self.keys, self._columns, greatest, self._doubtful)
 
@@ -139,52 +238,114 @@ class Counts:
         """How many waits were doubtful."""
         return int(self._doubtful.sum())
 
-    def rows(self) -> List[CountsRow]:
-        """What is counted under each key, the greatest wait first; of equal ones, the first key. Keys of which all waits were
-        left out stand at the end."""
+    def rows(self) -> list[CountsRow]:
+        """Return what is counted under each key.
+
+        Returns
+        -------
+        list of CountsRow
+            A row for each key, the longest wait first; of equal ones, the first key. Keys whose waits were all left out
+            come last.
+        """
         return sorted(self._rows(), key=lambda row: -1 if row.max is None else row.max, reverse=True)
 
-    def row(self, key: Key) -> Optional[CountsRow]:
-        """What is counted under a key; None where it isn't there."""
+    def row(self, key: Key) -> CountsRow | None:
+        """Return what is counted under a key.
+
+        Parameters
+        ----------
+        key
+            The parts of the key, as `fields` names them.
+
+        Returns
+        -------
+        CountsRow or None
+            Its row; None if there is no such key.
+        """
         part = self._part(key)
         return next(part._rows(), None)
 
     def whole(self) -> CountsRow:
-        """What is counted under all keys together."""
+        """Return what is counted under all keys together.
+
+        Returns
+        -------
+        CountsRow
+            A row with an empty key.
+        """
         nothing = CountsRow((), 0, 0, None, None, None, None, None, None, 0)
         return next(self.by()._rows(), nothing)
 
-    def percentile(self, percent: Percent, key: Optional[Key] = None) -> Optional[int]:
-        """The least number of microseconds such that at least so many per cent of the waits are not longer; None where there
-        are no waits. A number with a point is taken as it is written: 99.9 is 999/10.
+    def percentile(self, percent: Percent, key: Key | None = None) -> int | None:
+        """Return a percentile, in microseconds: the least value such that at least so many per cent of the waits aren't longer.
 
-        Raises `ValueError` where it isn't above 0 and at most 100."""
+        Parameters
+        ----------
+        percent
+            Above 0 and at most 100. A number with a point is taken as it is written: 99.9 is 999/10.
+        key
+            The key whose waits are meant; None for all.
+
+        Returns
+        -------
+        int or None
+            None if there are no waits.
+
+        Raises
+        ------
+        ValueError
+            If `percent` isn't in that range.
+        """
         part = self.by() if key is None else self._part(key)
-        found = part._percentiles(percent)
-        return found[0] if found else None
+        values = part._percentiles(percent)
+        return values[0] if values else None
 
-    def longer(self, micros: int, key: Optional[Key] = None) -> int:
-        """How many waits were longer than so many microseconds, of all keys together; with a key, of one."""
+    def longer(self, micros: int, key: Key | None = None) -> int:
+        """Return how many waits are longer than so many microseconds.
+
+        Parameters
+        ----------
+        micros
+            The number of microseconds.
+        key
+            The key whose waits are meant; None for all.
+
+        Returns
+        -------
+        int
+            The number of waits.
+        """
         columns = (self if key is None else self._part(key))._columns
         return int(columns.count[columns.micros > micros].sum())
 
-    def histogram(self, key: Optional[Key] = None) -> List[Tuple[Log2, int]]:
-        """The waits by power of two, from the least to the greatest that there is: pairs of n and how many waits are at most
-        2^n microseconds long and longer than 2^(n-1); n is 0 for those of 0 and 1. `low` and `high` of n are the bounds."""
-        numpy, columns = needed(), (self if key is None else self._part(key))._columns
+    def histogram(self, key: Key | None = None) -> list[tuple[Log2, int]]:
+        """Return the waits by power of two, from the least power to the greatest.
+
+        Parameters
+        ----------
+        key
+            The key whose waits are meant; None for all.
+
+        Returns
+        -------
+        list of tuples
+            Pairs of n, whose `low` and `high` are the bounds in microseconds, and how many waits are at most 2^n microseconds
+            long and longer than 2^(n-1). For waits of 0 and 1, n is 0.
+        """
+        columns = (self if key is None else self._part(key))._columns
         if not len(columns.micros):
             return []
         # The number of bits of the microseconds less one; whole numbers below 2^53 are exact as floats.
-        powers = numpy.frexp(numpy.maximum(columns.micros - 1, 0).astype("float64"))[1]
-        counts = numpy.zeros(int(powers.max()) + 1, "int64")
-        numpy.add.at(counts, powers, columns.count)
+        powers = np.frexp(np.maximum(columns.micros - 1, 0).astype("float64"))[1]
+        counts = np.zeros(int(powers.max()) + 1, "int64")
+        np.add.at(counts, powers, columns.count)
         first = int(powers.min())
         return [(Log2(power), count) for power, count in enumerate(counts[first:].tolist(), first)]
 
     # ---- how
 
     def _part(self, key: Key) -> Counts:
-        """The counts of one key alone; of none, where it isn't there."""
+        """Return the counts of one key only; empty ones if it isn't there."""
         at = self._number.get(key)
         if at is None:
             return Counts.empty(self.fields)
@@ -193,33 +354,32 @@ class Counts:
         columns = Columns(column.key[part] - at, column.micros[part], column.count[part])
         return Counts(self.fields, [key], columns, [self._greatest[at]], self._doubtful[at : at + 1])
 
-    def _sums(self, numbers: Any) -> Any:
-        """The sums of some numbers, one for each pair of the columns, by key."""
-        numpy = needed()
+    def _sums(self, numbers: NDArray[np.int64]) -> NDArray[np.int64]:
+        """Return the sums of some numbers, one for each pair of the columns, by key."""
         # Where the columns of each key begin, and after them their length.
-        bounds = self._columns.key.searchsorted(numpy.arange(len(self.keys) + 1))
-        return numpy.diff(numpy.concatenate([[0], numbers.cumsum()])[bounds])
+        bounds = self._columns.key.searchsorted(np.arange(len(self.keys) + 1))
+        return np.diff(np.concatenate([[0], numbers.cumsum()])[bounds])
 
-    def _totals(self) -> List[int]:
-        """How many microseconds all waits of each key are together."""
+    def _totals(self) -> list[int]:
+        """Return how many microseconds all waits of each key are together."""
         micros, count = self._columns.micros, self._columns.count
         high, low = self._sums((micros >> LOW_BITS) * count), self._sums((micros & ((1 << LOW_BITS) - 1)) * count)
         return [(above << LOW_BITS) + below for above, below in zip(high.tolist(), low.tolist())]
 
-    def _percentiles(self, percent: Percent) -> List[Optional[int]]:
-        """A percentile of each key; None where a key has no waits."""
+    def _percentiles(self, percent: Percent) -> list[int | None]:
+        """Return a percentile of each key; None if a key has no waits."""
         share = Fraction(str(percent)) / 100
         if not 0 < share <= 1:
             raise ValueError(f"a percentile is above 0 and at most 100, and this is {percent}")
-        numpy, counts = needed(), self._sums(self._columns.count).tolist()
-        ranks = numpy.array([-(-count * share.numerator // share.denominator) for count in counts], "int64")
+        counts = self._sums(self._columns.count).tolist()
+        ranks = np.array([-(-count * share.numerator // share.denominator) for count in counts], "int64")
         # How many waits stand up to each pair; that of the rank is the first which reaches it.
-        before = numpy.cumsum([0, *counts])[:-1]
+        before = np.cumsum([0, *counts])[:-1]
         places = self._columns.count.cumsum().searchsorted(before + ranks)
         return [int(self._columns.micros[at]) if count else None for at, count in zip(places.tolist(), counts)]
 
     def _rows(self) -> Iterator[CountsRow]:
-        """The rows by key."""
+        """Return the rows by key."""
         counts, totals = self._sums(self._columns.count).tolist(), self._totals()
         means = [total / count if count else None for total, count in zip(totals, counts)]
         percentiles = [self._percentiles(percent) for percent in PERCENTS]
@@ -232,29 +392,29 @@ class Counts:
             return NotImplemented
         alike = (self.fields, self.keys, self._greatest) == (other.fields, other.keys, other._greatest)
         pairs = zip([*self._columns, self._doubtful], [*other._columns, other._doubtful])
-        return alike and all(needed().array_equal(one, another) for one, another in pairs)
+        return alike and all(np.array_equal(one, another) for one, another in pairs)
 
     __hash__ = None  # type: ignore[assignment]
 
-    def _told(self) -> Tuple[str, _shown.Table]:
-        """What is shown: a title, and the table; with the recordings of the greatest waits where these are told."""
+    def _display(self) -> tuple[str, _tables.Table]:
+        """Return what is shown: a title, and the table, with the recordings of the greatest waits if these have any."""
         rows, has_sources = self.rows(), any(wait and wait.source for wait in self._greatest)
         names = [*self.fields, "count", "mean", *(f"p{percent}" for percent in PERCENTS), "max", "doubtful"]
         names += ["where"] * has_sources
-        table = _shown.table_of(names, len(rows), lambda at: cells(rows[at], has_sources))
+        table = _tables.table_of(names, len(rows), lambda at: cells(rows[at], has_sources))
         return f"histdesk.Counts: {self.count} waits, {self.doubtful} doubtful, {len(self)} keys", table
 
     def __repr__(self) -> str:
-        title, table = self._told()
-        return f"{title}\n{_shown.in_text(table)}"
+        title, table = self._display()
+        return f"{title}\n{_tables.in_text(table)}"
 
     def _repr_html_(self) -> str:
-        title, table = self._told()
-        return _shown.in_html(title, [table])
+        title, table = self._display()
+        return _tables.in_html(title, [table])
 
 
-def cells(row: CountsRow, has_source: bool) -> List[Any]:
-    """A row, as it is shown; with the recording of the greatest wait and the switch that ended it there."""
+def cells(row: CountsRow, has_source: bool) -> list[object]:
+    """Return a row, as it is shown; with the recording of the greatest wait and the switch that ended it there."""
     mean = None if row.mean is None else round(row.mean)
     wait = row.greatest
     where = [f"{wait.source} {wait.cpu}:{wait.line}" if wait else None] if has_source else []
@@ -264,77 +424,76 @@ def cells(row: CountsRow, has_source: bool) -> List[Any]:
 # ---- how they are made
 
 
-def counted(key: Any, micros: Any) -> Columns:
-    """Columns of pairs in any order, each of which counts one."""
-    numpy, bits = needed(), bits_of(micros)
+def count_pairs(key: NDArray[np.int64], micros: NDArray[np.int64]) -> Columns:
+    """Count pairs in any order, each of which counts one."""
+    bits = bits_of(micros)
     if bits_of(key) + bits > BITS:
-        return summed(key, micros, numpy.ones(len(key), "int64"))
-    pairs = joined(key, micros, bits)
+        return sum_pairs(key, micros, np.ones(len(key), "int64"))
+    pairs = join_pairs(key, micros, bits)
     pairs.sort()
     starts = starts_of(pairs)
-    found = pairs[starts].astype("int64")
-    return Columns(found >> bits, found & ((1 << bits) - 1), numpy.diff(starts, append=len(pairs)))
+    distinct = pairs[starts].astype("int64")
+    return Columns(distinct >> bits, distinct & ((1 << bits) - 1), np.diff(starts, append=len(pairs)))
 
 
-def summed(key: Any, micros: Any, count: Any) -> Columns:
-    """Columns of pairs in any order, which may stand there more than once."""
-    numpy, bits, low = needed(), bits_of(micros), micros
+def sum_pairs(key: NDArray[np.int64], micros: NDArray[np.int64], count: NDArray[np.int64]) -> Columns:
+    """Add up the counts of pairs in any order, which may stand there more than once."""
+    bits, low = bits_of(micros), micros
     if bits_of(key) + bits > BITS:
         # Their order will do.
-        low = numpy.unique(micros, return_inverse=True)[1]
+        low = np.unique(micros, return_inverse=True)[1]
         bits = bits_of(low)
-    pairs = joined(key, low, bits)
+    pairs = join_pairs(key, low, bits)
     # Quick where the pairs of columns stand one after the other, each in order.
     order = pairs.argsort(kind="stable")
     pairs = pairs[order]
     starts = starts_of(pairs)
     first = order[starts]
-    return Columns(key[first], micros[first], numpy.add.reduceat(count[order], starts) if len(starts) else count)
+    return Columns(key[first], micros[first], np.add.reduceat(count[order], starts) if len(starts) else count)
 
 
-def bits_of(numbers: Any) -> int:
-    """How many bits the greatest of some numbers has."""
+def bits_of(numbers: NDArray[np.integer[Any]]) -> int:
+    """Return how many bits the greatest of some numbers has."""
     return int(numbers.max(initial=0)).bit_length()
 
 
-def joined(key: Any, low: Any, bits: int) -> Any:
-    """Pairs as one number each, the key's above one of so many bits; of 32 bits if they hold it, which are sorted quickest."""
+def join_pairs(key: NDArray[np.int64], low: NDArray[np.int64], bits: int) -> NDArray[np.integer[Any]]:
+    """Return pairs as one number each, the key's above one of so many bits; in 32 bits if they fit, which sort quickest."""
     pairs = key << bits | low
     return pairs.astype("u4") if bits_of(pairs) <= 32 else pairs
 
 
-def starts_of(ascending: Any) -> Any:
-    """Where each different one of ascending numbers stands first."""
-    numpy = needed()
-    is_first = numpy.ones(len(ascending), bool)
-    numpy.not_equal(ascending[1:], ascending[:-1], out=is_first[1:])
-    return numpy.flatnonzero(is_first)
+def starts_of(ascending: NDArray[np.integer[Any]]) -> NDArray[np.intp]:
+    """Return where each different one of ascending numbers stands first."""
+    is_first = np.ones(len(ascending), bool)
+    np.not_equal(ascending[1:], ascending[:-1], out=is_first[1:])
+    return np.flatnonzero(is_first)
 
 
-def combined(fields: Sequence[str], parts: Sequence[Tuple[Counts, Sequence[Key]]]) -> Counts:
-    """Some counts added up; of each, the keys under which its own keys are counted there."""
-    numpy, keys = needed(), sorted({key for _, named in parts for key in named})
+def combine(fields: Sequence[str], parts: Sequence[tuple[Counts, Sequence[Key]]]) -> Counts:
+    """Add up some counts, each with the keys under which its own keys are counted."""
+    keys = sorted({key for _, names in parts for key in names})
     number = {key: at for at, key in enumerate(keys)}
-    places = [numpy.array([number[key] for key in named], "int64") for _, named in parts]
+    places = [np.array([number[key] for key in names], "int64") for _, names in parts]
     key = [place[part._columns.key] for place, (part, _) in zip(places, parts)]
-    columns = [numpy.concatenate(column) for column in (key, *zip(*(part._columns[1:] for part, _ in parts)))]
-    doubtful = numpy.zeros(len(keys), "int64")
+    columns = [np.concatenate(column) for column in (key, *zip(*(part._columns[1:] for part, _ in parts)))]
+    doubtful = np.zeros(len(keys), "int64")
     for place, (part, _) in zip(places, parts):
-        numpy.add.at(doubtful, place, part._doubtful)
-    found = ((to, wait) for part, named in parts for to, wait in zip(named, part._greatest))
-    greatest = greatest_of(found)
-    return Counts(fields, keys, summed(*columns), [greatest.get(key) for key in keys], doubtful)
+        np.add.at(doubtful, place, part._doubtful)
+    waits = ((to, wait) for part, names in parts for to, wait in zip(names, part._greatest))
+    greatest = greatest_of(waits)
+    return Counts(fields, keys, sum_pairs(*columns), [greatest.get(key) for key in keys], doubtful)
 
 
-def greatest_of(waits: Iterable[Tuple[Key, Optional[Greatest]]]) -> Dict[Key, Greatest]:
-    """The greatest wait of each key."""
-    found: Dict[Key, Greatest] = {}
+def greatest_of(waits: Iterable[tuple[Key, Greatest | None]]) -> dict[Key, Greatest]:
+    """Return the greatest wait of each key."""
+    greatest: dict[Key, Greatest] = {}
     for key, wait in waits:
-        if wait is not None and (key not in found or order(wait) < order(found[key])):
-            found[key] = wait
-    return found
+        if wait is not None and (key not in greatest or order(wait) < order(greatest[key])):
+            greatest[key] = wait
+    return greatest
 
 
-def order(wait: Greatest) -> Tuple[Any, ...]:
-    """Goes up where waits go down, and of equal ones with the place at which they ended."""
+def order(wait: Greatest) -> tuple[int, int, int, int, str, str, int]:
+    """Return a sort key that puts the longest wait first, and of equal ones the one that ended first."""
     return (-wait.micros, *wait[1:])

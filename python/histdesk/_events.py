@@ -2,171 +2,199 @@
 
 from __future__ import annotations
 
-from collections.abc import Sequence
-from typing import Any, Tuple, Union, overload
+from collections.abc import Iterator, Sequence
+from typing import TYPE_CHECKING, Any, overload
 
-from . import _layout, _shown
-from ._numbers import Numbers
+import numpy as np
+
+from . import _schema, _tables
+from ._frames import Times, finished, from_codes
+from ._numbering import Numbers
+from ._public import public
 from ._values import Event
+from .native import layout
+from .native.arrays import EVENT_TYPE, texts_of_names, words_of_names
+
+if TYPE_CHECKING:
+    from numpy.typing import NDArray
+    from pandas import DataFrame  # type: ignore[import]
+    from pandas.api.extensions import ExtensionArray  # type: ignore[import]
+
+    from ._source import Buffer
 
 NUMBERS = ("stamp", "cpu", "line", "common_pid", "pid", "prio", "target_cpu", "prev_pid", "prev_prio")
 COMMON_NUMBERS = ("stamp", "cpu", "line", "common_pid")
 NAMES = ("task", "comm", "prev_comm", "prev_state")
 # What a table of events shows of each.
 SHOWN = ("stamp", "cpu", "line", "name", "task", "common_pid", "comm", "pid", "prio")
-# The last field of the common part; the fields after it are of some names alone.
+# The last field of the common part; only some names have the fields after it.
 COMMON = Event._fields.index("common_pid")
+# Of each event, by its number, which of these fields it has.
+OWN = [tuple(column in event.columns for column in Event._fields[COMMON + 1 :]) for event in _schema.EVENTS]
 
 
+@public
 class Events(Sequence[Event]):
-    """Events as they were held when they were asked for. Nothing is decoded before it is looked at.
+    """Events as they were held when they were asked for; `Desk.events` makes it. Nothing is decoded before it is looked at.
 
-    | Form | What it gives |
-    |---|---|
-    | `events[3]`, and each in a loop | an `Event` |
-    | `events[2:9]` | `Events` |
-    | `events["pid"]` | one field of all: a numpy array of numbers where numpy is there, else a list; names as a list of `str` |
-    | `events.array` | a numpy record array over the same memory: numbers as they are held, 0 where an event has no such \
-field; names as bytes, after each its length |
-    | `events.to_pandas()` | a DataFrame |
+    `events[3]` is an `Event`, `events[2:9]` is `Events`, and `events["pid"]` is one field of all: an array of numbers, or a
+    list of names, None if an event has no such field.
 
+    Parameters
+    ----------
+    content
+        The library's structs, in bytes.
+
+    Examples
+    --------
     >>> desk = Desk()
     >>> edit = desk.insert(" sim-1 [000] d.h.. 1.000100: sched_waking: comm=w pid=42 prio=120 target_cpu=001")
     >>> events = desk.events()
     >>> events[0].comm, events[0].pid, events[0].stamp, events["comm"]
     ('w', 42, 1000100, ['w'])
+    >>> events["pid"]
+    array([42], dtype=int32)
     """
 
-    def __init__(self, content: Any) -> None:
-        """Over a buffer of structs; `Desk.events` makes it."""
-        self._content = content
-        self._count = len(content) // _layout.EVENT.size
+    def __init__(self, content: Buffer | NDArray[np.uint8]) -> None:
+        self._content = np.frombuffer(content, "u1")
+        self._count = len(content) // layout.EVENT.size
 
     def __len__(self) -> int:
         return self._count
 
     @overload
     def __getitem__(self, at: int) -> Event:
-        """The event at this place."""
+        """Return the event at this place."""
 
     @overload
     def __getitem__(self, at: slice) -> Events:
-        """The events at these places."""
+        """Return the events at these places."""
 
     @overload
     def __getitem__(self, at: str) -> Any:
-        """The field of this name, of all events."""
+        """Return the field of this name, of all events."""
 
-    def __getitem__(self, at: Union[int, slice, str]) -> Any:
+    def __getitem__(self, at: int | slice | str) -> Any:
         if isinstance(at, str):
             return self._column(at)
         if isinstance(at, slice):
             return self._part(range(self._count)[at])
-        # Answers the index from the beginning, or raises `IndexError`.
-        return event_of(_layout.EVENT.unpack_from(self._content, _layout.EVENT.size * range(self._count)[at]))
+        # The range gives the index from the beginning, or raises `IndexError`.
+        return event_of(layout.EVENT.unpack_from(self._content.data, layout.EVENT.size * range(self._count)[at]))
 
-    def __iter__(self) -> Any:
-        return map(event_of, _layout.EVENT.iter_unpack(self._content))
+    def __iter__(self) -> Iterator[Event]:
+        return map(event_of, layout.EVENT.iter_unpack(self._content.data))
 
     def __eq__(self, other: object) -> bool:
         if not isinstance(other, Events):
             return NotImplemented
-        return memoryview(self._content) == memoryview(other._content)
+        return np.array_equal(self._content, other._content)
 
     __hash__ = None  # type: ignore[assignment]
 
     @property
-    def array(self) -> Any:
-        """The events as a numpy record array, without a copy. Raises `ImportError` where numpy isn't there."""
-        import numpy
+    def array(self) -> np.recarray[Any, Any]:
+        """The events as a record array over the same memory, without a copy: numbers as they are held, 0 if an event has no
+        such field; names as bytes, with their lengths after them (`comm`, `comm_length`)."""
+        return np.frombuffer(self._content, EVENT_TYPE).view(np.recarray)
 
-        return numpy.frombuffer(self._content, _layout.event_type()).view(numpy.recarray)
+    def to_pandas(self, *, times: Times = "micros") -> DataFrame:
+        """Return the events.
 
-    def to_pandas(self) -> Any:
-        """The events as a DataFrame, with the fields of `Event` as columns: texts as `str`, numbers of the common part as
-        `int64`, and others as `Int64`. Where an event has no such field they are None and NA.
+        Parameters
+        ----------
+        times
+            Whether timestamps are numbers of microseconds, or `timedelta64` (`"timedelta"`).
 
-        Raises `ImportError` where pandas or numpy isn't there."""
-        import pandas  # type: ignore[import]
+        Returns
+        -------
+        pandas.DataFrame
+            A row for each event, with the fields of `Event` as columns: texts and CPUs as categories, numbers of the
+            common part as `int64`, and others as `Int64`. If an event has no such field they are NA.
+
+        Raises
+        ------
+        ImportError
+            If pandas is missing.
+        """
+        import pandas
 
         columns = {field: frame_column(self.array, field) for field in Event._fields}
-        return pandas.DataFrame(columns, copy=False)
+        return finished(pandas.DataFrame(columns, copy=False), times)
 
     def _part(self, places: range) -> Events:
-        size = _layout.EVENT.size
-        content = memoryview(self._content)
+        """Return the events at these places."""
+        size = layout.EVENT.size
         if places.step == 1:
-            return Events(content[size * places.start : size * places.stop])
-        return Events(b"".join(content[size * at : size * at + size] for at in places))
+            return Events(self._content[size * places.start : size * places.stop])
+        return Events(self._content.reshape(-1, size)[np.arange(places.start, places.stop, places.step)].reshape(-1))
 
-    def _column(self, field: str) -> Any:
+    def _column(self, field: str) -> NDArray[Any] | list[Any]:
+        """Return a field of all events. Raises `KeyError` if there is none of that name."""
         if field not in Event._fields:
             raise KeyError(field)
-        if field in NUMBERS and _layout.numpy():
-            return self.array[field]
+        if field in NUMBERS:
+            column: NDArray[Any] = self.array[field]
+            return column
         if field in NAMES:
-            found = _layout.name_struct(field).iter_unpack(self._content)
-            return [_layout.text_of(text, length) if has(name, field) else None for name, text, length in found]
+            structs = layout.name_struct(field).iter_unpack(self._content.data)
+            return [layout.text_of(text, length) if has(name, field) else None for name, text, length in structs]
         at = Event._fields.index(field)
         return [event[at] for event in self]
 
-    def _table(self) -> _shown.Table:
+    def _table(self) -> _tables.Table:
+        """Return the ends of the table."""
         fields = [Event._fields.index(field) for field in SHOWN]
-        return _shown.table_of(SHOWN, self._count, lambda at: [self[at][field] for field in fields])
+        return _tables.table_of(SHOWN, self._count, lambda at: [self[at][field] for field in fields])
 
     def __repr__(self) -> str:
-        return f"<histdesk.Events: {self._count}>\n{_shown.in_text(self._table())}"
+        return f"<histdesk.Events: {self._count}>\n{_tables.in_text(self._table())}"
 
     def _repr_html_(self) -> str:
-        return _shown.in_html(_shown.counted(self._count, "event"), [self._table()])
+        return _tables.in_html(_tables.count_of(self._count, "event"), [self._table()])
 
 
-def event_of(fields: Tuple[Any, ...]) -> Event:
-    """An event, of the fields of its struct."""
+def event_of(fields: Sequence[Any]) -> Event:
+    """Return an event, of the fields of its struct."""
     stamp, cpu, line, name, common_pid, pid, prio, target_cpu, prev_pid, prev_prio = fields[:10]
-    task, comm, prev_comm, prev_state = map(_layout.text_of, fields[10::2], fields[11::2])
-    common = (stamp, cpu, line, _layout.EVENT_NAMES[name], task, common_pid)
-    if name == _layout.OTHER:
-        return Event(*common)
-    if name == _layout.SWITCH:
-        return Event(*common, comm, pid, prio, None, prev_comm, prev_pid, prev_prio, prev_state)
-    return Event(*common, comm, pid, prio, target_cpu)
+    task, comm, prev_comm, prev_state = map(layout.text_of, fields[10::2], fields[11::2])
+    own = (comm, pid, prio, target_cpu, prev_comm, prev_pid, prev_prio, prev_state)
+    common = (stamp, cpu, line, _schema.EVENT_NAMES[name], task, common_pid)
+    return Event(*common, *[value if is_own else None for value, is_own in zip(own, OWN[name])])
 
 
 def has(name: int, field: str) -> bool:
-    """Whether events of the name, by its number, have the field."""
-    if Event._fields.index(field) <= COMMON:
-        return True
-    if field.startswith("prev_"):
-        return name == _layout.SWITCH
-    return name != _layout.OTHER and (field != "target_cpu" or name != _layout.SWITCH)
+    """Return whether events of a name, by its number, have a field."""
+    at = Event._fields.index(field)
+    return at <= COMMON or OWN[name][at - COMMON - 1]
 
 
 # ---- columns of a DataFrame
 
 
-def frame_column(array: Any, field: str) -> Any:
-    """A field of all events, with nothing where an event doesn't have it."""
+def frame_column(array: np.recarray[Any, Any], field: str) -> NDArray[Any] | ExtensionArray:
+    """Return a field of all events, with nothing if an event doesn't have it."""
     import pandas
 
-    numpy = _layout.numpy()
     if field == "name":
-        return numpy.array(_layout.EVENT_NAMES, dtype=object)[array.name]
-    having = numpy.array([has(name, field) for name in range(len(_layout.EVENT_NAMES))])[array.name]
+        return from_codes(array["name"].astype("i8"), _schema.EVENT_NAMES)
+    having = np.array([has(name, field) for name in range(len(_schema.EVENT_NAMES))])[array["name"]]
     if field in NAMES:
-        return numpy.where(having, texts(array, field), None)
-    numbers = array[field].astype("int64")
+        names, codes = name_codes(array, field)
+        return from_codes(np.where(having, codes, -1), names.tolist())
+    numbers: NDArray[np.int64] = array[field].astype("int64")
     return numbers if field in COMMON_NUMBERS else pandas.arrays.IntegerArray(numbers, ~having)
 
 
-def texts(array: Any, field: str) -> Any:
-    """A name of all events as texts."""
-    names, codes = coded(array, field)
+def texts(array: NDArray[Any], field: str) -> NDArray[np.object_]:
+    """Return a name of all events as texts."""
+    names, codes = name_codes(array, field)
     return names[codes]
 
 
-def coded(array: Any, field: str) -> Tuple[Any, Any]:
-    """The different texts of a name of all events, as an array, and which one each event has. Each is decoded once."""
-    names = Numbers(_layout.NAME_WORDS)
-    codes = names.of(_layout.words_of_names(array, field))
-    return _layout.texts_of_names(names.rows), codes
+def name_codes(array: NDArray[Any], field: str) -> tuple[NDArray[np.object_], NDArray[np.int32]]:
+    """Return the different texts of a name of all events, and which one each event has. Each is decoded once."""
+    names = Numbers(layout.NAME_WORDS)
+    codes = names.of(words_of_names(array, field))
+    return texts_of_names(names.rows), codes

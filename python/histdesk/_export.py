@@ -3,50 +3,76 @@
 from __future__ import annotations
 
 import itertools
-from typing import TYPE_CHECKING, Any, Iterable, Iterator, List, NamedTuple, Optional, Sequence, Tuple
+from typing import TYPE_CHECKING, Iterable, Iterator, NamedTuple, Sequence, Union
 
-from . import _layout
+import numpy as np
+
+from . import _schema
 from ._events import COMMON, NAMES, Events, has, texts
+from ._losses import Hole
 from ._recording import Recording
-from ._scene import spanned
 from ._values import Event, Latency
 
 if TYPE_CHECKING:
+    from numpy.typing import NDArray
+
     from ._desk import Desk
     from ._trigger import Trigger
     from ._waits import Waits
 
+    # Values of one column.
+    Column = Union[NDArray[np.generic], list[object]]
+
 # So many events are decoded at once.
 ROOM = 1 << 16
-# Holds of every event.
+# Selects every event.
 EVERY = "common_cpu >= 0"
-# The columns that name a task, and the fields of an event that do: of the one that it is about, of the one that leaves, and
-# of the one that runs, of which no prio is known.
+# The columns that name a task, and the fields of an event that do: of the task that it is about, of the one that leaves, and
+# of the one that runs, whose prio isn't known.
 TASK = ("task", "pid", "prio")
 WOKEN, LEAVING, RUNNING = ("comm", "pid", "prio"), ("prev_comm", "prev_pid", "prev_prio"), ("task", "common_pid")
 
 
 class Table(NamedTuple):
-    """A table: the names of its columns, and its rows, of numbers, texts, truth and None."""
+    """A table of plain values.
+
+    Attributes
+    ----------
+    names
+        The names of its columns.
+    rows
+        Its rows, of numbers, texts, truth and None.
+    """
 
     names: Sequence[str]
-    rows: Iterator[Sequence[Any]]
+    rows: Iterator[Sequence[object]]
 
 
-def events_table(desk: Desk, recording: Optional[Recording] = None) -> Table:
-    """All events of a desk in merged order, with the fields of `Event`; lines are those of the whole recording."""
+# ---- events
+
+
+def events_table(desk: Desk, recording: Recording | None = None) -> Table:
+    """Return all events of a desk in merged order, with the fields of `Event`.
+
+    Parameters
+    ----------
+    desk
+        The desk.
+    recording
+        What the desk was made for; lines are then those of the whole recording.
+    """
     return Table(Event._fields, event_rows(desk.events(), recording))
 
 
-def event_rows(events: Events, recording: Optional[Recording]) -> Iterator[Sequence[Any]]:
-    """Events as rows."""
+def event_rows(events: Events, recording: Recording | None) -> Iterator[Sequence[object]]:
+    """Go through events as rows."""
     for start in range(0, len(events), ROOM):
         part = events[start : start + ROOM]
-        yield from zip(*event_columns(part, recording)) if _layout.numpy() else part
+        yield from zip(*event_columns(part, recording))
 
 
-def event_columns(events: Events, recording: Optional[Recording]) -> List[List[Any]]:
-    """The fields of events, each as a list."""
+def event_columns(events: Events, recording: Recording | None) -> list[list[object]]:
+    """Return the fields of events, each as a list."""
     array = events.array
     columns = {field: event_column(array, field) for field in Event._fields}
     if recording:
@@ -54,21 +80,29 @@ def event_columns(events: Events, recording: Optional[Recording]) -> List[List[A
     return [*columns.values()]
 
 
-def event_column(array: Any, field: str) -> List[Any]:
-    """A field of events, None if an event doesn't have it."""
-    numpy = _layout.numpy()
-    names = numpy.array(_layout.EVENT_NAMES, dtype=object)
-    column = names[array.name] if field == "name" else texts(array, field) if field in NAMES else array[field]
+def event_column(array: np.recarray[tuple[int], np.dtype[np.void]], field: str) -> list[object]:
+    """Return a field of events, None if an event doesn't have it."""
+    names = np.array(_schema.EVENT_NAMES, dtype=object)
+    column = names[array["name"]] if field == "name" else texts(array, field) if field in NAMES else array[field]
     if Event._fields.index(field) > COMMON:
-        having = numpy.array([has(name, field) for name in range(len(names))])[array.name]
-        column = numpy.where(having, column.astype(object), None)
-    values: List[Any] = column.tolist()
+        has_field = np.array([has(name, field) for name in range(len(names))])[array["name"]]
+        column = column.astype(object)
+        column[~has_field] = None
+    values: list[object] = column.tolist()
     return values
 
 
+# ---- waits
+
+
 def waits_table(parts: Iterable[Waits]) -> Table:
-    """Waits one by one, in the order in which they ended: the task's name, and the fields of `Waits.array`. They come in parts,
-    of which one is asked for after the other."""
+    """Return waits one by one, in the order in which they ended: the task's name, and the fields of `Waits.array`.
+
+    Parameters
+    ----------
+    parts
+        The waits; each part is asked for when the one before it has been written.
+    """
     from ._waits import FIELDS
 
     names = [name for name, _ in FIELDS]
@@ -76,58 +110,67 @@ def waits_table(parts: Iterable[Waits]) -> Table:
     return Table(("task", *names), itertools.chain.from_iterable(rows))
 
 
+# ---- answers of triggers
+
+
 def rows_table(trigger: Trigger) -> Table:
-    """The rows of a trigger, with the names of its parts; those of keys with their modifiers: a column `lat.log2` has the
-    powers, and `pid.buckets=32` the least number of each bucket."""
+    """Return the rows of a trigger.
+
+    The columns have the names of its parts; those of keys with their modifiers: a column `lat.log2` has the powers, and
+    `pid.buckets=32` the least number of each bucket.
+    """
     shape = trigger._session.shape(trigger.id)
     keys = [key.field if key.modifier in ("", "hex") else f"{key.field}.{key.modifier}" for key in shape.keys]
     rows = ([int(value) if isinstance(value, int) else value for value in row] for row in trigger.rows())
     return Table((*keys, *trigger.names[len(keys) :]), rows)
 
 
-def latencies_table(desk: Desk, trigger: Trigger, recording: Optional[Recording] = None) -> Table:
-    """The latencies of a trigger, in the order of the events that end them, with the fields of `Latency`, the task that the
-    first key of the trigger is of, as the event that ends it has it, and whether events were lost meanwhile. Lines are those
-    of the whole recording."""
+def latencies_table(desk: Desk, trigger: Trigger, recording: Recording | None = None) -> Table:
+    """Return the latencies of a trigger, in the order of the events that end them.
+
+    The columns are the task that the trigger's first key is of, as the event that ends the latency has it, the fields of
+    `Latency`, and whether events were lost meanwhile.
+
+    Parameters
+    ----------
+    desk
+        The desk that holds the events.
+    trigger
+        One of its triggers.
+    recording
+        What the desk was made for; lines are then those of the whole recording.
+    """
     latencies, events = trigger.latencies(), desk.events_matching(trigger.event, EVERY)
     holes = recording.holes if recording else desk.holes
-    at = {place: index for index, place in enumerate(zip(listed(events["cpu"]), listed(events["line"])))}
-    found = {field: column_of(latencies, field) for field in Latency._fields}
-    ends = [at[place] for place in zip(found["read_cpu"], found["read_line"])]
-    task = [[column[index] for index in ends] for column in map(listed, (events[field] for field in task_of(trigger)))]
-    doubtful = doubts(latencies, holes)
-    if recording and _layout.numpy():
+    at = {place: index for index, place in enumerate(zip(as_list(events["cpu"]), as_list(events["line"])))}
+    columns = {field: latencies[field].tolist() for field in Latency._fields}
+    ends = [at[place] for place in zip(columns["read_cpu"], columns["read_line"])]
+    task = [[column[index] for index in ends] for column in (as_list(events[field]) for field in task_fields(trigger))]
+    doubtful = doubts_of(latencies, holes)
+    if recording:
         for end in ("saved", "read"):
-            found[f"{end}_line"] = recording.lines(latencies[f"{end}_cpu"], latencies[f"{end}_line"]).tolist()
-    prio = [] if len(task) == len(TASK) else [[None] * len(ends)]
-    return Table((*TASK, *Latency._fields, "doubtful"), zip(*task, *prio, *found.values(), doubtful))
+            columns[f"{end}_line"] = recording.lines(latencies[f"{end}_cpu"], latencies[f"{end}_line"]).tolist()
+    prio: list[list[object]] = [] if len(task) == len(TASK) else [[None] * len(ends)]
+    return Table((*TASK, *Latency._fields, "doubtful"), zip(*task, *prio, *columns.values(), doubtful))
 
 
-def task_of(trigger: Trigger) -> Tuple[str, ...]:
-    """The fields of an event that name the task which the first key of a trigger is of."""
+def task_fields(trigger: Trigger) -> tuple[str, ...]:
+    """Return the fields of an event that name the task which the first key of a trigger is of."""
     field = trigger._session.shape(trigger.id).keys[0].field
     return LEAVING if field.startswith("prev_") else RUNNING if field.startswith("common_") else WOKEN
 
 
-def doubts(latencies: Any, holes: Any) -> List[bool]:
-    """Which latencies span a hole."""
+def doubts_of(latencies: NDArray[np.void], holes: tuple[Hole, ...]) -> list[bool]:
+    """Return which latencies span lost events."""
     if not holes:
         return [False] * len(latencies)
-    if _layout.numpy():
-        from . import _waits
+    from . import _waits
 
-        found: List[bool] = _waits.doubts(latencies.saved_stamp, latencies.read_stamp, holes).tolist()
-        return found
-    begins, ends = column_of(latencies, "saved_stamp"), column_of(latencies, "read_stamp")
-    return [bool(spanned(holes, begin, end)) for begin, end in zip(begins, ends)]
+    doubts: list[bool] = _waits.doubts(latencies["saved_stamp"], latencies["read_stamp"], holes).tolist()
+    return doubts
 
 
-def column_of(records: Any, field: str) -> List[Any]:
-    """A field of records, which are a numpy array or a list of named tuples."""
-    return listed([getattr(record, field) for record in records] if isinstance(records, list) else records[field])
-
-
-def listed(column: Any) -> List[Any]:
-    """A column as a list of Python's own values."""
-    values: List[Any] = column if isinstance(column, list) else column.tolist()
+def as_list(column: Column) -> list[object]:
+    """Return a column as a list of Python's own values."""
+    values: list[object] = column if isinstance(column, list) else column.tolist()
     return values

@@ -3,13 +3,22 @@
 from __future__ import annotations
 
 import ctypes
-from typing import Any, Iterator, List, NamedTuple
+from collections.abc import Iterator
+from typing import TYPE_CHECKING, Any, NamedTuple
 
-from . import _layout
-from ._layout import needed
-from ._library import library
+import numpy as np
+
+from . import _schema
 from ._session import Session
-from ._source import bytes_of
+from .native import layout
+from .native.arrays import LINE_TYPE
+from .native.buffers import bytes_of
+from .native.library import library
+
+if TYPE_CHECKING:
+    from numpy.typing import NDArray
+
+    from ._source import Searchable
 
 NONE = -1
 # So many bytes are asked about at once.
@@ -17,36 +26,53 @@ ROOM = 1 << 20
 
 
 class Lines(NamedTuple):
-    """Of each line of a text where it ends, after its line break; its event's CPU (-1 if it holds none), stamp in microseconds
-    and name (by its number); and whether it can't be read."""
+    """What each line of a text is, in arrays with one element for each line.
 
-    ends: Any
-    cpus: Any
-    stamps: Any
-    names: Any
-    bad: Any
+    Attributes
+    ----------
+    ends
+        Where it ends, after its line break: bytes from the beginning of the text.
+    cpus
+        The CPU of its event; -1 if it holds none.
+    stamps
+        The stamp of its event, in microseconds.
+    names
+        The name of its event, by its number.
+    bad
+        Whether it can't be read.
+    """
+
+    ends: NDArray[np.int64]
+    cpus: NDArray[np.int64]
+    stamps: NDArray[np.int64]
+    names: NDArray[np.uint8]
+    bad: NDArray[np.bool_]
 
 
-def lines_in(text: Any) -> Lines:
-    """What each line of a text is; needs numpy. Raises `MemoryError` if memory ran out."""
-    numpy, parts = needed(), list(lines_by_part(text))
+def lines_in(text: Searchable) -> Lines:
+    """Return what each line of a text is. Raises `MemoryError` if memory ran out."""
+    parts = list(lines_by_part(text))
     if not parts:
-        return Lines(*(numpy.zeros(0, kind) for kind in ("i8", "i8", "i8", "u1", "?")))
-    return parts[0] if len(parts) == 1 else Lines(*map(numpy.concatenate, zip(*parts)))
+        return Lines(*(np.zeros(0, kind) for kind in ("i8", "i8", "i8", "u1", "?")))
+    return parts[0] if len(parts) == 1 else Lines._make(map(np.concatenate, zip(*parts)))
 
 
-def lines_by_part(text: Any) -> Iterator[Lines]:
-    """The same, part by part."""
+def lines_by_part(text: Searchable) -> Iterator[Lines]:
+    """Yield the same, part by part."""
     for start, part in parts_of(text):
-        told = asked(part).view(_layout.line_type())
-        is_event = told["event"] <= _layout.OTHER
-        cpus = needed().where(is_event, told["cpu"].astype("i8"), NONE)
-        names = needed().where(is_event, told["event"], _layout.OTHER).astype("u1")
-        yield Lines(told["end"] + start, cpus, told["stamp"], names, told["event"] == _layout.LINE_BAD)
+        lines = read_lines(part)
+        event = lines["event"]
+        is_event, is_bad = event <= _schema.OTHER, event == layout.LINE_BAD
+        is_unknown = ~(is_event | is_bad | (event == layout.LINE_SKIPPED))
+        if is_unknown.any():
+            raise NotImplementedError(f"the library has an event {event[is_unknown][0]}, which this package doesn't know")
+        cpus = np.where(is_event, lines["cpu"].astype("i8"), NONE)
+        names = np.where(is_event, event, _schema.OTHER).astype("u1")
+        yield Lines(lines["end"] + start, cpus, lines["stamp"], names, is_bad)
 
 
-def parts_of(text: Any) -> Iterator[Any]:
-    """A text in parts of whole lines, each with the byte at which it begins."""
+def parts_of(text: Searchable) -> Iterator[tuple[int, Searchable]]:
+    """Yield parts of whole lines of a text, each after the byte at which it begins."""
     start = 0
     while start < len(text):
         end = min(start + ROOM, len(text))
@@ -55,32 +81,22 @@ def parts_of(text: Any) -> Iterator[Any]:
         start = end
 
 
-def asked(text: Any) -> Any:
-    """What the engine tells of the lines of a text: an array of bytes, or a buffer if there is no numpy."""
+def read_lines(text: Searchable) -> NDArray[Any]:
+    """Return what the engine reports about the lines of a text, as an array of its structs."""
     session = Session()
     with bytes_of(text) as (address, length):
         ask = library.histdesk_lines, ctypes.c_void_p(address), length
-        found = session.content(library.histdesk_lines_copy, _layout.LINE.size, *ask, numpy=_layout.numpy())
+        lines = session.array(library.histdesk_lines_copy, LINE_TYPE, *ask)
     session.close()
-    return found
+    return lines
 
 
-def bad_lines(text: Any) -> List[int]:
-    """The numbers, from 1, of the lines that can't be read. Raises `MemoryError` if memory ran out."""
-    found: List[int] = []
+def bad_lines(text: Searchable) -> list[int]:
+    """Return the numbers, from 1, of the lines that can't be read. Raises `MemoryError` if memory ran out."""
+    numbers: list[int] = []
     count = 0
     for _, part in parts_of(text):
-        events = events_of(part)
-        found += [count + at for at, event in enumerate(events, 1) if event == _layout.LINE_BAD]
-        count += len(events)
-    return found
-
-
-def holds_event(line: bytes) -> bool:
-    """Whether a line, without its line break, holds an event that can be read."""
-    return any(event <= _layout.OTHER for event in events_of(line))
-
-
-def events_of(text: Any) -> List[int]:
-    """What stands for the event of each line."""
-    return [event for _, _, _, event, _, _ in _layout.LINE.iter_unpack(asked(text))]
+        lines = read_lines(part)
+        numbers += (np.flatnonzero(lines["event"] == layout.LINE_BAD) + count + 1).tolist()
+        count += len(lines)
+    return numbers

@@ -9,170 +9,234 @@ import os
 import sys
 import time
 import warnings
-from typing import Any, Dict, Generator, Iterable, List, Optional, Sequence, Tuple, Union
+from typing import TYPE_CHECKING, Any, Callable, Generator, Iterable, Protocol, Sequence, Union
 
-from . import _shown
+from . import _tables
 from ._losses import LossWarning
+from ._public import public
 from ._questions import Asked, Failed, Outcome
-from ._recording import read
+from ._recording import Recording, read
+
+if TYPE_CHECKING:
+    from ._workers import Client
 
 Path = Union[str, bytes, "os.PathLike[str]", "os.PathLike[bytes]"]
 
-# Of recordings that were left out, so many are told one by one.
-MOST_TOLD = 5
+# Of recordings that were left out, so many are named.
+MOST_NAMED = 5
 # So many parts are added up at once.
 BATCH = 32
-# Seconds until progress is shown, and between two lines of it where they stay.
+# Seconds until progress is printed, and between two lines of it if they stay.
 PATIENCE, BETWEEN = 1.0, 10.0
 
 
+class Question(Protocol):
+    """What can be asked of a recording; `many` says what else it may have."""
+
+    @property
+    def ask(self) -> Callable[[Recording], object]:
+        """Answers for one recording."""
+
+
+@public
 class LeftOutWarning(UserWarning):
-    """Some of many recordings were left out, or taken in part, or their tables had no room for all."""
+    """Some of many recordings were left out or read in part, or their tables had no room for all keys."""
 
 
+@public
 class Many:
     """What many recordings have answered together; `many` makes it.
 
-    | Attribute | What it is |
-    |---|---|
-    | `answer` | the answer of all that were asked |
-    | `asked` | of each recording that answered an `Asked`, in the order of their paths |
-    | `failed` | of each that was left out a `Failed`: its `path`, and `why` in one line |
-    | `remarks` | what is to be known before the answer is believed, a line each |
+    Attributes
+    ----------
+    answer
+        The answer of all recordings together.
+    asked
+        An `Asked` for each recording that answered, in the order of their paths.
+    failed
+        A `Failed` for each that was left out: its `path`, and `why` in one line.
+    remarks
+        What has to be known before the answer is believed, a line each.
     """
 
-    def __init__(self, answer: Any, asked: Sequence[Asked], failed: Sequence[Failed]) -> None:
+    # What `merge` of the question returns, which may be anything.
+    answer: Any
+
+    def __init__(self, answer: object, asked: Sequence[Asked], failed: Sequence[Failed]) -> None:
+        """Take the answer, the recordings that it is of, and those that were left out."""
         self.answer, self.asked, self.failed = answer, tuple(asked), tuple(failed)
 
     @property
-    def remarks(self) -> Tuple[str, ...]:
-        """What is to be known before the answer is believed, a line each: recordings that were left out, lost events, doubtful
-        waits, missing switches, hits that found no room, lines that were left out, and recordings of which a part was taken."""
-        left = left_out(self.failed, len(self.asked) + len(self.failed))
-        return (*left, *lost(self.asked), *missing(self.asked), *partial(self.asked))
+    def remarks(self) -> tuple[str, ...]:
+        """What has to be known before the answer is believed, a line each: recordings that were left out, lost events, doubtful
+        waits, missing switches, hits that found no room, lines that were left out, and recordings of which a part was read."""
+        failures = failure_remarks(self.failed, len(self.asked) + len(self.failed))
+        return (*failures, *loss_remarks(self.asked), *missing_remarks(self.asked), *partial_remarks(self.asked))
 
-    def _told(self) -> List[str]:
-        return [f"histdesk.Many: {len(self.asked)} of {len(self.asked) + len(self.failed)} recordings answered", *self.remarks]
+    def _lines(self) -> list[str]:
+        """Return what is printed above the answer."""
+        count = len(self.asked) + len(self.failed)
+        lines = [f"histdesk.Many: {len(self.asked)} of {count} recordings answered", *self.remarks]
+        return list(map(_tables.printable, lines))
 
     def __repr__(self) -> str:
-        return "\n".join([*map(_shown.shown, self._told()), repr(self.answer)])
+        return "\n".join([*self._lines(), repr(self.answer)])
 
     def _repr_html_(self) -> str:
-        front = "\n".join(map(_shown.shown, self._told()))
+        front = "\n".join(self._lines())
         make = getattr(self.answer, "_repr_html_", None)
         return f"<pre>{html.escape(front)}</pre>{make() if make else f'<pre>{html.escape(repr(self.answer))}</pre>'}"
 
 
-def left_out(failed: Sequence[Failed], count: int) -> List[str]:
-    """Which recordings were left out, and why."""
+# ---- remarks
+
+
+def failure_remarks(failed: Sequence[Failed], count: int) -> list[str]:
+    """Return which of so many recordings were left out, and why."""
     if not failed:
         return []
-    more = [f"and {len(failed) - MOST_TOLD} more"] if len(failed) > MOST_TOLD else []
-    return [f"{len(failed)} of {count} recordings were left out:", *(f"  {one}" for one in [*failed[:MOST_TOLD], *more])]
+    more = [f"and {len(failed) - MOST_NAMED} more"] if len(failed) > MOST_NAMED else []
+    return [f"{len(failed)} of {count} recordings were left out:", *(f"  {one}" for one in [*failed[:MOST_NAMED], *more])]
 
 
-def lost(asked: Sequence[Asked]) -> List[str]:
-    """What was lost of the recordings, and what that did to waits."""
-    found, told = [one.path for one in asked if one.warning], []
-    if found:
-        first = found[0] if len(found) == 1 else f"{found[0]}, .."
-        told.append(
-            f"events were lost in {len(found)} of {len(asked)} recordings ({first}): waits across such a time are doubtful"
+def loss_remarks(asked: Sequence[Asked]) -> list[str]:
+    """Return in which recordings events were lost, and how many waits are doubtful for that."""
+    paths, remarks = [one.path for one in asked if one.warning], []
+    if paths:
+        first = paths[0] if len(paths) == 1 else f"{paths[0]}, .."
+        remarks.append(
+            f"events were lost in {len(paths)} of {len(asked)} recordings ({first}): waits during such a time are doubtful"
         )
     doubtful = [one.doubtful for one in asked if one.doubtful]
     if doubtful:
-        told.append(f"{totalled(doubtful, 'wait')} {_shown.are(sum(doubtful))} doubtful")
-    return told
+        remarks.append(f"{total_of(doubtful, 'wait')} {_tables.are(sum(doubtful))} doubtful")
+    return remarks
 
 
-def missing(asked: Sequence[Asked]) -> List[str]:
-    """How many switches are missing though no line reports it."""
-    found = [one.missing for one in asked if one.missing]
-    if not found:
+def missing_remarks(asked: Sequence[Asked]) -> list[str]:
+    """Return how many switches are missing although no line reports a loss."""
+    missing = [one.missing for one in asked if one.missing]
+    if not missing:
         return []
-    what = "1 switch" if sum(found) == 1 else f"{sum(found)} switches"
-    told = f"at least {what} of {_shown.counted(len(found), 'recording')} {'was' if sum(found) == 1 else 'were'} not recorded"
-    return [f"{told}: waits that such a switch ended are not counted, and others may be too long"]
+    switches, were = ("1 switch", "was") if sum(missing) == 1 else (f"{sum(missing)} switches", "were")
+    recordings = _tables.count_of(len(missing), "recording")
+    result = "waits that such a switch ended are not counted, and others may be too long"
+    return [f"at least {switches} of {recordings} {were} not recorded: {result}"]
 
 
-def totalled(counts: Sequence[int], what: str) -> str:
-    """So many of these, of so many recordings."""
-    return f"{_shown.counted(sum(counts), what)} of {_shown.counted(len(counts), 'recording')}"
+def total_of(counts: Sequence[int], what: str) -> str:
+    """Return the sum of the counts of some recordings, in words."""
+    return f"{_tables.count_of(sum(counts), what)} of {_tables.count_of(len(counts), 'recording')}"
 
 
-def partial(asked: Sequence[Asked]) -> List[str]:
-    """What of the recordings was not counted for want of room, or since it can't be read."""
-    told = []
+def partial_remarks(asked: Sequence[Asked]) -> list[str]:
+    """Return what of the recordings isn't in the answer, because there was no room for it or it can't be read."""
+    remarks = []
     dropped = [one.dropped for one in asked if one.dropped]
     if dropped:
-        told.append(f"{totalled(dropped, 'hit')} found no room in the table")
+        remarks.append(f"{total_of(dropped, 'hit')} found no room in the table")
     bad = [one.bad_lines for one in asked if one.bad_lines]
     if bad:
-        told.append(f"{totalled(bad, 'line')} can't be read and {'was' if sum(bad) == 1 else 'were'} left out")
+        remarks.append(f"{total_of(bad, 'line')} can't be read and {'was' if sum(bad) == 1 else 'were'} left out")
     cut = [one.path for one in asked if one.taken and one.taken.rest is not None]
     if cut:
-        count = _shown.counted(len(cut), "recording")
-        told.append(f"of {count} the first part was taken alone ({cut[0]}), since a desk holds no more")
-    return told
+        count = _tables.count_of(len(cut), "recording")
+        remarks.append(f"only the first part of {count} was read ({cut[0]}), since a desk holds no more")
+    return remarks
 
 
+# ---- how they are asked
+
+
+@public
 def many(
     paths: Iterable[Path],
-    question: Any,
+    question: Question | Callable[[Recording], object],
     *,
-    processes: Optional[int] = None,
-    client: Any = None,
-    progress: Optional[bool] = None,
+    processes: int | None = None,
+    client: Client | None = None,
+    progress: bool | None = None,
     **choice: Any,
 ) -> Many:
-    """Asks each recording the same, and adds up what they answer. `AskWaits` and `AskRows` are such questions:
+    """Ask each of many recordings the same question, and add up the answers.
+
+    `AskWaits` and `AskRows` are such questions:
 
         if __name__ == "__main__":
             fleet = histdesk.many(glob.glob("*.trace"), histdesk.AskWaits(by="name"))
             fleet.answer.percentile(99.9)
 
-    `question` may be any object that can be pickled and has
+    A recording that can't be read, or for which the question raises an exception, is left out, and so is one whose worker is
+    killed twice while asking it: `Many.failed` says why. All others have their answers: if a worker is killed, its
+    recordings are asked again. The order of the paths doesn't matter.
 
-    - `ask(recording)`, which is handed a `Recording`, and whose answer can be pickled;
-    - `merge(parts)`, which makes one answer of those of all, which it is handed in the order of their paths. Where a question
-      has the attribute `adds_up`, and it is true, `merge` is handed its own answers too, in any order, so that not all have to
-      be held at once. Without a `merge`, the answer is a dictionary: of each path what the recording answered.
+    What was lost is reported by one `LossWarning`, and what was left out by one `LeftOutWarning`.
 
-    A function that is handed a `Recording` will do as well.
+    Parameters
+    ----------
+    paths
+        The recordings.
+    question
+        An object that can be pickled and has the method `ask(recording)`, which gets a `Recording` and returns an answer that
+        can be pickled, and perhaps `merge(parts)`, which gets the answers in the order of their paths and makes one of them. If
+        the attribute `adds_up` of the question is true, `merge` also gets its own answers, in any order, so that not all of
+        them have to be held at once. Without `merge`, the answer is a dictionary with the answer of each path. The question may
+        also be a function that gets a `Recording`.
+    processes
+        How many processes of this machine ask; None for as many as there are processors, 0 for this process.
+    client
+        A client of Dask: the workers of its cluster ask. They must find the files by the same paths.
+    progress
+        Whether standard error says how far it is; None for on a terminal, and once it takes longer than a second.
+    choice
+        What part of each recording is read, by the keywords of `read`.
 
-    It asks by so many processes of this machine; by as many as there are processors, where nothing is said, and in this process
-    with 0. With a `client` of Dask (`distributed.Client`), it asks by the workers of its cluster, which have to find the files
-    by the same paths. A worker needs this package and the library `libhistdesk.so.0` alone, beside what the question needs:
-    `AskWaits` needs numpy. That reads recordings of any length in pieces; the desk of another question holds the first part of
-    a long one, with 300 to 600 MB for a million events, where `AskWaits` takes 60 MB for a recording of any length.
+    Returns
+    -------
+    Many
+        The answer, and what you need to know about it.
 
-    A recording that can't be read, or whose question raises an exception, is left out, and so is one whose worker is killed,
-    and a second one too: `Many.failed` says why. All others have their answers: where a worker is killed, its recordings are
-    asked again. The order of the paths doesn't matter.
+    Raises
+    ------
+    TypeError
+        If `paths` is one path, if the question can't be handed to workers, or if both `processes` and `client` are given.
+    ValueError
+        If a path is given twice, or `processes` is negative.
+    RuntimeError
+        If no worker can begin.
 
-    `progress` says whether to tell on standard error how far it is; without a word it does on a terminal, when it takes longer
-    than a second. Other words are those of `read`, and choose which part of each recording is taken.
-
-    What is lost is told by one `LossWarning`, and what is left out by one `LeftOutWarning`. Raises `TypeError` where a question
-    can't be handed to workers, `ValueError` where a path is named twice, and `RuntimeError` where no worker can begin."""
+    Notes
+    -----
+    A worker needs this package and the library `libhistdesk.so.0`, and what the question needs: `AskWaits` needs numpy. That
+    reads recordings of any length in pieces, and takes 60 MB. The desk of another question holds the first part of a long
+    recording, and takes 300 to 600 MB for a million events.
+    """
     names = names_of(paths)
     inspect.signature(read).bind(None, **choice)
-    collected = Collected(question)
-    outcomes = asking(collected.question, names, choice, processes=processes, client=client)
-    # Where anything goes wrong here, whoever is asked is told so at once.
-    with contextlib.closing(outcomes), Progress(len(names), progress) as shown:
+    answers = Answers(question)
+    outcomes = outcomes_of(answers.question, names, choice, processes=processes, client=client)
+    # If anything goes wrong here, the workers stop at once.
+    with contextlib.closing(outcomes), Progress(len(names), progress) as line:
         for outcome in outcomes:
-            collected.add(outcome)
-            shown.step(isinstance(outcome[0], Failed))
-    found = collected.together()
-    warn(found)
-    return found
+            answers.add(outcome)
+            line.step(isinstance(outcome[0], Failed))
+    result = answers.together()
+    warn_of(result)
+    return result
 
 
-def names_of(paths: Iterable[Path]) -> List[str]:
-    """The paths as texts, in order. Raises `TypeError` where it is one path, and `ValueError` where one is named twice."""
+def names_of(paths: Iterable[Path]) -> list[str]:
+    """Return paths as texts, in order.
+
+    Raises
+    ------
+    TypeError
+        If it is one path.
+    ValueError
+        If one is given twice.
+    """
     if isinstance(paths, (str, bytes, os.PathLike)):
-        raise TypeError(f"paths are several, in a list; glob.glob({os.fsdecode(paths)!r}) has those of a pattern")
+        raise TypeError(f"give several paths, in a list; glob.glob({os.fsdecode(paths)!r}) returns those of a pattern")
     names = sorted(map(os.fsdecode, paths))
     for one, other in zip(names, names[1:]):
         if one == other:
@@ -180,75 +244,89 @@ def names_of(paths: Iterable[Path]) -> List[str]:
     return names
 
 
-def asking(
-    question: Any, names: Sequence[str], choice: Dict[str, Any], *, processes: Optional[int], client: Any
+def outcomes_of(
+    question: Question,
+    names: Sequence[str],
+    choice: dict[str, Any],
+    *,
+    processes: int | None,
+    client: Client | None,
 ) -> Generator[Outcome, None, None]:
-    """What the recordings answer, as they are done."""
+    """Ask recordings, and go through their answers as they come."""
     # Here, since few need processes, and these take long to import.
     from ._workers import by_dask, by_pool, by_this_process, task_of
 
     if client is not None:
         if processes is not None:
-            raise TypeError("processes are those of this machine, and a client has its own")
+            raise TypeError("give either processes of this machine or a client, whose cluster has its own")
         if client.asynchronous:
-            raise TypeError("the client is an asynchronous one, and many() waits for what it gives")
+            raise TypeError("many() waits for answers, so the client must not be asynchronous")
         return by_dask(client, task_of(question, choice, True), names)
     count = len(os.sched_getaffinity(0)) if processes is None else processes
     if count < 0:
-        raise ValueError(f"processes are {count}, which isn't from 0 on")
+        raise ValueError(f"processes must be a number from 0 on, not {count}")
     return by_pool(task_of(question, choice, False), names, count) if count else by_this_process(question, names, choice)
 
 
 class Function:
     """A function as a question."""
 
-    def __init__(self, function: Any) -> None:
+    def __init__(self, function: Callable[[Recording], object]) -> None:
+        """Take the function."""
         self.ask = function
 
 
-class Collected:
+class Answers:
     """What has been answered so far."""
 
-    def __init__(self, question: Any) -> None:
+    def __init__(self, question: Question | Callable[[Recording], object]) -> None:
+        """Begin with no answers.
+
+        Raises
+        ------
+        TypeError
+            If that is no question.
+        """
         if not hasattr(question, "ask") and not callable(question):
-            raise TypeError("a question has a method `ask`, or is a function")
-        self.question = question if hasattr(question, "ask") else Function(question)
-        self.adds_up = getattr(question, "adds_up", False)
-        self.asked: List[Asked] = []
-        self.failed: List[Failed] = []
-        # By path; or those that aren't added up yet, with what the others gave.
-        self.parts: List[Tuple[str, Any]] = []
+            raise TypeError("a question must have a method `ask` or be a function")
+        self.question: Question = question if hasattr(question, "ask") else Function(question)
+        self.adds_up: bool = getattr(question, "adds_up", False)
+        self.merge: Callable[[list[object]], object] | None = getattr(question, "merge", None)
+        self.asked: list[Asked] = []
+        self.failed: list[Failed] = []
+        # By path; or those that aren't added up yet, with the sum of the others.
+        self.parts: list[tuple[str, object]] = []
 
     def add(self, outcome: Outcome) -> None:
-        """Takes what one recording answered."""
+        """Take the answer of one recording."""
         known, part = outcome
         if isinstance(known, Failed):
             self.failed.append(known)
             return
         self.asked.append(known)
         self.parts.append((known.path, part))
-        if self.adds_up and len(self.parts) > BATCH:
-            self.parts = [("", self.question.merge([part for _, part in self.parts]))]
+        if self.merge and self.adds_up and len(self.parts) > BATCH:
+            self.parts = [("", self.merge([part for _, part in self.parts]))]
 
     def together(self) -> Many:
-        """What all have answered."""
+        """Return the answer of all."""
         self.parts.sort(key=lambda pair: pair[0])
-        merge = getattr(self.question, "merge", None)
-        answer = merge([part for _, part in self.parts]) if merge else dict(self.parts)
+        answer = self.merge([part for _, part in self.parts]) if self.merge else dict(self.parts)
         return Many(answer, sorted(self.asked), sorted(self.failed))
 
 
-def warn(found: Many) -> None:
-    """Warns of what was lost, and of what was left out."""
-    told = [
-        (LossWarning, lost(found.asked)),
-        (LeftOutWarning, [*left_out(found.failed, len(found.asked) + len(found.failed)), *partial(found.asked)]),
+def warn_of(result: Many) -> None:
+    """Warn of what was lost, and of what was left out."""
+    failures = failure_remarks(result.failed, len(result.asked) + len(result.failed))
+    warning_lines = [
+        (LossWarning, loss_remarks(result.asked)),
+        (LeftOutWarning, [*failures, *partial_remarks(result.asked)]),
     ]
-    for kind, lines in told:
+    for kind, lines in warning_lines:
         if lines:
             # The recordings after the number of them stand on lines of their own.
             text = "; ".join(line.strip() for line in lines).replace("out:; ", "out: ")
-            warnings.warn(_shown.shown(text), kind, stacklevel=3)
+            warnings.warn(_tables.printable(text), kind, stacklevel=3)
 
 
 # ---- progress
@@ -257,9 +335,10 @@ def warn(found: Many) -> None:
 class Progress:
     """A line on standard error that says how far it is."""
 
-    def __init__(self, count: int, is_wanted: Optional[bool]) -> None:
+    def __init__(self, count: int, is_wanted: bool | None) -> None:
+        """Begin with so many recordings; None for a line only on a terminal."""
         self.count, self.done, self.failed = count, 0, 0
-        # Where there is none, nobody reads.
+        # There may be no standard error.
         self.is_terminal = bool(sys.stderr and sys.stderr.isatty())
         self.is_wanted = self.is_terminal if is_wanted is None else is_wanted
         self.begun = time.monotonic()
@@ -269,7 +348,7 @@ class Progress:
         return self
 
     def step(self, is_failed: bool) -> None:
-        """One recording more is done."""
+        """Count one more recording, and print a line if it is time."""
         self.done += 1
         self.failed += is_failed
         now = time.monotonic()
@@ -278,13 +357,13 @@ class Progress:
             self.write(self.line(now))
 
     def line(self, now: float) -> str:
-        """How far it is."""
+        """Return how far it is."""
         left = (now - self.begun) / self.done * (self.count - self.done)
         failed = f", {self.failed} left out" if self.failed else ""
         return f"histdesk: {self.done} of {self.count} recordings{failed}, about {round(left)} s left"
 
     def write(self, line: str) -> None:
-        """On a terminal it is written over the last one."""
+        """Print a line; on a terminal, it replaces the last one."""
         print(
             f"\r{line}\x1b[K" if self.is_terminal else line, end="" if self.is_terminal else "\n", file=sys.stderr, flush=True
         )
@@ -292,8 +371,3 @@ class Progress:
     def __exit__(self, *_: object) -> None:
         if self.is_wanted and self.is_terminal:
             self.write("")
-
-
-for _thing in (LeftOutWarning, Many, many):
-    _thing.__module__ = __package__
-del _thing

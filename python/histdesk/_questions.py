@@ -2,44 +2,82 @@
 
 from __future__ import annotations
 
-from typing import Any, Collection, Dict, NamedTuple, Optional, Sequence, Tuple, Union
+from collections.abc import Collection, Sequence
+from typing import Any, NamedTuple, TypeAlias
 
-from . import _counted
+from . import _counting
 from ._counts import Counts
 from ._desk import Desk
-from ._pieces import text_again
-from ._recording import Choice, Part, Recording, read_text
+from ._public import public
+from ._recording import Part, Recording, choice_of, read_text
 from ._rows import Rows
-from ._waits import SPARE, ReadOptions, Summary, Waits, waits, waits_of_recording
+from ._text import text_again
+from ._wait_answer import WaitAnswer
+from ._waits import SPARE, ReadOptions, Waits, cpu_numbers, kind_names, waits, waits_of_recording
 
 
-class Told(NamedTuple):
-    """What a recording answers, how many of its waits were doubtful, and how many hits found no room in a table."""
+class Answer(NamedTuple):
+    """What a recording answers.
 
-    part: Any
+    Attributes
+    ----------
+    part
+        The answer.
+    doubtful
+        How many of its waits are doubtful.
+    dropped
+        How many events found no room in a table.
+    """
+
+    part: object
     doubtful: int = 0
     dropped: int = 0
 
 
+@public
 class Asked(NamedTuple):
-    """A recording that has answered, and what has to be known of it.
+    """A recording that has answered, and what you need to know about it.
 
-    `warning` tells in one line what was lost; `doubtful` is how many of its waits were doubtful, `dropped` how many hits found
-    no room in a table, `bad_lines` how many lines were left out since they can't be read; `taken` is a `Part` where less than
-    the whole was taken, or may have been. `missing` is how many switches are missing though no line reports it, as far as that
-    is known: it is of waits only."""
+    Attributes
+    ----------
+    path
+        Its path.
+    warning
+        What was lost, in one line; None if nothing was.
+    doubtful
+        How many of its waits are doubtful.
+    dropped
+        How many events found no room in the table.
+    bad_lines
+        How many lines were left out since they can't be read.
+    taken
+        What was taken, if that is less than the whole, or may be.
+    missing
+        How many switches are missing though no line reports it, as far as that is known; for waits only.
+    """
 
     path: str
-    warning: Optional[str] = None
+    warning: str | None = None
     doubtful: int = 0
     dropped: int = 0
     bad_lines: int = 0
-    taken: Optional[Part] = None
+    taken: Part | None = None
     missing: int = 0
 
 
+@public
 class Failed(NamedTuple):
-    """A recording that was left out: why, in one line, and where in the program that was, as Python prints it."""
+    """A recording that was left out.
+
+    Attributes
+    ----------
+    path
+        Its path.
+    why
+        Why, in one line.
+    detail
+        Where in the program that was, as Python prints it.
+    """
 
     path: str
     why: str
@@ -49,17 +87,31 @@ class Failed(NamedTuple):
         return f"{self.path}: {self.why}"
 
 
-# What a recording has answered, or why it hasn't.
-Outcome = Tuple[Union[Asked, Failed], Any]
+# What a recording has answered, which is of any type, or why it hasn't.
+Outcome: TypeAlias = tuple[Asked | Failed, Any]
 
 
+@public
 class AskRows:
     """Asks each recording for the rows of a trigger's table, for `many`. The answer is `Rows`: rows of the same key are added
     up.
 
-    `needs` are triggers that are attached before it, pairs of an event and a text: a saver for a trigger that reads, and so
-    on. A trigger that can't be attached is refused here, before any recording is asked.
+    Parameters
+    ----------
+    event
+        The event that the trigger is attached to.
+    trigger
+        The trigger's text.
+    needs
+        Triggers that are attached before it, pairs of an event and a text: a saver for a trigger that reads, and so on.
 
+    Raises
+    ------
+    Refused
+        If a trigger can't be attached, before any recording is asked.
+
+    Examples
+    --------
     >>> AskRows("wakeup_latency", "hist:keys=lat.log2:sort=lat", needs=[
     ...     ("sched_waking", "hist:keys=pid:ts0=common_timestamp.usecs"),
     ...     ("sched_switch", "hist:keys=next_pid:lat=common_timestamp.usecs-$ts0:"
@@ -70,97 +122,190 @@ class AskRows:
 
     adds_up = True
 
-    def __init__(self, event: str, trigger: str, *, needs: Sequence[Tuple[str, str]] = ()) -> None:
+    def __init__(self, event: str, trigger: str, *, needs: Sequence[tuple[str, str]] = ()) -> None:
         self.event, self.trigger, self.needs = event, trigger, tuple(needs)
         with Desk() as desk:
             self.nothing = self._rows(desk)
 
     def _rows(self, desk: Desk) -> Rows:
-        """The rows over what a desk holds."""
+        """Return the rows over what a desk holds."""
         for event, trigger in self.needs:
             desk.attach(event, trigger)
         return Rows.of(desk.attach(self.event, self.trigger))
 
-    def ask(self, recording: Recording) -> Told:
-        """The rows of one recording."""
+    def ask(self, recording: Recording) -> Answer:
+        """Ask one recording.
+
+        Parameters
+        ----------
+        recording
+            What was read of it.
+
+        Returns
+        -------
+        Answer
+            Its rows.
+
+        Raises
+        ------
+        Refused
+            3 if a line can't be read.
+        """
         with recording.desk() as desk:
             rows = self._rows(desk)
-        return Told(rows, dropped=rows.dropped)
+        return Answer(rows, dropped=rows.dropped)
 
     def merge(self, parts: Sequence[Rows]) -> Rows:
-        """Those of several, added up."""
+        """Add up the rows of several recordings.
+
+        Parameters
+        ----------
+        parts
+            The rows of each.
+
+        Returns
+        -------
+        Rows
+            The sum, which has no row if there are none.
+        """
         return Rows.merged([self.nothing, *parts])
 
     def __repr__(self) -> str:
         return f"AskRows({self.event!r}, {self.nothing.canonical!r})"
 
 
+@public
 class AskWaits:
     """Asks each recording how long its tasks waited, for `many`. The answer is `Counts`: waits counted by key and by
-    microsecond, so that percentiles of all recordings together are exact. It needs numpy, in each worker too.
+    microsecond, so that percentiles of all recordings together are exact.
 
-    A recording may be of any length: it is read in pieces, and its waits are counted, and not kept.
+    A recording may be of any length: it is read in pieces, and its waits are counted, and not kept. A key's greatest wait has
+    the path of its recording as `source`.
 
-    `by` and `doubtful` are those of `Waits.counts`, `kinds` and `cpus` those of `Waits.only`, and `jobs` that of `waits`: so
-    many parts of each recording are read at once, by threads of the process that reads it. A key's greatest wait tells of
-    which recording it is, as `source`. Raises `ValueError` where one of them can't be asked for, and `ImportError` without
-    numpy."""
+    Parameters
+    ----------
+    by
+        What waits are counted by, as `Waits.counts` takes it.
+    kinds, cpus
+        Which waits are counted, as `Waits.only` takes them; all if they are None.
+    doubtful
+        Whether doubtful waits are counted too.
+    jobs
+        How many parts of each recording are read at once, by threads of the process that reads it, as `waits` takes it.
+
+    Raises
+    ------
+    ValueError
+        If one of them can't be asked for.
+    """
 
     adds_up = True
-    # Left out first, if what is chosen of a recording is more than a desk holds.
+    # What `many` reads a recording with, unless it is told otherwise: events that no wait needs are left out first.
     reading = {"spare": SPARE}
 
     def __init__(
         self,
         by: str = "name",
         *,
-        kinds: Optional[Collection[str]] = None,
-        cpus: Optional[Collection[int]] = None,
+        kinds: str | Collection[str] | None = None,
+        cpus: int | Collection[int] | None = None,
         doubtful: bool = False,
-        jobs: Optional[int] = 1,
+        jobs: int | None = 1,
     ) -> None:
-        self.by, self.kinds, self.cpus, self.doubtful, self.jobs = by, kinds, cpus, doubtful, jobs
+        self.by, self.doubtful, self.jobs = by, doubtful, jobs
+        self.kinds, self.cpus = kind_names(kinds), cpu_numbers(cpus)
         self.nothing = self._counts(waits(b""))
 
-    def _counts(self, found: Waits) -> Counts:
-        """Those of the waits that are asked for."""
-        return found.only(kinds=self.kinds, cpus=self.cpus).counts(self.by, self.doubtful)
+    def _counts(self, result: Waits) -> Counts:
+        """Return the counts of the waits that are asked for."""
+        return result.only(kinds=self.kinds, cpus=self.cpus).counts(self.by, self.doubtful)
 
-    def ask(self, recording: Recording) -> Told:
-        """The counts of what was read of a recording."""
-        found = waits_of_recording(recording)
-        counts = self._counts(found).named(recording.path or "")
-        return Told(counts, doubtful=counts.doubtful, dropped=found.dropped)
+    def ask(self, recording: Recording) -> Answer:
+        """Ask what was read of one recording.
 
-    def ask_path(self, path: str, *, lenient: bool = False, **choice: Any) -> Tuple[Asked, Counts]:
-        """The counts of the recording of that path, of which other words of `read` choose a part; and what has to be known."""
+        Parameters
+        ----------
+        recording
+            What was read of it.
+
+        Returns
+        -------
+        Answer
+            The counts of its waits.
+
+        Raises
+        ------
+        Refused
+            3 if a line can't be read.
+        """
+        result = waits_of_recording(recording)
+        counts = self._counts(result).named(recording.path or "")
+        return Answer(counts, doubtful=counts.doubtful, dropped=result.dropped)
+
+    def ask_path(
+        self,
+        path: str,
+        *,
+        lenient: bool = False,
+        **choice: Any,
+    ) -> tuple[Asked, Counts]:
+        """Ask one recording, which is read here.
+
+        Parameters
+        ----------
+        path
+            Its path.
+        lenient
+            As for `read`.
+        choice
+            Other arguments of `read`, which choose a part. Without a `spare`, events that no wait needs are spared.
+
+        Returns
+        -------
+        tuple of Asked and Counts
+            What has to be known of it, and the counts of its waits.
+
+        Raises
+        ------
+        OSError
+            If it can't be read.
+        Refused
+            3 if a line can't be read.
+        """
         if all(value is None for value in choice.values()):
-            counted_by = _counted.Choice(self.by, self.doubtful, self.kinds, self.cpus)
-            found = _counted.counted(path, counted_by, ReadOptions(lenient, jobs=self.jobs))
-            return self._asked(path, found, found.counts(self.by, self.doubtful))
-        words: Dict[str, Any] = {**self.reading, **choice}
-        wanted = Choice(**words)
-        recording = read_text(path, text_again(path), wanted, lenient)
-        waits_found = waits_of_recording(recording)
-        asked, counts = self._asked(path, waits_found, self._counts(waits_found))
-        if wanted.events is None:
+            counts_choice = _counting.Choice(self.by, self.doubtful, self.kinds, self.cpus)
+            answer = _counting.count_waits(path, counts_choice, ReadOptions(lenient, jobs=self.jobs))
+            return self._about(path, answer, answer.counts(self.by, self.doubtful))
+        words: dict[str, Any] = {**self.reading, **choice}
+        text = text_again(path)
+        part = choice_of(text, **words)
+        recording = read_text(path, text, part, lenient)
+        result = waits_of_recording(recording)
+        asked, counts = self._about(path, result, self._counts(result))
+        if part.events is None:
             return asked, counts
         # A desk holds these events.
         return asked._replace(bad_lines=len(recording.bad_lines), taken=recording.taken), counts
 
-    def _asked(self, path: str, found: Summary, counts: Counts) -> Tuple[Asked, Counts]:
-        """What is counted of a recording's waits, and what has to be known of it."""
-        known = Asked(path, found.warning, counts.doubtful, found.dropped, found.bad_lines, missing=found.missing or 0)
-        return known, counts.named(path)
+    def _about(self, path: str, answer: WaitAnswer, counts: Counts) -> tuple[Asked, Counts]:
+        """Return what has to be known of a recording, and its counts under its path."""
+        asked = Asked(path, answer.warning, counts.doubtful, answer.dropped, answer.bad_lines, missing=answer.missing or 0)
+        return asked, counts.named(path)
 
     def merge(self, parts: Sequence[Counts]) -> Counts:
-        """Those of several, added up."""
+        """Add up the counts of several recordings.
+
+        Parameters
+        ----------
+        parts
+            The counts of each.
+
+        Returns
+        -------
+        Counts
+            The sum, which counts nothing if there are none.
+        """
         return Counts.merged([self.nothing, *parts])
 
     def __repr__(self) -> str:
         return f"AskWaits({self.by!r})"
-
-
-for _thing in (AskRows, AskWaits, Asked, Failed):
-    _thing.__module__ = __package__
-del _thing

@@ -1,133 +1,171 @@
-"""A trace's text, or a part of it, before it is loaded: what it tells of losses, and which events are chosen."""
+"""A trace's text, or a part of it, before it is loaded: what it reports about losses, and which events are chosen."""
 
 from __future__ import annotations
 
 import os
 import warnings
-from typing import TYPE_CHECKING, Any, Collection, Dict, List, NamedTuple, Optional, Sequence, Tuple, Union
+from collections.abc import Collection, Sequence
+from typing import TYPE_CHECKING, Any, NamedTuple, cast
 
-from . import _layout
+from ._file_kind import check_kind
 from ._lines import bad_lines
-from ._kinds import check_kind
 from ._losses import Hole, Losses, LossWarning, losses_of, seconds
-from ._pieces import BufferText, Text, is_long, text_again
-from ._shown import counted
-from ._source import lines_of, searched
+from ._public import public
+from ._source import lines_of, searchable
+from ._tables import count_of
+from ._text import BufferText, Text, is_long, text_again
+from ._times import Stamp, Time, is_plain, micros_of
 
 if TYPE_CHECKING:
-    from ._desk import Desk, Trace
+    import numpy as np
+    from numpy.typing import NDArray
+
+    from ._desk import Desk
     from ._slices import Slice
+    from ._source import Buffer, Trace
 
 # So many events are held by a desk.
 LIMIT = 1_048_576
 
 
+@public
 class Part(NamedTuple):
-    """What was taken of a trace: how many events, the least and the greatest stamp among them in microseconds (None where there
-    are no events), and the stamp from which the next part begins, or None where nothing is left after this one."""
+    """What was taken of a trace.
+
+    Attributes
+    ----------
+    events
+        How many events.
+    first, last
+        The least and the greatest timestamp among them, in microseconds; None if there are no events.
+    rest
+        The timestamp at which the next part begins, to pass to `read` as `start`; None if nothing is left.
+    """
 
     events: int
-    first: Optional[int]
-    last: Optional[int]
-    rest: Optional[int]
+    first: Stamp | None
+    last: Stamp | None
+    rest: Stamp | None
 
 
 class Choice(NamedTuple):
-    """Which events of a trace are wanted: from one stamp on and below another one, of some CPUs, of some names; None where all
-    are. Events of the names that can be spared are left out first, where all together are more than a desk holds."""
+    """Which events of a trace are wanted.
 
-    start: Optional[int] = None
-    until: Optional[int] = None
-    cpus: Optional[Collection[int]] = None
-    events: Optional[Collection[str]] = None
+    Attributes
+    ----------
+    start, until
+        From which timestamp on, and below which one, in microseconds; None for no bound.
+    cpus, events
+        The CPUs, and the names; None for all.
+    spare
+        The names of events that are left out first if all together are more than a desk holds.
+    """
+
+    start: int | None = None
+    until: int | None = None
+    cpus: Collection[int] | None = None
+    events: Collection[str] | None = None
     spare: Collection[str] = ()
 
     def is_all(self) -> bool:
-        """Whether every event is wanted."""
+        """Return whether every event is wanted."""
         return self._replace(spare=()) == Choice()
 
     def is_in_time(self) -> bool:
-        """Whether a stretch of time is wanted."""
+        """Return whether a stretch of time is wanted."""
         return self.start is not None or self.until is not None
 
 
+@public
 class Recording:
     """The text of a trace or of a part of it; `read` makes it. `Desk.load` takes it, and so does whatever takes a trace.
 
-    | Attribute | What it is |
-    |---|---|
-    | `path` | the file's name, or None |
-    | `text` | what a desk loads: a line that was left out is an empty one, so that lines keep their numbers |
-    | `losses`, `holes`, `warning` | what the text tells of lost events |
-    | `bad_lines` | the numbers, from 1, of lines that were left out since they can't be read |
-    | `taken` | a `Part`, if less than the whole was taken, or may have been |
-    | `choice` | which events were asked for: `start`, `until`, `cpus`, `events`, each None if all were |
-    | `lines_from` | the stamp from which on the lines of each CPU are counted; None if that is from the trace's beginning on |
-
     A long file is read when `text`, `bad_lines` or `taken` is asked for first, and for `losses` it is looked through. What goes
-    wrong then is raised there."""
+    wrong then is raised there.
 
-    def __init__(self, path: Optional[str], text: Any, losses: Optional[Losses], bad_lines: Tuple[int, ...] = ()) -> None:
-        """Without a text or losses: these are still to be found in a slice of another text."""
+    Parameters
+    ----------
+    path
+        The file's name, or None.
+    text
+        What a desk loads; None if it is still to be read from a slice of another text.
+    losses
+        What the text reports about lost events; None if that is still to be read.
+    bad_lines
+        The numbers, from 1, of the lines that were left out since they can't be read.
+
+    Attributes
+    ----------
+    path
+        The file's name, or None.
+    choice
+        Which events were asked for: `start`, `until`, `cpus`, `events`, each None if all were.
+    lines_from
+        The stamp from which on the lines of each CPU are counted, in microseconds; None if that is from the trace's beginning.
+    """
+
+    def __init__(self, path: str | None, text: Buffer | None, losses: Losses | None, bad_lines: tuple[int, ...] = ()) -> None:
         self.path = path
         self.choice = Choice()
-        self.lines_from: Optional[int] = None
+        self.lines_from: Stamp | None = None
         self._text, self._losses, self._bad_lines = text, losses, bad_lines
-        self._taken: Optional[Part] = None
+        self._taken: Part | None = None
         # Of each CPU the lines of the whole text that a desk's lines are, if some were left out.
-        self._lines: Optional[Dict[int, Any]] = None
+        self._lines: dict[int, NDArray[np.int64]] | None = None
         # Whether there are more events of those that were asked for than a desk holds.
         self._is_part = False
-        # Whether it was told already what was lost.
-        self.is_told = False
+        # Whether it was reported already what was lost.
+        self.is_reported = False
         # The slice of a text that it is, if it is one.
-        self._slice: Optional[Slice] = None
+        self._slice: Slice | None = None
 
     def _read(self) -> Recording:
-        """The same, once it was read."""
+        """Read it, unless it was read, and return it."""
         if self._text is None and self._slice:
             self._slice.read_into(self)
         return self
 
     def _read_all(self) -> Losses:
-        """Reads it, and what its text tells of lost events."""
+        """Read it, and return what its text reports about lost events."""
         return self._read().losses
 
     @property
     def is_read(self) -> bool:
-        """Whether its text is there already."""
+        """Whether its text is in memory already."""
         return self._text is not None
 
     @property
-    def text(self) -> Any:
-        """What a desk loads."""
-        return self._read()._text
+    def text(self) -> Buffer:
+        """What a desk loads: a line that was left out is an empty one, so that lines keep their numbers."""
+        text = self._read()._text
+        assert text is not None
+        return text
 
     @text.setter
-    def text(self, text: Any) -> None:
+    def text(self, text: Buffer) -> None:
         self._text = text
 
     @property
-    def bad_lines(self) -> Tuple[int, ...]:
-        """The numbers of lines that were left out since they can't be read."""
+    def bad_lines(self) -> tuple[int, ...]:
+        """The numbers, from 1, of the lines that were left out since they can't be read."""
         return self._read()._bad_lines
 
     @bad_lines.setter
-    def bad_lines(self, lines: Tuple[int, ...]) -> None:
+    def bad_lines(self, lines: tuple[int, ...]) -> None:
         self._bad_lines = lines
 
     @property
-    def taken(self) -> Optional[Part]:
+    def taken(self) -> Part | None:
         """What was taken, if that is less than the whole, or may be."""
         return self._read()._taken
 
     @taken.setter
-    def taken(self, part: Optional[Part]) -> None:
+    def taken(self, part: Part | None) -> None:
         self._taken = part
 
     @property
     def losses(self) -> Losses:
-        """What the text tells of lost events."""
+        """What the text reports about lost events."""
         if self._losses is None:
             self._losses = self._slice.losses(self.choice) if self._slice else Losses()
         return self._losses
@@ -137,12 +175,12 @@ class Recording:
         self._losses = losses
 
     @property
-    def holes(self) -> Tuple[Hole, ...]:
+    def holes(self) -> tuple[Hole, ...]:
         """Where events were lost."""
         return self.losses.holes
 
     @property
-    def warning(self) -> Optional[str]:
+    def warning(self) -> str | None:
         """What was lost, in one line; None if nothing was."""
         return self.losses.warning
 
@@ -157,12 +195,23 @@ class Recording:
         return self._read()._is_part
 
     def desk(self) -> Desk:
-        """A new desk that holds it. Raises `Refused` if a line can't be read, with its number in the whole text."""
+        """Return a new desk that holds it.
+
+        Returns
+        -------
+        Desk
+            The desk, which the caller closes.
+
+        Raises
+        ------
+        Refused
+            3 if a line can't be read, with its number in the whole text; 7 if there is no room.
+        """
         from ._desk import Desk
 
-        if self.warning and not self.is_told:
+        if self.warning and not self.is_reported:
             warnings.warn(self.warning, LossWarning, stacklevel=2)
-        self.is_told = True
+        self.is_reported = True
         desk = Desk()
         desk.load(self)
         return desk
@@ -173,127 +222,225 @@ class Recording:
         return self._slice.text.size or 0 if self._slice else 0
 
     def lines_before(self) -> int:
-        """How many lines of the whole text stand before `text`."""
+        """Return how many lines of the whole text stand before `text`.
+
+        Returns
+        -------
+        int
+            The number of lines; 0 unless it is a slice of a text.
+        """
         return self._slice.lines_before() if self._slice else 0
 
     def line(self, cpu: int, line: int) -> int:
-        """The line of a CPU in the whole text, from 1, of a line of the desk that holds this; in a slice of a file, they are
-        counted from `lines_from` on. Raises `IndexError` if the desk has no such line."""
-        known = self._read()._lines
-        if known is None:
+        """Return the line of a CPU in the whole text for a line of the desk that holds this.
+
+        Parameters
+        ----------
+        cpu
+            The CPU, from 0.
+        line
+            The line of that CPU on the desk, from 1.
+
+        Returns
+        -------
+        int
+            Its line in the whole text, from 1; in a slice of a file, lines are counted from `lines_from` on.
+
+        Raises
+        ------
+        IndexError
+            If the desk has no such line.
+        """
+        whole_lines = self._read()._lines
+        if whole_lines is None:
             return line
         if line < 1:
             raise IndexError(line)
-        return int(known.get(cpu, ())[line - 1])
+        return int(whole_lines.get(cpu, ())[line - 1])
 
-    def lines(self, cpus: Any, lines: Any) -> Any:
-        """The same for numpy arrays of CPUs and lines."""
-        known = self._read()._lines
-        if known is None:
+    def lines(self, cpus: NDArray[np.integer[Any]], lines: NDArray[np.integer[Any]]) -> NDArray[np.integer[Any]]:
+        """Return the lines of CPUs in the whole text for lines of the desk that holds this; see `line`.
+
+        Parameters
+        ----------
+        cpus
+            The CPU of each event.
+        lines
+            The line of each event on the desk, an array of the same shape.
+
+        Returns
+        -------
+        numpy.ndarray
+            The line of each event in the whole text, an array of the same shape.
+        """
+        whole_lines = self._read()._lines
+        if whole_lines is None:
             return lines
-        found = lines.copy()
-        for cpu, whole in known.items():
+        own = lines.copy()
+        for cpu, whole in whole_lines.items():
             of_cpu = cpus == cpu
-            found[of_cpu] = whole[lines[of_cpu] - 1]
-        return found
+            own[of_cpu] = whole[lines[of_cpu] - 1]
+        return own
 
-    def desk_line(self, cpu: int, line: int) -> Optional[int]:
-        """The desk's line of a CPU's line in the whole text; None if that event was left out."""
-        known = self._read()._lines
-        if known is None:
+    def desk_line(self, cpu: int, line: int) -> int | None:
+        """Return the line of the desk that holds this for a line of a CPU in the whole text.
+
+        Parameters
+        ----------
+        cpu
+            The CPU, from 0.
+        line
+            The line of that CPU in the whole text, from 1.
+
+        Returns
+        -------
+        int or None
+            The desk's line, from 1; None if that event was left out.
+        """
+        whole_lines = self._read()._lines
+        if whole_lines is None:
             return line
-        whole = known.get(cpu)
+        whole = whole_lines.get(cpu)
         if whole is None:
             return None
         at = int(whole.searchsorted(line))
         return at + 1 if at < len(whole) and whole[at] == line else None
 
     def __repr__(self) -> str:
-        told = [f"histdesk.Recording of {self.path or 'a text'}"]
+        parts = [f"histdesk.Recording of {self.path or 'a text'}"]
         if self._text is None:
-            return f"<{told[0]}; not read yet>"
+            return f"<{parts[0]}; not read yet>"
         if self.taken:
-            told.append(f"{counted(self.taken.events, 'event')} taken" + stretch(self.taken))
+            parts.append(f"{count_of(self.taken.events, 'event')} taken" + stretch(self.taken))
         if self.bad_lines:
-            told.append(f"{counted(len(self.bad_lines), 'line')} left out that can't be read")
-        return "<" + "; ".join([*told, *filter(None, [self.warning])]) + ">"
+            parts.append(f"{count_of(len(self.bad_lines), 'line')} left out that can't be read")
+        return "<" + "; ".join([*parts, *filter(None, [self.warning])]) + ">"
 
 
-def path_of(trace: Any) -> Optional[str]:
-    """The file that a trace is read from, or None where it is no file's name."""
+def path_of(trace: object) -> str | None:
+    """Return the file that a trace is read from, or None if it is no file's name."""
     if isinstance(trace, Recording):
         return trace.path
     return os.fsdecode(trace) if isinstance(trace, (str, os.PathLike)) else None
 
 
 def stretch(part: Part) -> str:
-    """From when to when a part goes, and where the next one begins."""
+    """Return from when to when a part goes, and where the next one begins."""
     if part.first is None or part.last is None:
         return ""
-    told = f", {seconds(part.first)} to {seconds(part.last)}"
-    return told if part.rest is None else f"{told}; the next part begins at {seconds(part.rest)}"
+    ends = f", {seconds(part.first)} to {seconds(part.last)}"
+    return ends if part.rest is None else f"{ends}; the next part begins at {seconds(part.rest)}"
 
 
+@public
 def read(
-    trace: Union[Trace, Recording],
+    trace: Trace | Recording,
     *,
-    start: Optional[int] = None,
-    until: Optional[int] = None,
-    cpus: Optional[Collection[int]] = None,
-    events: Optional[Collection[str]] = None,
+    start: Time | None = None,
+    until: Time | None = None,
+    cpus: Collection[int] | None = None,
+    events: Collection[str] | None = None,
     lenient: bool = False,
     spare: Collection[str] = (),
 ) -> Recording:
-    """Reads a trace's text, or a part of it, for a desk; if events of it were lost, it warns with `LossWarning`.
+    """Read a trace's text, or a part of it, for a desk.
 
-    Taken are the events with a stamp from `start` on and below `until`, in microseconds, of the CPUs and of the names that are
-    given (`sched_waking`, `sched_wakeup`, `sched_wakeup_new`, `sched_switch`, or `other` for all others); all if nothing is
-    given. If they are more than a desk holds, those of the names in `spare` are left out; if that doesn't suffice, the first
-    stretch that fits is taken, and `taken.rest` is the `start` of the next one. With `lenient`, lines that can't be read are
-    left out, and `bad_lines` has their numbers.
+    A stretch of time is found by binary search, so that its cost depends only on its own length. The events before it aren't
+    counted: the lines of each CPU begin with 1 at the first event from `start` on, and `losses` is what lines of the stretch
+    and near it report. Only a text that isn't in time order is read completely. A file of more than 64 MB (8 MB if it is
+    packed) is read when something of the answer is used, so that `waits` of it needs no room for its text; `waits` and `many`
+    warn of lost events then.
 
-    A stretch of time is found by halves, so that it costs what it has. Events before it aren't counted then: the lines of each
-    CPU begin with 1 at the first event from `start` on, and `losses` is what lines of the stretch and near it tell. Only of a
-    text that isn't in the order of time is everything read.
+    Parameters
+    ----------
+    trace
+        What `Desk.load` takes; a `Recording` is passed on.
+    start, until
+        From which timestamp on, and before which one. A number or a text is in seconds, as in the trace and for the tools:
+        `2217.6`, `"2217.600000"`, `Decimal("2217.6")`, `2218`. A `timedelta` of the standard library, of numpy or of pandas
+        counts from the clock's zero. Timestamps in answers, such as `taken.rest`, are a `Stamp`, which is taken as it is.
+    cpus
+        Only events of these CPUs.
+    events
+        Only events of these names; `other` is for all but `sched_waking`, `sched_wakeup`, `sched_wakeup_new` and
+        `sched_switch`.
+    lenient
+        Whether lines that can't be read are left out; `bad_lines` has their numbers.
+    spare
+        The names of events that are left out first if all together are more than a desk holds. If that isn't enough, the first
+        stretch that fits is taken, and `taken.rest` is the `start` of the next one.
 
-    A file of more than 64 MB (8 MB if it is packed) is read when something of it is asked for, so that `waits` of it needs no
-    room for its text; of lost events, `waits` and `many` warn then.
+    Returns
+    -------
+    Recording
+        The text, and what was taken of it: what `Desk.load` takes.
 
-    `trace` is what `Desk.load` takes; a `Recording` is passed on. Raises `OSError` if it can't be read, `ImportError` if a part
-    is to be taken and there is no numpy, and `ValueError` if more events than a desk holds have one stamp, or if it is a
-    recording of perf or trace-cmd; which tool converts it is told then."""
+    Warns
+    -----
+    LossWarning
+        If events were lost.
+
+    Raises
+    ------
+    OSError
+        If the trace can't be read.
+    ValueError
+        If no trace has such a timestamp, or a whole number can only be microseconds of this trace; if more events than a desk
+        holds have one timestamp; or if it is a recording of perf or trace-cmd, with the tool that converts it.
+    TypeError
+        If a timestamp is none of these.
+    """
     if isinstance(trace, Recording):
         return trace
     path, text = path_of(trace), text_again(trace)
     check_kind(text, path)
-    recording = read_text(path, text, Choice(start, until, cpus, events, spare), lenient)
+    recording = read_text(path, text, choice_of(text, start, until, cpus, events, spare), lenient)
     if recording._losses is not None:
-        recording.is_told = True
+        recording.is_reported = True
         if recording.warning:
             warnings.warn(recording.warning, LossWarning, stacklevel=2)
     return recording
 
 
-def read_text(path: Optional[str], text: Text, choice: Choice, lenient: bool) -> Recording:
-    """What is wanted of a text, which is called by that path: read now unless it is long. Parts are read by numpy only."""
-    if not choice.is_in_time() and not (is_long(text) and _layout.numpy()):
+def choice_of(
+    text: Text,
+    start: Time | None = None,
+    until: Time | None = None,
+    cpus: Collection[int] | None = None,
+    events: Collection[str] | None = None,
+    spare: Collection[str] = (),
+) -> Choice:
+    """Return which events of a text are wanted, by the parameters of `read`, which also says what is raised."""
+    times = {"start": start, "until": until}
+    micros = {name: micros_of(time, name) for name, time in times.items()}
+    plain = {name: int(cast(int, time)) for name, time in times.items() if is_plain(time)}
+    if plain:
+        from ._time_range import check_seconds
+
+        check_seconds(text, plain)
+    return Choice(micros["start"], micros["until"], cpus, events, spare)
+
+
+def read_text(path: str | None, text: Text, choice: Choice, lenient: bool) -> Recording:
+    """Return what is wanted of a text, which is called by that path: read now unless it is long."""
+    if not choice.is_in_time() and not is_long(text):
         return read_whole(path, text.content(), choice, lenient)
     from ._slices import read_stretch
 
     return read_stretch(path, text, choice, lenient)
 
 
-def read_whole(path: Optional[str], text: Any, choice: Choice, lenient: bool) -> Recording:
-    """What is wanted of a text that is in memory, and what the whole of it tells of lost events."""
-    text = searched(text)
+def read_whole(path: str | None, content: Buffer, choice: Choice, lenient: bool) -> Recording:
+    """Return what is wanted of a text that is in memory, and what the whole of it reports about lost events."""
+    text = searchable(content)
     recording = Recording(path, text, losses_of(text))
     recording.choice = choice
     if lenient:
         leave_out_bad_lines(recording)
     if not choice.is_all() or lines_of(text) > LIMIT:
-        from . import _part
+        from . import _selection
 
-        _part.take(recording, choice)
+        _selection.take(recording, choice)
     if not choice.is_in_time():
         from ._slices import slice_of
 
@@ -302,19 +449,19 @@ def read_whole(path: Optional[str], text: Any, choice: Choice, lenient: bool) ->
 
 
 def counted_from(stamp: int) -> str:
-    """What is to be known of the lines of a slice."""
+    """Return what has to be known of the lines of a slice."""
     return f"lines are counted from {seconds(stamp)} on"
 
 
 def leave_out_bad_lines(recording: Recording) -> None:
-    """Makes empty lines of those that can't be read."""
-    leave_out(recording, bad_lines(recording.text))
+    """Make empty lines of those that can't be read."""
+    leave_out(recording, bad_lines(searchable(recording.text)))
 
 
 def leave_out(recording: Recording, bad: Sequence[int]) -> None:
-    """Makes empty lines of those with these numbers."""
+    """Make empty lines of those with these numbers."""
     if bad:
-        lines: List[bytes] = bytes(recording.text).split(b"\n")
+        lines: list[bytes] = bytes(recording.text).split(b"\n")
         for number in bad:
             lines[number - 1] = b""
         recording.text = b"\n".join(lines)

@@ -3,47 +3,51 @@
 from __future__ import annotations
 
 import ctypes
-import struct
 import threading
-from typing import Any, Callable, Dict, List, NamedTuple, Optional, Tuple
+from collections.abc import Sequence
+from typing import TYPE_CHECKING, Any
 
-from . import _layout
+import numpy as np
+
 from ._events import Events
-from ._given import packed
-from ._library import library
-from ._refused import Refused, exception_of
-from ._shape import Shape
-from ._source import bytes_of
-from ._values import Changed, Edit, Edits, Latency, Place
+from ._refusal import Refused, exception_of
+from ._row_shape import Shape
+from ._values import Changed, Edit, Edits
+from .native import layout
+from .native.arguments import pack_places
+from .native.arrays import EVENT_TYPE
+from .native.buffers import bytes_of
+from .native.library import Call, library
+
+if TYPE_CHECKING:
+    from collections.abc import Iterable
+
+    from numpy.typing import NDArray
+
+    from ._source import Buffer
+    from .native.arguments import Located
 
 # Each thread has an object of its own here, by which a desk knows the thread that made it.
 here = threading.local()
 
 
-class Record(NamedTuple):
-    """A struct that comes in great numbers: for `struct`, for numpy, and as a named tuple of its fields."""
-
-    layout: struct.Struct
-    kind: Callable[[], Any]
-    make: Callable[[Any], Any]
-
-
-PLACES = Record(_layout.PLACE, _layout.place_type, Place._make)
-LATENCIES = Record(_layout.LATENCY, _layout.latency_type, Latency._make)
-
-
 class Session:
-    """The library's desk, and the thread that made it."""
+    """The library's desk, and the thread that made it.
+
+    Raises
+    ------
+    MemoryError
+        If memory ran out.
+    """
 
     def __init__(self) -> None:
-        """Raises `MemoryError` where memory ran out."""
         # Kept here for the collector, which may come when the modules are gone.
         self._free = library.histdesk_free
-        self.handle = _layout.Handle()
+        self.handle = layout.Handle()
         self._thread = this_thread()
-        self._shapes: Dict[int, Shape] = {}
-        if library.histdesk_new(self.handle) != _layout.OK:
-            raise exception_of(_layout.Refusal(_layout.MEMORY))
+        self._shapes: dict[int, Shape] = {}
+        if library.histdesk_new(self.handle) != layout.OK:
+            raise exception_of(layout.Refusal(layout.MEMORY))
 
     def __del__(self) -> None:
         # Nobody else has it any more, so it may be freed in whichever thread the collector runs.
@@ -51,96 +55,117 @@ class Session:
             self._free(self.handle)
 
     def close(self) -> None:
-        """Gives back its memory."""
+        """Give back its memory."""
         self.check_thread()
         self._free(self.handle)
 
     @property
     def closed(self) -> bool:
-        """Whether it was closed."""
+        """Whether it is closed."""
         return not self.handle.at
 
     def check_thread(self) -> None:
-        """Raises `RuntimeError` in a thread that didn't make it."""
+        """Raise `RuntimeError` in a thread that didn't make it."""
         if self._thread is not this_thread():
             raise RuntimeError("a desk can be used only in the thread that made it")
 
     def check(self) -> None:
-        """Raises `RuntimeError` in a thread that didn't make it, and `ValueError` where it is closed."""
+        """Raise `RuntimeError` in a thread that didn't make it, and `ValueError` if it is closed."""
         self.check_thread()
         if self.closed:
             raise ValueError("the desk is closed")
 
     # ---- calls
 
-    def code(self, call: Any, *arguments: Any) -> int:
-        """What a call answers: 0, or why it is refused. Structs are passed by their address."""
+    def code(self, call: Call, *arguments: object) -> int:
+        """Return what a call returns: 0, or why it is refused. Structs are passed by their address."""
         self.check()
-        answer: int = call(self.handle, *arguments)
-        return answer
+        return call(self.handle, *arguments)
 
-    def holds(self, call: Any, *arguments: Any) -> bool:
-        """Whether a call is accepted. Raises `MemoryError` where memory ran out."""
+    def holds(self, call: Call, *arguments: object) -> bool:
+        """Return whether a call is accepted. Raises `MemoryError` if memory ran out."""
         code = self.code(call, *arguments)
-        if code == _layout.MEMORY:
-            raise exception_of(_layout.Refusal(_layout.MEMORY))
-        return code == _layout.OK
+        if code == layout.MEMORY:
+            raise exception_of(layout.Refusal(layout.MEMORY))
+        return code == layout.OK
 
-    def call(self, call: Any, *arguments: Any, given: Any = None) -> None:
-        """Makes a call, and raises `Refused` or `MemoryError` where it is refused. `given` is the text that may be at fault."""
-        if self.code(call, *arguments) != _layout.OK:
-            refusal = _layout.Refusal()
+    def call(self, call: Call, *arguments: object, text: Buffer | None = None) -> None:
+        """Make a call.
+
+        Parameters
+        ----------
+        call
+            The call.
+        arguments
+            What it takes after the desk.
+        text
+            The text that may be at fault.
+
+        Raises
+        ------
+        Refused
+            If it is refused.
+        MemoryError
+            If memory ran out.
+        """
+        if self.code(call, *arguments) != layout.OK:
+            refusal = layout.Refusal()
             library.histdesk_refused(self.handle, refusal)
-            raise exception_of(refusal, given)
+            raise exception_of(refusal, text)
 
-    def count(self, ask: Any, *arguments: Any, given: Any = None) -> int:
-        """Makes a call that answers a number in its last argument."""
+    def count(self, ask: Call, *arguments: object, text: Buffer | None = None) -> int:
+        """Return the number that a call writes into its last argument; see `call`."""
         count = ctypes.c_uint64()
-        self.call(ask, *arguments, count, given=given)
+        self.call(ask, *arguments, count, text=text)
         return count.value
 
     # ---- answers
 
-    def text(self, ask: Any, *arguments: Any) -> str:
-        """A text that the library answers."""
-        return _layout.decoded(self.content(library.histdesk_text_copy, 1, ask, *arguments))
+    def text(self, ask: Call, *arguments: object) -> str:
+        """Return a text that the library answers."""
+        return layout.decode(self.content(library.histdesk_text_copy, 1, ask, *arguments))
 
-    def content(self, copy: Any, size: int, ask: Any, *arguments: Any, given: Any = None, numpy: Any = None) -> Any:
-        """What `ask` answers, copied into a buffer of structs of so many bytes; the library forgets it. With numpy it is an
-        array of bytes, which isn't filled before."""
-        count = self.count(ask, *arguments, given=given)
+    def content(self, copy: Call, size: int, ask: Call, *arguments: object) -> bytearray:
+        """Return what `ask` answers, copied into a buffer of structs of so many bytes; the library forgets it."""
+        count = self.count(ask, *arguments)
         try:
-            room = bytearray(count * size) if numpy is None else numpy.empty(count * size, "u1")
-            address = (ctypes.c_char * len(room)).from_buffer(room) if numpy is None else room.ctypes.data
-            complete(copy(self.handle, 0, address, count), count)
+            room = bytearray(count * size)
+            check_copied(copy(self.handle, 0, (ctypes.c_char * len(room)).from_buffer(room), count), count)
             return room
         finally:
             library.histdesk_forget(self.handle)
 
-    def records(self, copy: Any, record: Record, ask: Any, *arguments: Any, given: Any = None) -> Any:
-        """What `ask` answers, as a numpy record array, or as a list of named tuples where there is no numpy."""
-        numpy = _layout.numpy()
-        content = self.content(copy, record.layout.size, ask, *arguments, given=given, numpy=numpy)
-        if numpy is None:
-            return list(map(record.make, record.layout.iter_unpack(content)))
-        return content.view(record.kind()).view(numpy.recarray)
+    def array(self, copy: Call, kind: np.dtype[Any], ask: Call, *arguments: object, text: Buffer | None = None) -> NDArray[Any]:
+        """Return the same as an array of structs of this type, which isn't filled before."""
+        count = self.count(ask, *arguments, text=text)
+        try:
+            room = np.empty(count, kind)
+            check_copied(copy(self.handle, 0, room.ctypes.data, count), count)
+            return room
+        finally:
+            library.histdesk_forget(self.handle)
 
-    def events(self, ask: Any, *arguments: Any, given: Any = None) -> Events:
-        """The events at the places that `ask` answers."""
-        copy, size = library.histdesk_events_copy, _layout.EVENT.size
-        return Events(self.content(copy, size, ask, *arguments, given=given, numpy=_layout.numpy()))
+    def records(
+        self, copy: Call, kind: np.dtype[Any], ask: Call, *arguments: object, text: Buffer | None = None
+    ) -> np.recarray[Any, np.dtype[Any]]:
+        """Return the same as a record array."""
+        return self.array(copy, kind, ask, *arguments, text=text).view(np.recarray)
 
-    def ends(self, ask: Any, *arguments: Any) -> Optional[Tuple[int, int, int]]:
-        """How many events are at the places that `ask` answers, and the stamps of the first and the last of them; `None` where
-        there is none, or `ask` is refused. Raises `MemoryError` where memory ran out."""
-        count, room = ctypes.c_uint64(), ctypes.create_string_buffer(_layout.EVENT.size)
+    def events(self, ask: Call, *arguments: object, text: Buffer | None = None) -> Events:
+        """Return the events at the places that `ask` answers."""
+        return Events(self.array(library.histdesk_events_copy, EVENT_TYPE, ask, *arguments, text=text).view("u1"))
+
+    def ends(self, ask: Call, *arguments: object) -> tuple[int, int, int] | None:
+        """Return how many events are at the places that `ask` answers, and the stamps of the first and the last of them; None
+        if there is none, or `ask` is refused. Raises `MemoryError` if memory ran out."""
+        count, room = ctypes.c_uint64(), ctypes.create_string_buffer(layout.EVENT.size)
         if not self.holds(ask, *arguments, count):
             return None
         try:
             stamps = []
             for at in (0, count.value - 1) if count.value else ():
-                complete(library.histdesk_events_copy(self.handle, at, room, 1), 1)
-                stamps.append(_layout.EVENT.unpack(room.raw)[0])
+                check_copied(library.histdesk_events_copy(self.handle, at, room, 1), 1)
+                stamps.append(layout.EVENT.unpack(room.raw)[0])
             return (count.value, stamps[0], stamps[1]) if stamps else None
         finally:
             library.histdesk_forget(self.handle)
@@ -148,30 +173,42 @@ class Session:
     # ---- of triggers
 
     def trigger_text(self, trigger: int) -> str:
-        """The canonical text of a trigger."""
+        """Return the canonical text of a trigger."""
         return self.text(library.histdesk_trigger_text, trigger)
 
     def shape(self, trigger: int) -> Shape:
-        """What a trigger counts by and sums. An id is never given twice, so it is read once."""
+        """Return what a trigger counts by and sums. An id is never given twice, so it is read once."""
         if trigger not in self._shapes:
             self._shapes[trigger] = Shape(self.trigger_text(trigger))
         return self._shapes[trigger]
 
     def remove(self, trigger: int) -> None:
-        """Removes a trigger."""
+        """Remove a trigger."""
         self.call(library.histdesk_remove, trigger)
         self._shapes.pop(trigger, None)
 
     # ---- of edits
 
     def edit(self, cpu: int, line: int) -> Edit:
-        """What the last edit did, which was an accepted one at that place."""
-        return Edit(cpu, line, *self._told())
+        """Return what the last edit did, which was an accepted one at that place."""
+        return Edit(cpu, line, *self._report())
 
-    def strike_events(self, places: Any, reports: bool) -> Edits:
-        """Strikes the events at places, as `packed` takes them. Without a report any row may have changed. Raises `Refused` at
-        the first one that is refused, which has how many were struck before."""
-        content, count = packed(places)
+    def strike_events(self, places: NDArray[Any] | Iterable[Located], reports: bool) -> Edits:
+        """Strike the events at places.
+
+        Parameters
+        ----------
+        places
+            As `pack_places` takes them.
+        reports
+            Whether the rows that may have changed are reported. Otherwise any row may have changed.
+
+        Raises
+        ------
+        Refused
+            At the first place that is refused. Its `struck` is how many events were struck before.
+        """
+        content, count = pack_places(places)
         struck = ctypes.c_uint64()
         try:
             with bytes_of(content) as (address, _):
@@ -182,10 +219,10 @@ class Session:
         if not struck.value:
             # The report is still that of the edit before.
             return Edits(0, [] if reports else None, bool(library.histdesk_is_deferred(self.handle)))
-        return Edits(struck.value, *self._told())
+        return Edits(struck.value, *self._report())
 
-    def _told(self) -> Tuple[Optional[List[Changed]], bool]:
-        """Which rows the last edit may have changed, if that is known, and whether the tables lack it."""
+    def _report(self) -> tuple[list[Changed] | None, bool]:
+        """Return which rows the last edit may have changed, if that is known, and whether the tables lack it."""
         deferred = bool(library.histdesk_is_deferred(self.handle))
         try:
             return self._changed(), deferred
@@ -193,36 +230,38 @@ class Session:
             # The edit stands, and its report is lost.
             return None, deferred
 
-    def _changed(self) -> Optional[List[Changed]]:
-        """The rows that the report of the last edit names; None where it lacks those of some triggers."""
-        report = _layout.Report()
+    def _changed(self) -> list[Changed] | None:
+        """Return the rows that the report of the last edit names; None if it lacks those of some triggers."""
+        report = layout.Report()
         self.call(library.histdesk_report_of, report)
         if not (report.has_rows and report.has_made):
             return None
         # Both kinds are copied before their triggers are asked for.
         copies = (library.histdesk_rows_changed_copy, report.rows), (library.histdesk_made_changed_copy, report.made)
-        structs = b"".join([self._report(copy, count) for copy, count in copies])
-        return [self._named(fields) for fields in _layout.CHANGED.iter_unpack(structs)]
+        structs = b"".join([self._copy_report(copy, count) for copy, count in copies])
+        return [self._row_name(fields) for fields in layout.CHANGED.iter_unpack(structs)]
 
-    def _report(self, copy: Any, count: int) -> bytes:
+    def _copy_report(self, copy: Call, count: int) -> bytes:
+        """Return so many structs of the report."""
         if not count:
             return b""
-        room = ctypes.create_string_buffer(count * _layout.CHANGED.size)
-        complete(copy(self.handle, 0, room, count), count)
+        room = ctypes.create_string_buffer(count * layout.CHANGED.size)
+        check_copied(copy(self.handle, 0, room, count), count)
         return room.raw
 
-    def _named(self, fields: Any) -> Changed:
+    def _row_name(self, fields: Sequence[Any]) -> Changed:
+        """Return the row that a struct of the report names."""
         return Changed(fields[0], self.shape(fields[0]).key_of(fields[1:]))
 
 
 def this_thread() -> object:
-    """The object of the thread that runs."""
+    """Return the object of the thread that runs."""
     if not hasattr(here, "thread"):
         here.thread = object()
     return here.thread
 
 
-def complete(copied: int, count: int) -> None:
-    """Raises `RuntimeError` where less was copied than was answered: a signal's handler has used the desk meanwhile."""
+def check_copied(copied: int, count: int) -> None:
+    """Raise `RuntimeError` if less was copied than was answered: a signal's handler has used the desk meanwhile."""
     if copied != count:
         raise RuntimeError("the desk was used while an answer was copied")

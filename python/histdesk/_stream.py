@@ -1,22 +1,33 @@
-"""Waits of a trace's text, as the engine tells them while it reads the text piece by piece; needs numpy."""
+"""Waits of a trace's text, as the engine reports them while it reads the text piece by piece."""
 
 from __future__ import annotations
 
 import contextlib
 import ctypes
 import threading
-from typing import Any, Dict, Iterator, NamedTuple, Optional, Tuple
+from collections.abc import Callable, Iterator
+from typing import TYPE_CHECKING, Any, NamedTuple
 
-from . import _layout, _pieces
-from ._kept import Besides, Kept, Nobody, Told, as_told, take_over, within
-from ._layout import needed
-from ._library import library, unlocked
-from ._losses import Losses, losses_copied
-from ._pieces import pieces_of
-from ._refused import exception_of
+import numpy as np
+
+from . import _text
+from ._losses import Losses, copy_losses
+from ._refusal import exception_of
 from ._session import Session
-from ._source import bytes_of
+from ._text import Piece, Text, pieces_of
+from ._times import Stamp
 from ._values import Place
+from ._wait_records import Besides, Kept, Nobody, WaitSink, engine_waits, take_over, within
+from .native import layout
+from .native.buffers import bytes_of
+from .native.library import library, unlocked
+
+if TYPE_CHECKING:
+    from numpy.typing import NDArray
+
+    from ._joined_parts import JoinedWaits
+    from ._source import Trace
+    from ._wait_records import Structs
 
 # So many waits are copied at once.
 CHUNK = 1 << 14
@@ -28,7 +39,7 @@ class Checkpoint(NamedTuple):
 
     at: int
     last: int
-    events: Dict[int, int]
+    events: dict[int, int]
 
     @property
     def total(self) -> int:
@@ -49,26 +60,56 @@ class Read(NamedTuple):
     there are none), what was lost, how many lines can't be read and the first of these, and how many switches are missing
     though no line reports it, and where the first event stands that shows it."""
 
-    events: Dict[int, int]
-    first: Optional[int]
-    last: Optional[int]
+    events: dict[int, int]
+    first: Stamp | None
+    last: Stamp | None
     losses: Losses
     bad_lines: int
-    first_bad_line: Optional[int]
+    first_bad_line: int | None
     missing: int
-    first_missing: Optional[Place]
+    first_missing: Place | None
 
 
-class Streamed(NamedTuple):
-    """The waits of a text, an array of what is kept of each; the names of tasks, by their numbers; what was read; of preempted
-    tasks that were woken or created besides, which waits these are, and where and how that was; and checkpoints of the text,
-    from its beginning to its end."""
+class Sums(NamedTuple):
+    """The sums of a text.
 
-    records: Any
-    names: Any
+    Attributes
+    ----------
+    tasks
+        A row for each task, by PID: an array with the members of `histdesk_task_sum`.
+    cpus
+        A row for each CPU, by number: an array with the members of `histdesk_cpu_sum`.
+    """
+
+    tasks: Structs
+    cpus: Structs
+
+
+class StreamWaits(NamedTuple):
+    """The waits of a text.
+
+    Attributes
+    ----------
+    records
+        An array of what is kept of each wait.
+    names
+        The names of tasks, by their numbers.
+    read
+        What was read.
+    besides
+        For preempted tasks that were also woken or created: which waits these are, and where and how that was.
+    checkpoints
+        Checkpoints of the text, from its beginning to its end.
+    sums
+        The sums of the text, if they were asked for.
+    """
+
+    records: Structs
+    names: NDArray[np.object_]
     read: Read
     besides: Besides
-    checkpoints: Tuple[Checkpoint, ...] = ()
+    checkpoints: tuple[Checkpoint, ...] = ()
+    sums: Sums | None = None
 
 
 class ReadText(NamedTuple):
@@ -77,64 +118,92 @@ class ReadText(NamedTuple):
 
     feed: Feed
     read: Read
-    waits: Any
-    checkpoints: Tuple[Checkpoint, ...]
+    waits: WaitSink | JoinedWaits
+    checkpoints: tuple[Checkpoint, ...]
 
 
-def read_pieces(pieces: Iterator[Any], lenient: bool, told: Told) -> ReadText:
-    """Reads a text that comes in pieces, which are unpacked; `told` takes its waits.
+def read_pieces(pieces: Iterator[Piece], lenient: bool, sink: WaitSink, sums: bool = False) -> ReadText:
+    """Read a text that comes in pieces.
 
-    With `lenient`, lines that can't be read are counted and skipped. Raises `Refused` for the first one otherwise, `Backwards`
-    if the text isn't in the order of time, `OSError` if it can't be read, and `MemoryError`; the stream is closed then."""
+    Parameters
+    ----------
+    pieces
+        The pieces, unpacked.
+    lenient
+        Whether lines that can't be read are counted and skipped.
+    sink
+        What takes the waits.
+    sums
+        Whether the text is also summed up by task and by CPU, for `Feed.sums`.
+
+    Raises
+    ------
+    Refused
+        For the first line that can't be read, unless such lines are skipped.
+    Backwards
+        If the text isn't in time order.
+    OSError, MemoryError
+        If it can't be read. The stream is closed then, as after the other two.
+    """
     with contextlib.ExitStack() as failing:
-        feed = Feed(lenient, told)
+        feed = Feed(lenient, sink)
         failing.callback(feed.close)
-        noted = Noted(feed)
+        if sums:
+            feed.sum_up()
+        notes = CheckpointNotes(feed)
         for piece in pieces:
             feed.feed(piece)
-            noted.add(piece)
+            notes.add(piece)
         read = feed.end()
         failing.pop_all()
-    return ReadText(feed, read, told, noted.finish(read))
+    return ReadText(feed, read, sink, notes.finish(read))
 
 
-def streamed(pieces: Iterator[Any], lenient: bool = False, judges: bool = True) -> Streamed:
-    """The waits of a text that comes in pieces. How sure they are by what the text tells itself is found out if it `judges`.
-    The other words are those of `read_pieces`, and so is what it raises."""
-    return streamed_from(read_pieces(pieces, lenient, Kept(CHUNK)), judges)
+def read_waits(pieces: Iterator[Piece], lenient: bool = False, judges: bool = True, sums: bool = False) -> StreamWaits:
+    """Return the waits of a text that comes in pieces.
+
+    Parameters
+    ----------
+    pieces, lenient, sums
+        As for `read_pieces`, which also says what is raised.
+    judges
+        Whether it is found out how sure the waits are, by what the text itself says of losses.
+    """
+    return end_waits(read_pieces(pieces, lenient, Kept(CHUNK), sums), judges, sums)
 
 
-def streamed_from(found: ReadText, judges: bool = True) -> Streamed:
-    """The waits of a text that was read, whose stream is closed."""
-    with contextlib.closing(found.feed) as feed:
-        records, besides = found.waits.all()
-        if found.read.losses.holes and judges:
+def end_waits(text: ReadText, judges: bool = True, sums: bool = False) -> StreamWaits:
+    """Return the waits of a text that was read, and close its stream; the parameters are those of `read_waits`."""
+    with contextlib.closing(text.feed) as feed:
+        records, besides = text.waits.all()
+        if text.read.losses.holes and judges:
             judge_all(feed, records, besides)
-        return Streamed(records, in_order(records, found.waits.names()), found.read, besides, found.checkpoints)
+        names = in_order(records, text.waits.names())
+        return StreamWaits(records, names, text.read, besides, text.checkpoints, feed.sums() if sums else None)
 
 
-def in_order(records: Any, names: Any) -> Any:
-    """The names of tasks in the order in which waits have them first. Records get their new numbers."""
-    numpy = needed()
-    first = numpy.full(len(names), len(records))
+def in_order(records: Structs, names: NDArray[np.object_]) -> NDArray[np.object_]:
+    """Return the names of tasks in the order in which waits have them first, and give records their new numbers."""
+    first = np.full(len(names), len(records))
     # Of several waits with one name the first one of all is written last.
-    first[records["name"][::-1]] = numpy.arange(len(records) - 1, -1, -1)
+    first[records["name"][::-1]] = np.arange(len(records) - 1, -1, -1)
     order = first.argsort(kind="stable")
-    numbers = numpy.empty(len(names), "u4")
-    numbers[order] = numpy.arange(len(names))
+    numbers = np.empty(len(names), "u4")
+    numbers[order] = np.arange(len(names))
     records["name"] = numbers[records["name"]]
-    return names[order]
+    ordered: NDArray[np.object_] = names[order]
+    return ordered
 
 
-def judge_all(feed: Feed, records: Any, besides: Besides) -> None:
-    """Finds out how sure all waits of a text are, and with what they began."""
+def judge_all(feed: Feed, records: Structs, besides: Besides) -> None:
+    """Find out how sure all waits of a text are, and with what they began."""
     for start in range(0, len(records), CHUNK):
         part = records[start : start + CHUNK]
         feed.judge(part, within(besides, start, len(part)))
 
 
-def losses_of_pieces(pieces: Iterator[Any]) -> Losses:
-    """What a text in the order of time tells of lost events; lines that can't be read are skipped. Raises `Backwards` if it is
+def losses_of_pieces(pieces: Iterator[Piece]) -> Losses:
+    """Return what a text in the order of time reports lost; lines that can't be read are skipped. Raises `Backwards` if it is
     in another order."""
     with contextlib.closing(Feed(True, Nobody())) as feed:
         for piece in pieces:
@@ -142,45 +211,45 @@ def losses_of_pieces(pieces: Iterator[Any]) -> Losses:
         return feed.end().losses
 
 
-class Noted:
+class CheckpointNotes:
     """Checkpoints of a text, which are noted while a stream reads it."""
 
     def __init__(self, feed: Feed, at: int = 0) -> None:
-        """Of the text from a byte on, which the stream reads from now on."""
+        """Begin at the byte of the text from which on the stream reads."""
         self._feed = feed
         # How many bytes were read, and how many until the last line break.
         self._read = self._ended = at
-        self.found = [Checkpoint(at, *feed.so_far())]
+        self.checkpoints = [Checkpoint(at, *feed.so_far())]
 
-    def add(self, piece: Any) -> None:
-        """Notes one after a piece of the text that the stream has taken, if many bytes came since the last one."""
+    def add(self, piece: Piece) -> None:
+        """Note a checkpoint after a piece that the stream has taken, if many bytes came since the last one."""
         line = last_break(piece)
         self._ended = self._read + line if line else self._ended
         self._read += len(piece)
-        if line and self._ended >= self.found[-1].at + _pieces.PIECE:
-            self.found.append(Checkpoint(self._ended, *self._feed.so_far()))
+        if line and self._ended >= self.checkpoints[-1].at + _text.PIECE:
+            self.checkpoints.append(Checkpoint(self._ended, *self._feed.so_far()))
 
-    def finish(self, read: Read) -> Tuple[Checkpoint, ...]:
-        """Notes one at the text's end; all of them."""
+    def finish(self, read: Read) -> tuple[Checkpoint, ...]:
+        """Note a checkpoint at the text's end, and return all of them."""
         last = -1 if read.last is None else read.last
-        return (*self.found, Checkpoint(self._read, last, read.events))
+        return (*self.checkpoints, Checkpoint(self._read, last, read.events))
 
 
-def last_break(piece: Any) -> int:
-    """How many bytes of a piece stand up to its last line break, that one too; 0 if it has none."""
+def last_break(piece: Piece) -> int:
+    """Return how many bytes of a piece its last line break ends; 0 if it has none."""
     room = 4096
     with memoryview(piece) as content:
         while True:
-            found = bytes(content[-room:]).rfind(b"\n")
-            if found >= 0:
-                return max(len(content) - room, 0) + found + 1
+            at = bytes(content[-room:]).rfind(b"\n")
+            if at >= 0:
+                return max(len(content) - room, 0) + at + 1
             if room >= len(content):
                 return 0
             room *= 16
 
 
-def line_at(trace: Any, number: int) -> bytes:
-    """A line of a trace's text that can be read again, by its number from 1."""
+def line_at(trace: Trace | Text, number: int) -> bytes:
+    """Return a line of a trace's text that can be read again, by its number from 1."""
     left, tail = number - 1, b""
     for piece in pieces_of(trace):
         lines = (tail + bytes(piece)).split(b"\n")
@@ -190,94 +259,113 @@ def line_at(trace: Any, number: int) -> bytes:
     return tail
 
 
-def held(session: Session) -> Kept:
-    """The waits of the events that a desk holds. Raises `MemoryError` if memory ran out."""
+def held_waits(session: Session) -> Kept:
+    """Return the waits of the events that a desk holds. Raises `MemoryError` if memory ran out."""
     session.holds(library.histdesk_waits_held, ctypes.c_uint64())
     kept = Kept(CHUNK)
-    kept.add_told(session.handle)
+    kept.copy_waits(session.handle)
     return kept
 
 
 class Feed:
-    """A stream of the engine's, and what takes the waits that it tells."""
+    """A stream of the engine's, and what takes the waits that it reports."""
 
-    def __init__(self, lenient: bool, told: Told, is_part: bool = False) -> None:
-        """Of a whole text, or of a part of one that begins later and is to be joined."""
+    def __init__(self, lenient: bool, sink: WaitSink, is_part: bool = False) -> None:
+        """Begin to read a whole text, or a part of one that begins later and is to be joined."""
         self._session = Session()
         self._lock = threading.Lock()
-        self.told = told
+        self.sink = sink
         self._call(library.histdesk_waits_part if is_part else library.histdesk_waits_new, lenient)
 
     def close(self) -> None:
-        """Gives back its memory."""
+        """Free its memory."""
         self._session.close()
 
-    def feed(self, piece: Any) -> None:
-        """Takes the next piece of the text, a buffer."""
+    def feed(self, piece: Piece) -> None:
+        """Take the next piece of the text, a buffer."""
         with bytes_of(piece) as (address, length):
             self._call(unlocked.histdesk_waits_feed, ctypes.c_void_p(address), length, ctypes.c_uint64())
-        self.told.add_told(self._session.handle)
+        self.sink.copy_waits(self._session.handle)
 
-    def join(self, part: Feed, completed: Told) -> bool:
-        """Takes the text of a part, which another stream has read from its own start; whether the two fit together. The waits
-        that end there with the first switch to each task go to `completed`. The part is closed in either case."""
+    def join(self, part: Feed, completions: WaitSink) -> bool:
+        """Take the text of a part, which another stream has read from its own start, and return whether the two fit together.
+        The waits that end there with the first switch to each task go to `completions`. The part is closed in either case."""
         try:
             self._call(library.histdesk_waits_join, part._session.handle, ctypes.c_uint64())
         except NotJoined:
             return False
-        completed.add_told(self._session.handle)
+        completions.copy_waits(self._session.handle)
         return True
 
     def end(self) -> Read:
-        """Takes the end of the text: what was read."""
-        read = _layout.WaitsRead()
+        """Take the end of the text, and return what was read."""
+        read = layout.WaitsRead()
         self._call(library.histdesk_waits_finish, read, ctypes.c_uint64())
-        self.told.add_told(self._session.handle)
+        self.sink.copy_waits(self._session.handle)
         return self._read(read)
 
-    def judge(self, records: Any, besides: Besides) -> None:
-        """Finds out how sure waits of the text are, which has ended, and with what they began: writes it to their records."""
-        waits = as_told(records, besides)
+    def sum_up(self) -> None:
+        """Have the text summed up by task and by CPU. It is called before the first piece."""
+        self._call(library.histdesk_waits_sum_up)
+
+    def sums(self) -> Sums:
+        """Return the sums of the text, which has ended; they are empty if `sum_up` wasn't called."""
+        tasks = self._every(library.histdesk_waits_tasks, layout.TaskSum)
+        return Sums(tasks, self._every(library.histdesk_waits_cpus, layout.CpuSum))
+
+    def judge(self, records: Structs, besides: Besides) -> None:
+        """Write to the records of waits how sure they are, and with what they began. The text has ended."""
+        waits = engine_waits(records, besides)
         # Several threads may judge.
         with self._lock:
             self._call(unlocked.histdesk_waits_doubt, waits.ctypes.data, len(waits))
         take_over(records, waits)
 
-    def so_far(self) -> Tuple[int, Dict[int, int]]:
-        """The stamp of the last event in the lines that have ended, -1 if there is none, and how many events each CPU has in
-        them."""
+    def so_far(self) -> tuple[int, dict[int, int]]:
+        """Return the stamp of the last event in the lines that have ended, -1 if there is none, and how many events each CPU
+        has in them."""
         last, has_last = ctypes.c_uint64(), ctypes.c_bool()
         self._call(library.histdesk_waits_last, last, has_last)
         return last.value if has_last.value else -1, self._events()
 
-    def _events(self) -> Dict[int, int]:
-        """How many events each CPU has."""
-        counts = self._copied(library.histdesk_waits_events, "=u4", _layout.CPUS)
-        return {cpu: int(counts[cpu]) for cpu in needed().flatnonzero(counts).tolist()}
+    def _events(self) -> dict[int, int]:
+        """Return how many events each CPU has."""
+        counts = self._copy(library.histdesk_waits_events, "=u4", layout.CPUS)
+        return {cpu: int(counts[cpu]) for cpu in np.flatnonzero(counts).tolist()}
 
-    def _call(self, call: Any, *arguments: Any) -> None:
-        """Makes a call, and raises what it is refused with."""
+    def _call(self, call: Callable[..., int], *arguments: object) -> None:
+        """Make a call, and raise what it is refused with."""
         handle = self._session.handle
-        if call(handle, *arguments) != _layout.OK:
-            refusal = _layout.Refusal()
+        if call(handle, *arguments) != layout.OK:
+            refusal = layout.Refusal()
             library.histdesk_waits_refused(handle, refusal)
-            if refusal.number == _layout.BACKWARDS:
+            if refusal.number == layout.BACKWARDS:
                 raise Backwards(refusal.line)
-            raise NotJoined() if refusal.number == _layout.NOT_JOINED else exception_of(refusal)
+            raise NotJoined() if refusal.number == layout.NOT_JOINED else exception_of(refusal)
 
-    def _copied(self, copy: Any, kind: Any, count: int) -> Any:
-        """So many items that a call copies."""
-        items = needed().empty(count, kind)
+    def _copy(self, copy: Callable[..., int], kind: str, count: int) -> NDArray[np.uint32]:
+        """Return so many items that a call copies."""
+        items = np.empty(count, kind)
         copy(self._session.handle, 0, items.ctypes.data, count)
         return items
 
-    def _read(self, read: Any) -> Read:
-        """What was read."""
-        losses = losses_copied(library.histdesk_waits_holes, self._session.handle, read)
+    def _every(self, copy: Callable[..., int], kind: type[ctypes.Structure]) -> Structs:
+        """Return all structs that a call copies."""
+        count = CHUNK
+        parts: list[NDArray[Any]] = []
+        while count == CHUNK:
+            room = np.empty(CHUNK, np.dtype(kind))
+            count = copy(self._session.handle, CHUNK * len(parts), room.ctypes.data, CHUNK)
+            parts.append(room[:count])
+        return np.concatenate(parts)
+
+    def _read(self, read: layout.WaitsRead) -> Read:
+        """Return what was read."""
+        losses = copy_losses(library.histdesk_waits_holes, self._session.handle, read)
         events = self._events()
-        first, last = (read.first, read.last) if read.has_first else (None, None)
+        first, last = (Stamp(read.first), Stamp(read.last)) if read.has_first else (None, None)
         at = read.missing_at
-        first_missing = Place(at.stamp, at.cpu, at.line) if read.missing else None
+        first_missing = Place(Stamp(at.stamp), at.cpu, at.line) if read.missing else None
         return Read(events, first, last, losses, read.bad, read.bad_line or None, read.missing, first_missing)
 
 
@@ -288,10 +376,10 @@ class Stream(Feed):
         self._kept = Kept(CHUNK)
         super().__init__(lenient, self._kept)
 
-    def finish(self, judges: bool) -> Streamed:
-        """Takes the end of the text: its waits, and what was read. How sure they are is found out if it `judges`."""
+    def finish(self, judges: bool) -> StreamWaits:
+        """Take the end of the text, and return its waits and what was read. If it `judges`, how sure they are is found out."""
         read = self.end()
         records, besides = self._kept.all()
         if read.losses.holes and judges:
             judge_all(self, records, besides)
-        return Streamed(records, self._kept.names(), read, besides)
+        return StreamWaits(records, self._kept.names(), read, besides)

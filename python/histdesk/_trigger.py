@@ -2,21 +2,43 @@
 
 from __future__ import annotations
 
-from typing import Any, List, Optional, Sequence, Tuple
+from collections.abc import Sequence
+from typing import TYPE_CHECKING, Any
 
-from . import _layout, _shape, _shown
-from ._given import Text, as_bytes
-from ._library import library
-from ._session import LATENCIES, Session
+from . import _row_shape, _tables
+from ._frames import Times, finished
+from ._public import public
+from ._rows import frame_of
+from ._session import Session
 from ._values import Latency, Totals
+from .native import layout
+from .native.arguments import Text, as_bytes
+from .native.arrays import LATENCY_TYPE
+from .native.library import library
+
+if TYPE_CHECKING:
+    import numpy as np
+    from pandas import DataFrame  # type: ignore[import]
 
 
+@public
 class Trigger:
     """A trigger that is attached to a desk; `Desk.attach` and `Desk.trigger` make it.
 
-    What it answers is that of the events and triggers that are there at that moment. Where it is no longer attached, all
-    calls raise `Refused` with number 10. Where memory runs out they raise `MemoryError`, and the desk is as before.
+    Each answer is that of the events and triggers present at that moment. If it is no longer attached, all calls
+    raise `Refused` with number 10. If memory runs out they raise `MemoryError`, and the desk is as before.
 
+    Parameters
+    ----------
+    session
+        The desk that it is attached to.
+    number
+        Its id.
+    event
+        The name of the event that it is attached to.
+
+    Examples
+    --------
     >>> desk = Desk()
     >>> edit = desk.insert(" sim-1 [000] d.h.. 1.000100: sched_waking: comm=w pid=42 prio=120 target_cpu=001")
     >>> wakings = desk.attach("sched_waking", "hist:keys=pid:vals=prio")
@@ -44,112 +66,178 @@ class Trigger:
 
     @property
     def canonical(self) -> str:
-        """Its text as the desk writes it, with all that was left out. Attaching it gives the same trigger."""
+        """Its text as the desk writes it, with all defaults filled in. Attaching it gives the same trigger."""
         return self._session.trigger_text(self._id)
 
     @property
-    def names(self) -> Tuple[str, ...]:
+    def names(self) -> tuple[str, ...]:
         """The names of a row's parts: the fields of its keys, `hitcount`, and the fields or variables that it sums. A value
         that is a key too has `_sum` after its name."""
         return self._session.shape(self._id).names
 
     @property
-    def filter(self) -> Optional[str]:
+    def filter(self) -> str | None:
         """The filter's text as the desk writes it, or None. It can be set to another text, or to None; a text that can't be
         read is refused with number 9, and the filter stays."""
-        return _shape.filter_of(self.canonical)
+        return _row_shape.filter_of(self.canonical)
 
     @filter.setter
-    def filter(self, text: Optional[Text]) -> None:
+    def filter(self, text: Text | None) -> None:
         if text is None:
             self._session.call(library.histdesk_unfilter, self._id)
         else:
-            given = as_bytes(text)
-            self._session.call(library.histdesk_refilter, self._id, given, len(given), given=given)
+            content = as_bytes(text)
+            self._session.call(library.histdesk_refilter, self._id, content, len(content), text=content)
 
     def text(self) -> str:
-        """The table as the kernel's `hist` file shows it, with the totals."""
+        """Return the table as text.
+
+        Returns
+        -------
+        str
+            What the kernel's `hist` file shows, with the totals.
+
+        Raises
+        ------
+        Refused
+            10 if the trigger isn't attached any more.
+        """
         return self._session.text(library.histdesk_hist, self._id)
 
-    def rows(self) -> List[Any]:
-        """The rows of the table, in the order of `text`, as named tuples: the key's parts, `hitcount`, and the sums.
+    def rows(self) -> list[Any]:
+        """Return the rows of the table, in the order of `text`.
 
-        Numbers are `int`, with their sign; under `.log2` they are `Log2`, under `.buckets` `Bucket`; names are `str`. Sums
-        are modulo 2^64, of stamps and latencies in microseconds. A variable that Python doesn't take for a name has another
-        one in the tuple (`_2` by its place, or a `_` after a keyword); `names` has them as they are."""
+        Returns
+        -------
+        list of Row
+            Named tuples of the key's parts, `hitcount`, and the sums. Numbers are `int`, with their sign; under `.log2` they
+            are `Log2`, under `.buckets` `Bucket`; names are `str`. Sums are modulo 2^64, of stamps and latencies in
+            microseconds. A variable that Python doesn't take for a name has another one in the tuple (`_2` by its place, or a
+            `_` after a keyword); `names` has them as they are.
+
+        Raises
+        ------
+        Refused
+            10 if the trigger isn't attached any more.
+        """
         shape = self._session.shape(self._id)
-        return [shape.row_of(fields) for fields in _layout.ROW.iter_unpack(self._rows())]
+        return [shape.row_of(fields) for fields in layout.ROW.iter_unpack(self._structs())]
 
     def totals(self) -> Totals:
-        """How many hits were counted, how many keys are in the table, and how many hits found no room in it."""
-        totals = _layout.Totals()
+        """Return the totals of the table.
+
+        Returns
+        -------
+        Totals
+            How many events were counted, how many keys are in the table, and how many events found no room in it.
+
+        Raises
+        ------
+        Refused
+            10 if the trigger isn't attached any more.
+        """
+        totals = layout.Totals()
         self._session.call(library.histdesk_totals_of, self._id, totals)
         return Totals(totals.hits, totals.entries, totals.dropped)
 
-    def latencies(self) -> Any:
-        """The times that the trigger measured, one by one, in the order of the events that end them.
+    def latencies(self) -> np.recarray[Any, Any]:
+        """Return the times that the trigger measured, one by one, in the order of the events that end them.
 
-        They are a numpy record array where numpy is there, else a list of `Latency`; the names of the fields are the same.
-        Stamps and `micros` are in microseconds. A trigger that reads no variable is refused with number 17."""
-        return self._session.records(library.histdesk_latencies_copy, LATENCIES, library.histdesk_latencies, self._id)
+        Returns
+        -------
+        numpy.recarray
+            An element for each latency, with the fields of `Latency`. Stamps and `micros` are in microseconds.
 
-    def to_pandas(self, what: Optional[str] = None) -> Any:
-        """A DataFrame: of the `"rows"`, with `names` as columns, or of the `"latencies"`. Without a word it is the latencies of
-        a trigger that reads a variable, and the rows of another one.
+        Raises
+        ------
+        Refused
+            17 if the trigger reads no variable, and 10 if it isn't attached any more.
+        """
+        return self._session.records(library.histdesk_latencies_copy, LATENCY_TYPE, library.histdesk_latencies, self._id)
 
-        `.log2` gives the power, `.buckets` the least value of each bucket. Sums are unsigned numbers of 64 bits, all others
-        signed ones. Raises `ImportError` where pandas isn't there, and `ValueError` of another word."""
-        import pandas  # type: ignore[import]
+    def to_pandas(self) -> DataFrame:
+        """Return the table.
 
-        shape = self._session.shape(self._id)
-        if what is None:
-            what = "latencies" if shape.reads else "rows"
-        if what == "latencies":
-            return pandas.DataFrame(self.latencies(), columns=Latency._fields).astype("int64")
-        if what != "rows":
-            raise ValueError(f"{what!r} is neither 'rows' nor 'latencies'")
-        columns = list(zip(*self.rows())) or [()] * len(shape.names)
-        return pandas.DataFrame(
-            {name: pandas.Series(column, dtype=kind) for name, column, kind in zip(shape.names, columns, shape.kinds)}
-        )
+        Returns
+        -------
+        pandas.DataFrame
+            A row for each key, with `names` as columns. `.log2` gives the power, `.buckets` the least value of each bucket.
+            Sums are unsigned numbers of 64 bits, all others signed ones.
+
+        Raises
+        ------
+        Refused
+            10 if the trigger isn't attached any more.
+        ImportError
+            If pandas is missing.
+        """
+        return frame_of(self._session.shape(self._id), self.rows())
+
+    def latencies_to_pandas(self, *, times: Times = "micros") -> DataFrame:
+        """Return the latencies.
+
+        Parameters
+        ----------
+        times
+            `"micros"` for whole microseconds, `"timedelta"` for `timedelta64`.
+
+        Returns
+        -------
+        pandas.DataFrame
+            A row for each latency, in the order in which they were measured: where the stamp was saved, where it was read, and
+            `micros`, their difference in microseconds.
+
+        Raises
+        ------
+        Refused
+            17 if the trigger reads no variable, and 10 if it isn't attached any more.
+        ImportError
+            If pandas is missing.
+        """
+        import pandas
+
+        return finished(pandas.DataFrame(self.latencies(), columns=Latency._fields).astype("int64"), times)
 
     def remove(self) -> None:
-        """Takes the trigger off its desk. It is refused with number 11 where another one reads what it saves."""
+        """Remove the trigger from its desk.
+
+        Raises
+        ------
+        Refused
+            11 if another trigger reads what it saves, and 10 if it isn't attached any more.
+        """
         self._session.remove(self._id)
 
-    def _rows(self) -> bytearray:
-        content: bytearray = self._session.content(
-            library.histdesk_rows_copy, _layout.ROW.size, library.histdesk_rows, self._id
-        )
-        return content
+    def _structs(self) -> bytearray:
+        """Return the structs of the rows."""
+        return self._session.content(library.histdesk_rows_copy, layout.ROW.size, library.histdesk_rows, self._id)
 
-    def _table(self) -> _shown.Table:
-        """The ends of the table."""
-        shape, content = self._session.shape(self._id), self._rows()
-        size = _layout.ROW.size
+    def _table(self) -> _tables.Table:
+        """Return the ends of the table."""
+        shape, structs = self._session.shape(self._id), self._structs()
+        size = layout.ROW.size
 
         def row(at: int) -> Sequence[Any]:
-            fields: Sequence[Any] = shape.row_of(_layout.ROW.unpack_from(content, at * size))
-            return fields
+            return shape.row_of(layout.ROW.unpack_from(structs, at * size))
 
-        return _shown.table_of(shape.names, len(content) // size, row)
+        return _tables.table_of(shape.names, len(structs) // size, row)
 
-    def _told(self) -> Tuple[str, List[_shown.Table], str]:
-        """What is shown: a title, the table, and the totals; or why there are none, as the title."""
+    def _display(self) -> tuple[str, list[_tables.Table], str]:
+        """Return what is shown: a title, the table, and the totals; or why there are none, as the title."""
         title = f"histdesk.Trigger {self._id} on {self._event}"
         try:
             totals = self.totals()
-            told = f"hits {totals.hits}, entries {totals.entries}, dropped {totals.dropped}"
-            return f"{title}: {self.canonical}", [self._table()], told
+            foot = f"hits {totals.hits}, entries {totals.entries}, dropped {totals.dropped}"
+            return f"{title}: {self.canonical}", [self._table()], foot
         except Exception as error:
             return f"<{title}: {error}>", [], ""
 
     def __repr__(self) -> str:
-        title, tables, told = self._told()
-        return "\n".join([_shown.shown(title), *map(_shown.in_text, tables), *filter(None, [told])])
+        title, tables, foot = self._display()
+        return "\n".join([_tables.printable(title), *map(_tables.in_text, tables), *filter(None, [foot])])
 
     def _repr_html_(self) -> str:
-        return _shown.in_html(*self._told())
+        return _tables.in_html(*self._display())
 
     def __eq__(self, other: object) -> bool:
         if not isinstance(other, Trigger):

@@ -2,14 +2,19 @@
 
 from __future__ import annotations
 
-from typing import Any, List, NamedTuple, Optional, Tuple
+from typing import NamedTuple, TypeAlias
+
+from ._public import public
 
 MOST = 2**64 - 1
 
 
+@public
 class Log2(int):
     """A key's part under `.log2`: the number n of the values above 2^(n-1), up to 2^n; 0 of the values 0 and 1.
 
+    Examples
+    --------
     >>> waited = Log2(6)
     >>> waited == 6, waited.low, waited.high, str(waited)
     (True, 33, 64, '2^6')
@@ -32,9 +37,19 @@ class Log2(int):
         return f"2^{int(self)}"
 
 
+@public
 class Bucket(int):
     """A key's part under `.buckets=SIZE`: the least of the values that it stands for.
 
+    Parameters
+    ----------
+    low
+        The least value.
+    size
+        How many values there are.
+
+    Examples
+    --------
     >>> pids = Bucket(32, 16)
     >>> pids == 32, pids.low, pids.high, str(pids)
     (True, 32, 47, '32-47')
@@ -47,7 +62,7 @@ class Bucket(int):
         bucket.size = size
         return bucket
 
-    def __getnewargs__(self) -> Tuple[int, int]:  # type: ignore[override]
+    def __getnewargs__(self) -> tuple[int, int]:  # type: ignore[override]
         return int(self), self.size
 
     @property
@@ -67,26 +82,95 @@ class Bucket(int):
         return f"{self.low}-{self.high}"
 
 
+# A part of a key, and a key: a number, also a `Log2` or `Bucket`, or a name.
+KeyPart: TypeAlias = int | str
+KeyParts: TypeAlias = tuple[KeyPart, ...]
+
+
+@public
 class Totals(NamedTuple):
-    """A table's totals: counted hits, keys in the table, and hits that found no room in it."""
+    """The totals of a trigger's table.
+
+    Attributes
+    ----------
+    hits
+        How many events were counted.
+    entries
+        How many keys are in the table.
+    dropped
+        How many events found no room in it.
+    """
 
     hits: int
     entries: int
     dropped: int
 
 
+@public
 class Place(NamedTuple):
-    """Where an event stands: its stamp in microseconds, its CPU, and its line there, from 1. Places sort in the order in which
-    the events go past the triggers."""
+    """Where an event stands. Places sort in the order in which the events go past the triggers.
+
+    Attributes
+    ----------
+    stamp
+        Its stamp, in microseconds.
+    cpu
+        Its CPU, from 0.
+    line
+        Its line on that CPU, from 1.
+    """
 
     stamp: int
     cpu: int
     line: int
 
 
+@public
+class Wait(NamedTuple):
+    """A wait of a task for a processor.
+
+    Attributes
+    ----------
+    task
+        The task's name, as given by the switch that runs it.
+    pid, prio
+        Its PID and its priority.
+    kind
+        `woken`, `new` or `preempted`.
+    begin, end
+        The events with which it begins and ends.
+    micros
+        How long it lasted, in microseconds.
+    doubtful
+        Whether lost events may have made it false.
+    likely
+        Whether it is doubtful but probably true, since the CPUs on which it began and ended lost no events.
+    """
+
+    task: str
+    pid: int
+    prio: int
+    kind: str
+    begin: Place
+    end: Place
+    micros: int
+    doubtful: bool
+    likely: bool
+
+
+@public
 class Latency(NamedTuple):
-    """The time between two events, in microseconds: that which saved a stamp, and that which read it. Stamps are in
-    microseconds, lines count from 1."""
+    """The time between two events that a trigger measured.
+
+    Attributes
+    ----------
+    saved_stamp, saved_cpu, saved_line
+        The event whose stamp was saved: its stamp in microseconds, its CPU, and its line there, from 1.
+    read_stamp, read_cpu, read_line
+        The event at which it was read.
+    micros
+        The time between them, in microseconds.
+    """
 
     saved_stamp: int
     saved_cpu: int
@@ -97,12 +181,26 @@ class Latency(NamedTuple):
     micros: int
 
 
+@public
 class Event(NamedTuple):
-    """A held event. What the line of its name doesn't have is None.
+    """An event that a desk holds. What an event of its name doesn't have is None.
 
-    `name` is that of the kernel, or `other` for an event of which the desk holds the common part alone. `task` and
-    `common_pid` are the task that ran; `comm`, `pid` and `prio` are the task that was woken, or that was switched to
-    (`next_comm` and so on); those that begin with `prev_` are the task that was switched from.
+    Attributes
+    ----------
+    stamp
+        Its stamp, in microseconds.
+    cpu, line
+        Its CPU, and its line there, from 1.
+    name
+        The kernel's name, or `other` for an event of which the desk holds only the common part.
+    task, common_pid
+        The task that ran: its name and its PID.
+    comm, pid, prio
+        The task that was woken, or that was switched to: its name, its PID and its priority.
+    target_cpu
+        The CPU on which a woken task is to run.
+    prev_comm, prev_pid, prev_prio, prev_state
+        The task that was switched from, and its state.
     """
 
     stamp: int
@@ -111,45 +209,68 @@ class Event(NamedTuple):
     name: str
     task: str
     common_pid: int
-    comm: Optional[str] = None
-    pid: Optional[int] = None
-    prio: Optional[int] = None
-    target_cpu: Optional[int] = None
-    prev_comm: Optional[str] = None
-    prev_pid: Optional[int] = None
-    prev_prio: Optional[int] = None
-    prev_state: Optional[str] = None
+    comm: str | None = None
+    pid: int | None = None
+    prio: int | None = None
+    target_cpu: int | None = None
+    prev_comm: str | None = None
+    prev_pid: int | None = None
+    prev_prio: int | None = None
+    prev_state: str | None = None
 
 
+@public
 class Changed(NamedTuple):
-    """A row that an edit may have changed: its trigger's id, and its key, part by part as in `Trigger.rows`."""
+    """A row that an edit may have changed.
+
+    Attributes
+    ----------
+    trigger
+        Its trigger's id.
+    key
+        Its key, part by part as in `Trigger.rows`.
+    """
 
     trigger: int
-    key: Tuple[Any, ...]
+    key: KeyParts
 
 
+@public
 class Edits(NamedTuple):
     """What an accepted `strike_events` did.
 
-    `struck` is how many events were struck. `changed` names rows that went or may have changed by all of these strikes
-    together, each once, and all others are as they were; it is None where there is no such report, and then any row may have
-    changed. `deferred` says that there was no memory for the tables: the edits stand, and the next answer builds them anew.
+    Attributes
+    ----------
+    struck
+        How many events were struck.
+    changed
+        The rows that went or may have changed by all of these strikes together, each once; all others are as they were. None if
+        there is no such report, and then any row may have changed.
+    deferred
+        Whether there was no memory for the tables: the edits stand, and the next answer builds them anew.
     """
 
     struck: int
-    changed: Optional[List[Changed]]
+    changed: list[Changed] | None
     deferred: bool
 
 
+@public
 class Edit(NamedTuple):
     """What an accepted `insert` or `strike` did.
 
-    `cpu` and `line` say where the event stands, or stood. `changed` names rows that came, went or may have changed, and all
-    others are as they were; it is None where there is no such report, and then any row may have changed. `deferred` says
-    that there was no memory for the tables: the edit stands, and the next answer builds them anew.
+    Attributes
+    ----------
+    cpu, line
+        Where the event stands, or stood.
+    changed
+        The rows that came, went or may have changed; all others are as they were. None if there is no such report, and then
+        any row may have changed.
+    deferred
+        Whether there was no memory for the tables: the edit stands, and the next answer builds them anew.
     """
 
     cpu: int
     line: int
-    changed: Optional[List[Changed]]
+    changed: list[Changed] | None
     deferred: bool

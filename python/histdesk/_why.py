@@ -1,18 +1,22 @@
-"""One wait told: who woke the task, where it was queued, and what ran on its CPU meanwhile."""
+"""One wait, explained: who woke the task, where it was queued, and what ran on its CPU meanwhile."""
 
 from __future__ import annotations
 
 import html
 import warnings
-from typing import TYPE_CHECKING, List, NamedTuple, Optional, Sequence, Tuple, Union
+from collections.abc import Sequence
+from typing import TYPE_CHECKING, Any, NamedTuple, Protocol
 
 from . import _why_text
-from ._around import gathered
+from ._chain import STEPS, Chain
+from ._columns import COLUMNS
 from ._losses import Hole, LossWarning
-from ._ran import Runner, Share, Stretch, shares_of
+from ._public import public
 from ._recording import Recording
 from ._scene import FORKED, PREEMPTED, Scene, Steps, Wait, spanned
 from ._slices import Source
+from ._stretches import Runner, Share, Stretch, shares_of
+from ._surroundings import gather
 from ._values import Event
 
 if TYPE_CHECKING:
@@ -20,44 +24,111 @@ if TYPE_CHECKING:
     from ._waits import Waits
 
 
-class Why(NamedTuple):
-    """One wait of a task, and what ran instead of it. Stamps are in microseconds, lines are those of the whole trace.
+class ChainFinder(Protocol):
+    """What knows the recording of an explained wait."""
 
-    | Field | What it is |
-    |---|---|
-    | `kind` | `woken`, `new` or `preempted`: what made the task runnable |
-    | `task`, `pid`, `prio` | the task that waited |
-    | `begin`, `end` | the two events between which it waited; `end` is None if the trace ends before it ran |
-    | `until` | the stamp at which the wait ends, or the trace |
-    | `waker` | who woke or forked it, or who ran in its place |
-    | `context` | `task`, `softirq`, `hardirq` or `nmi`: where the waking came from, by the flags of its line; None if it \
-has none, and of a desk, which has no text |
-    | `queued` | the `sched_wakeup` by which it was queued, or None |
-    | `slept` | the switch at which it left its CPU to sleep, if it was woken before that; or None |
-    | `cpu` | the CPU on which it ran in the end; if it didn't, the one where it waits |
-    | `stretches` | what ran on that CPU: a sequence of each `Stretch` in order, all together as long as the wait |
-    | `elsewhere` | the same for the CPU where it was queued, if that is another one |
-    | `holes` | where events were lost within the wait, which may then be false |
-    | `untold` | the CPUs of which the wait has more events than a desk holds, so that it isn't told what ran there |
+    def chain(self, why: Why, steps: int, beyond: bool) -> Chain:
+        """Return the chain of wakings of the wait."""
 
-    `str()` of it is a text that tells it, with a picture."""
+
+class Fields(NamedTuple):
+    """The fields of `Why`."""
 
     kind: str
     task: str
     pid: int
-    prio: Optional[int]
+    prio: int | None
     begin: Event
-    end: Optional[Event]
+    end: Event | None
     until: int
     waker: Runner
-    context: Optional[str]
-    queued: Optional[Event]
-    slept: Optional[Event]
+    context: str | None
+    queued: Event | None
+    slept: Event | None
     cpu: int
     stretches: Sequence[Stretch]
     elsewhere: Sequence[Stretch]
-    holes: Tuple[Hole, ...]
-    untold: Tuple[int, ...] = ()
+    holes: tuple[Hole, ...]
+    unknown_cpus: tuple[int, ...] = ()
+
+
+@public
+class Why(Fields):
+    """One wait of a task, and what ran instead of it. `str()` of it is a text for people, with a picture.
+
+    Timestamps and durations are in microseconds, and lines are those of the whole trace.
+
+    Attributes
+    ----------
+    kind
+        `woken`, `new` or `preempted`: what made the task runnable.
+    task, pid, prio
+        The task that waited.
+    begin, end
+        The two events between which it waited; `end` is None if the trace ends before it ran.
+    until
+        The timestamp at which the wait ends, or the trace.
+    waker
+        The task that woke or forked it, or that ran in its place.
+    context
+        `task`, `softirq`, `hardirq` or `nmi`: where the waking came from, by the flags of its line. None if the line has no
+        flags, and for a desk, which has no text.
+    queued
+        The `sched_wakeup` by which it was queued, or None.
+    slept
+        The switch at which it left its CPU to sleep, if it was woken before that; or None.
+    cpu
+        The CPU on which it ran in the end; if it didn't run, the one where it waits.
+    stretches
+        What ran on that CPU: a sequence of each `Stretch` in order, all together as long as the wait.
+    elsewhere
+        The same for the CPU where it was queued, if that is another one.
+    holes
+        Where events were lost within the wait, which may then be false.
+    unknown_cpus
+        The CPUs on which the wait has more events than a desk holds, so that it isn't known what ran there.
+    """
+
+    # What knows the recording. It is no part of the value, and isn't pickled or copied.
+    _finder: ChainFinder | None = None
+
+    def _known_to(self, finder: ChainFinder) -> Why:
+        """Return the same, with what finds its chain."""
+        self._finder = finder
+        return self
+
+    def __reduce__(self) -> tuple[type[Why], tuple[Any, ...]]:
+        return type(self), tuple(self)
+
+    def chain(self, steps: int = STEPS, beyond: bool = False) -> Chain:
+        """Return the chain of wakings that led to this wait: who woke the task that woke this one, and so on.
+
+        Parameters
+        ----------
+        steps
+            How many steps it has at most.
+        beyond
+            Whether it goes on before this task fell asleep. What happened earlier didn't keep the task asleep, but may show
+            where a request came from.
+
+        Returns
+        -------
+        Chain
+            A sequence of `ChainStep`, beginning with this wait.
+
+        Raises
+        ------
+        ValueError
+            If the wait was pickled or copied, so that its recording isn't known; if its file has changed since it was read; or
+            if `steps` is less than 1.
+        OSError
+            If the recording can't be read again.
+        """
+        if steps < 1:
+            raise ValueError(f"a chain has at least 1 step, and not {steps}")
+        if self._finder is None:
+            raise ValueError("the recording of this wait isn't known: it was pickled or copied")
+        return self._finder.chain(self, steps, beyond)
 
     @property
     def micros(self) -> int:
@@ -65,8 +136,8 @@ has none, and of a desk, which has no text |
         return self.until - self.begin.stamp
 
     @property
-    def queue_cpu(self) -> Optional[int]:
-        """The CPU where it was queued first; None if the trace doesn't tell, which without `sched_wakeup` it can't."""
+    def queue_cpu(self) -> int | None:
+        """The CPU where it was queued first; None if the trace doesn't show it, which takes a `sched_wakeup`."""
         if self.kind == PREEMPTED:
             return self.begin.cpu
         placed = self.begin if self.kind == FORKED else self.queued
@@ -78,13 +149,26 @@ has none, and of a desk, which has no text |
         return bool(self.holes)
 
     @property
-    def shares(self) -> List[Share]:
+    def shares(self) -> list[Share]:
         """How long each task ran on its CPU meanwhile, the longest first."""
         return shares_of(self.stretches)
 
-    def text(self, all_stretches: bool = False) -> str:
-        """The text that tells it. Of many stretches it shows those at both ends, or all."""
-        return _why_text.text_of(self, all_stretches)
+    def text(self, all_stretches: bool = False, width: int = COLUMNS) -> str:
+        """Return a text for people.
+
+        Parameters
+        ----------
+        all_stretches
+            Whether all stretches are shown, and not only 10 from each end.
+        width
+            How many columns a line may have.
+
+        Returns
+        -------
+        str
+            The text, without a line break at its end.
+        """
+        return _why_text.text_of(self, all_stretches, width)
 
     def __str__(self) -> str:
         return self.text()
@@ -96,52 +180,73 @@ has none, and of a desk, which has no text |
         return f"<pre>{html.escape(self.text())}</pre>"
 
 
-def why(trace: Union[Desk, Trace, Recording, Waits], cpu: int, line: int) -> Why:
-    """Tells the wait that an event ends, or else the one that it begins, or in which the task that it wakes is waiting already.
+@public
+def why(trace: Desk | Trace | Recording | Waits, cpu: int, line: int) -> Why:
+    """Explain a wait.
 
-    `trace` is what `waits` takes, of any length; or the `Waits` of a trace, of which only the events around the wait are read
-    then. The event is that of the CPU at that line, as `Waits` and the tools print places.
+    It is the wait that an event ends, or else the one that it begins, or in which the task that it wakes is waiting already. If
+    events were lost, a `LossWarning` is issued, as by `waits`.
 
-    If events were lost, it warns as `waits` does. Raises `LookupError` if no event is there, or it belongs to no wait, with the
-    reason; `ValueError` of `Waits` that have no `source`; and what `waits` raises.
+    Parameters
+    ----------
+    trace
+        What `waits` takes, of any length; or the `Waits` of a trace, of which only the events around the wait are read then.
+    cpu, line
+        The event: its CPU, and its line there, as `Waits` and the tools print places.
 
-    >>> told = why(b'''
+    Returns
+    -------
+    Why
+        What happened during the wait.
+
+    Raises
+    ------
+    LookupError
+        If no event is there, or it belongs to no wait; the message has the reason.
+    ValueError
+        If `trace` is `Waits` that have no `source`.
+
+    It also raises what `waits` raises.
+
+    Examples
+    --------
+    >>> wait = why(b'''
     ... sim-1 [000] d.h.. 1.000100: sched_waking: comm=w pid=42 prio=120 target_cpu=000
     ... sim-1 [000] d.... 1.000150: sched_switch: prev_comm=sim prev_pid=1 prev_prio=120 prev_state=S ==> next_comm=w next_pid=42 next_prio=120
     ... ''', 0, 2)  # doctest: +SKIP
-    >>> told.micros, told.kind, told.waker.task, told.context, told.shares  # doctest: +SKIP
+    >>> wait.micros, wait.kind, wait.waker.task, wait.context, wait.shares  # doctest: +SKIP
     (50, 'woken', 'sim', 'hardirq', [Share(task='sim', pid=1, prio=120, micros=50, runs=1)])
     """
     from ._desk import Desk
-    from ._teller import teller_of
+    from ._explainer import explainer_of
     from ._waits import Waits
 
-    is_told = isinstance(trace, (Desk, Waits))
+    has_warned = isinstance(trace, (Desk, Waits))
     if isinstance(trace, Recording):
-        is_told, trace.is_told = trace.is_told, True
-    teller = teller_of(trace)
-    if teller.waits.warning and not is_told:
-        warnings.warn(teller.waits.warning, LossWarning, stacklevel=2)
-    return teller.tell_at(cpu, line)
+        has_warned, trace.is_reported = trace.is_reported, True
+    explainer = explainer_of(trace)
+    if explainer.waits.warning and not has_warned:
+        warnings.warn(explainer.waits.warning, LossWarning, stacklevel=2)
+    return explainer.explain_at(cpu, line)
 
 
-def scene_of(source: Source, wait: Wait) -> Scene:
-    """The events of a recording that telling a wait takes. Raises what `Source.between` raises."""
+def scene_in(source: Source, wait: Wait) -> Scene:
+    """Return the events of a recording that explain a wait. Raises what `Source.between` raises."""
 
-    def tell(scene: Scene) -> Scene:
-        told(scene, wait)
+    def answer(scene: Scene) -> Scene:
+        why_of(scene, wait)
         return scene
 
-    return gathered(source, wait, tell, look=lambda scene: look(scene, wait))
+    return gather(source, wait, answer, look=lambda scene: look(scene, wait))
 
 
-def told_in(source: Source, wait: Wait) -> Why:
-    """What is to be told of a wait of a recording. Raises what `Source.between` raises."""
-    return gathered(source, wait, lambda scene: told(scene, wait), look=lambda scene: look(scene, wait))
+def why_in(source: Source, wait: Wait) -> Why:
+    """Explain a wait of a recording. Raises what `Source.between` raises."""
+    return gather(source, wait, lambda scene: why_of(scene, wait), look=lambda scene: look(scene, wait))
 
 
 def look(scene: Scene, wait: Wait) -> None:
-    """Finds what is lacking at the ends of a wait. Raises what `told` raises."""
+    """Find out what is missing at the ends of a wait. Raises what `why_of` raises."""
     steps = scene.steps(wait)
     for cpu in cpus_of(steps):
         scene.look(cpu, steps.begin, steps.end)
@@ -149,13 +254,13 @@ def look(scene: Scene, wait: Wait) -> None:
         scene.running(steps.begin)
 
 
-def cpus_of(steps: Steps) -> List[int]:
-    """The CPU where a task ran in the end, and the one where it was queued if that is another one."""
+def cpus_of(steps: Steps) -> list[int]:
+    """Return the CPU where a task ran in the end, and the one where it was queued if that is another one."""
     return [steps.cpu, *(cpu for cpu in [steps.queue_cpu] if cpu is not None and cpu != steps.cpu)]
 
 
-def told(scene: Scene, wait: Wait) -> Why:
-    """What is to be told of a wait. Raises `LookupError` if the scene doesn't have its events."""
+def why_of(scene: Scene, wait: Wait) -> Why:
+    """Explain a wait. Raises `LookupError` if the scene doesn't have its events."""
     steps = scene.steps(wait)
     begin, end = scene.event(steps.begin), scene.event(steps.end) if wait.end else None
     is_preempted = wait.kind == PREEMPTED
@@ -179,10 +284,5 @@ def told(scene: Scene, wait: Wait) -> Why:
         stretches=stretches,
         elsewhere=elsewhere[0] if elsewhere else (),
         holes=tuple(sorted(spanned(scene.holes, begin.stamp, until), key=lambda hole: hole.line or 0)),
-        untold=tuple(cpu for cpu in cpus if not scene.knows(cpu)),
+        unknown_cpus=tuple(cpu for cpu in cpus if not scene.knows(cpu)),
     )
-
-
-for _thing in (Why, why):
-    _thing.__module__ = __package__
-del _thing

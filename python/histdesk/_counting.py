@@ -1,0 +1,158 @@
+"""Waits of a text that are counted, and not kept."""
+
+from __future__ import annotations
+
+import contextlib
+import functools
+from collections.abc import Collection, Iterator
+from typing import TYPE_CHECKING, NamedTuple
+
+import numpy as np
+
+from . import _stream
+from ._counts import Counts
+from ._desk import Trace
+from ._parallel import call_at_once
+from ._stream import ReadText
+from ._tally import LastNames, Tally
+from ._wait_records import KINDS, Aside, Besides, mask_of
+from ._wait_answer import About, WaitAnswer
+from ._waits import ReadOptions, about_text, answer_of, unknown_of
+from .native import layout
+
+if TYPE_CHECKING:
+    from ._text import Text
+    from ._wait_records import Structs
+
+
+class Choice(NamedTuple):
+    """By what waits are counted, and whether doubtful ones are; of which kinds they are, and on which CPUs they ended (None is
+    all)."""
+
+    by: str
+    doubtful: bool = False
+    kinds: Collection[str] | None = None
+    cpus: Collection[int] | None = None
+
+
+class CountedWaits(WaitAnswer):
+    """Waits that were counted by one field, with doubtful ones or without them."""
+
+    def __init__(self, about: About, choice: Choice, counts: Counts, kinds: Kinds, names: dict[int, str]) -> None:
+        """Take what else is known, the counts, how many waits there are of each kind, and the last name of each task if some
+        waits are doubtful."""
+        self._about, self._choice = about, choice
+        self._counts, self._kinds, self._names = counts, kinds, names
+
+    def __len__(self) -> int:
+        return self._counts.count + (0 if self._choice.doubtful else self._counts.doubtful)
+
+    @property
+    def doubtful(self) -> int:
+        return self._counts.doubtful
+
+    @property
+    def likely(self) -> int:
+        return self._kinds.likely
+
+    def counts(self, by: str = "task", doubtful: bool = False) -> Counts:
+        self._check(by, doubtful)
+        return self._counts
+
+    def _last_names(self) -> dict[int, str]:
+        return self._names
+
+    def _by_kind(self, doubtful: bool) -> list[int]:
+        self._check(self._choice.by, doubtful)
+        return self._kinds.counts
+
+    def _check(self, by: str, doubtful: bool) -> None:
+        """Raise `ValueError` if they were counted by another field, or doubtful ones otherwise."""
+        if (by, doubtful) != self._choice[:2]:
+            how = "with" if self._choice.doubtful else "without"
+            raise ValueError(f"these waits were counted by {self._choice.by!r}, {how} doubtful ones, and in no other way")
+
+
+class Kinds:
+    """How many waits there are of each kind: of all, and of those that are chosen and counted; and how many of the chosen ones
+    are likely."""
+
+    def __init__(self, choice: Choice) -> None:
+        self._choice = choice
+        self.all, self.counts, self.likely = [0] * len(KINDS), [0] * len(KINDS), 0
+
+    def add_all(self, records: Structs) -> None:
+        """Count some records."""
+        self.all = add_kinds(self.all, records)
+
+    def add(self, other: Kinds) -> None:
+        """Add other ones."""
+        self.all = [count + more for count, more in zip(self.all, other.all)]
+        self.counts = [count + more for count, more in zip(self.counts, other.counts)]
+        self.likely += other.likely
+
+    def add_chosen(self, records: Structs) -> None:
+        """Count those of them that are chosen."""
+        doubt = records["doubt"]
+        self.counts = add_kinds(self.counts, records if self._choice.doubtful else records[doubt == layout.SURE])
+        self.likely += int(np.count_nonzero(doubt == layout.LIKELY))
+
+
+def add_kinds(counts: list[int], records: Structs) -> list[int]:
+    """Return how many waits there are of each kind, with those of some records."""
+    more_of_each = np.bincount(records["kind"], minlength=len(KINDS)).tolist()
+    return [count + more for count, more in zip(counts, more_of_each)]
+
+
+def count_waits(trace: Trace, choice: Choice, options: ReadOptions = ReadOptions()) -> WaitAnswer:
+    """Count the waits of a whole text.
+
+    How sure a wait is shows at the text's end only, so until then 48 bytes of each are put aside, in a temporary file if they
+    are many. Raises what `_waits.waits_of_text` does."""
+
+    def count(text: ReadText, _: Text | None) -> CountedWaits:
+        return count_text(text, choice, options.path)
+
+    answer = answer_of(count, put_aside, trace, options._replace(keeps=False))
+    return answer if isinstance(answer, CountedWaits) else answer.only(kinds=choice.kinds, cpus=choice.cpus)
+
+
+def put_aside() -> Aside:
+    """Return what puts waits aside until all of them are there."""
+    return Aside(_stream.CHUNK)
+
+
+class Portion:
+    """What is counted of some of the waits of a text, in the order in which they ended."""
+
+    def __init__(self, choice: Choice) -> None:
+        self._choice = choice
+        self.tally, self.last, self.kinds = Tally(choice.by, choice.doubtful), LastNames(), Kinds(choice)
+
+    def add(self, parts: Iterator[tuple[Structs, Besides]], text: ReadText) -> None:
+        """Count the waits of a text that was read."""
+        kinds, cpus = self._choice.kinds, self._choice.cpus
+        for records, besides in parts:
+            if text.read.losses.holes:
+                text.feed.judge(records, besides)
+            self.kinds.add_all(records)
+            if not (kinds is None and cpus is None):
+                records = records[mask_of(records, kinds, cpus)]
+            self.kinds.add_chosen(records)
+            self.tally.add(records)
+            if text.read.losses.holes:
+                self.last.add(records)
+
+
+def count_text(text: ReadText, choice: Choice, path: str | None) -> CountedWaits:
+    """Count the waits of a text that was read, and close its stream."""
+    with contextlib.closing(text.feed):
+        names = text.waits.names()
+        portions = [(Portion(choice), parts) for parts in text.waits.portions()]
+        call_at_once([functools.partial(portion.add, parts, text) for portion, parts in portions])
+    counts = Counts.merged([portion.tally.counts(names) for portion, _ in portions])
+    kinds, last = Kinds(choice), {}
+    for portion, _ in portions:
+        kinds.add(portion.kinds)
+        last.update(portion.last.by_pid(names))
+    return CountedWaits(about_text(path, text.read, unknown_of(kinds.all)), choice, counts, kinds, last)

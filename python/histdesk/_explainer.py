@@ -1,0 +1,362 @@
+"""Explains waits of a recording: which one an event belongs to, and what it was."""
+
+from __future__ import annotations
+
+from collections.abc import Callable, Iterator
+from typing import TYPE_CHECKING, Any
+
+import numpy as np
+
+from . import _surroundings, _why_text
+from ._chain import Chain, Follower, Past, place_of, scenes_before
+from ._desk import Desk, Trace
+from ._losses import seconds
+from ._recording import Choice, Recording, path_of, read_text
+from ._scene import Scene, Wait, context_of, lines_with, numbers, of_desk
+from ._schema import SWITCH, WAKEUP
+from ._slices import Source
+from ._stream import held_waits
+from ._text import is_read_once, text_again
+from ._values import Event, Place
+from ._wait_answer import KINDS
+from ._waits import ReadOptions, Waits, judge, waits_of, waits_of_recording, waits_of_text
+from ._why import Why, scene_in, why_in, why_of
+
+if TYPE_CHECKING:
+    from numpy.typing import NDArray
+
+
+class Explainer:
+    """Explains the waits of a recording, as the engine has found them."""
+
+    def __init__(self, waits: Waits) -> None:
+        self.waits = waits
+
+    def explain_at(self, cpu: int, line: int) -> Why:
+        """Explain the wait of the event of a CPU at a line. Raises what `wait_at` raises."""
+        return self.explain(self.wait_at(cpu, line))
+
+    def wait_at(self, cpu: int, line: int) -> Wait:
+        """Return the wait that the event of a CPU at a line ends, or begins, or in which the task that it wakes is waiting.
+
+        Raises
+        ------
+        LookupError
+            If there is none; the message has the reason.
+        """
+        wait = self.wait_with("end", cpu, line) or self.wait_with("begin", cpu, line)
+        if wait is None:
+            event = self.event(cpu, line)
+            if event is None:
+                raise LookupError(f"no event of CPU {cpu} is at line {line}: {self._lines_text(cpu)}")
+            wait = self._wait_around(event)
+            if wait is None:
+                raise LookupError(self._reason(event))
+        return wait
+
+    def explain_each(self, waits: Waits) -> Iterator[Why]:
+        """Explain some of its waits, one after the other."""
+        for row in waits.array:
+            yield self.explain(wait_of(row))
+
+    def explain(self, wait: Wait) -> Why:
+        """Explain one of its waits."""
+        return why_of(self.scene(wait), wait)._known_to(self)
+
+    def chain(self, why: Why, steps: int, beyond: bool) -> Chain:
+        """Return the chain of wakings of one of its waits. Raises what `past` raises."""
+        return Follower(self.past(why.begin.stamp), self.waits, self.contexts()).chain(why, steps, beyond)
+
+    # ---- what a recording is asked
+
+    def past(self, stamp: int) -> Past:
+        """Return the events up to a stamp."""
+        raise NotImplementedError
+
+    def contexts(self) -> Callable[[Event], str | None]:
+        """Return what finds the context of a waking."""
+        raise NotImplementedError
+
+    def scene(self, wait: Wait) -> Scene:
+        """Return the events that explain a wait."""
+        raise NotImplementedError
+
+    def event(self, cpu: int, line: int) -> Event | None:
+        """Return the event of a CPU at a line; None if it isn't there."""
+        raise NotImplementedError
+
+    def acts(self, pid: int, start: int, until: int) -> Scene:
+        """Return the events about a task with a stamp from one on and below another one."""
+        raise NotImplementedError
+
+    def lines(self, cpu: int) -> tuple[int, int] | None:
+        """Return the first and the last line of a CPU; None if it has no events."""
+        raise NotImplementedError
+
+    # ---- the wait of an event
+
+    def wait_with(self, end: str, cpu: int, line: int) -> Wait | None:
+        """Return the wait that begins, or ends, at the event of a CPU at a line."""
+        mask = self.waits._column(f"{end}_line") == line
+        mask &= self.waits._column(f"{end}_cpu") == cpu
+        rows = self.waits[mask].array
+        return wait_of(rows[0]) if len(rows) else None
+
+    def _wait_around(self, event: Event) -> Wait | None:
+        """Return the wait that an event begins, if the recording ends before it does, or that it lies in."""
+        is_switch = event.name == "sched_switch"
+        pid, at = event.prev_pid if is_switch else event.pid, place_of(event)
+        if not pid:
+            return None
+        after = self._first_after(pid, at)
+        if after:
+            # The task ran later on, so none of its waits lasts to the end.
+            return after if after.begin < at and not is_switch else None
+        wait = self._lasting(pid, event)
+        return wait if wait and (wait.begin == at if is_switch else wait.begin <= at) else None
+
+    def _first_after(self, pid: int, at: Place) -> Wait | None:
+        """Return the first wait of a task that ends after a place."""
+        mask = (self.waits._column("pid") == pid) & (self.waits._column("end_stamp") >= at.stamp)
+        for number in np.flatnonzero(mask).tolist():
+            wait = wait_of(self.waits[[number]].array[0])
+            if wait.end and wait.end > at:
+                return wait
+        return None
+
+    def _lasting(self, pid: int, event: Event) -> Wait | None:
+        """Return the wait of a task that lasts from an event, or from before it, to the end of the recording."""
+        last = self.waits.held.last or 0
+        return lasting_wait(self.acts(pid, self._run_before(pid, event), last + 1), pid, last)
+
+    def _run_before(self, pid: int, event: Event) -> int:
+        """Return a stamp at which a task ran before an event, if one of its waits shows that; otherwise 0."""
+        ended = self.waits._column("end_stamp")[self.waits._column("pid") == pid]
+        return int(ended[ended < event.stamp].max(initial=0))
+
+    # ---- why there is none
+
+    def _lines_text(self, cpu: int) -> str:
+        """Return which lines a CPU has."""
+        lines = self.lines(cpu)
+        return f"its lines are {lines[0]} to {lines[1]}" if lines else "the trace has none of that CPU"
+
+    def _reason(self, event: Event) -> str:
+        """Return why an event belongs to no wait."""
+        where = f"{event.name} at {event.cpu}:{event.line}"
+        if event.pid is None:
+            return (
+                f"the event at {event.cpu}:{event.line} is none of the scheduler's four: it neither ends a wait nor begins one"
+            )
+        name = _why_text.named(event.comm, event.pid)
+        if event.name == "sched_switch" and event.pid:
+            reason = f"nothing before the {where} shows what made {name} runnable"
+            return f"{reason}: it was lost or left out, or the trace begins later"
+        if event.name == "sched_switch":
+            before = f"{_why_text.named(event.prev_comm, event.prev_pid)} {_why_text.way_out(event.prev_state or '')}"
+            return f"the {where} ends no wait and begins none: it runs no task, and {before}"
+        if not event.pid:
+            return f"the {where} wakes the idle task, which waits for nothing"
+        cpu = self._running(event.pid, event)
+        if cpu is not None:
+            return f"the {where} begins no wait: {name} still ran, on CPU {cpu}"
+        return f"the {where} begins no wait: {name} is woken again before it runs"
+
+    def _running(self, pid: int, event: Event) -> int | None:
+        """Return the CPU on which a task ran at an event; None if it didn't."""
+        acts = self.acts(pid, self._run_before(pid, event), event.stamp + 1)
+        turns = [acts.event(at) for at in numbers(acts.name == SWITCH)]
+        before = [turn for turn in turns if place_of(turn) < place_of(event)]
+        return before[-1].cpu if before and before[-1].pid == pid else None
+
+
+class DeskExplainer(Explainer):
+    """Explains the waits of the events that a desk holds."""
+
+    def __init__(self, desk: Desk, recording: Recording | None = None) -> None:
+        """Of a desk, and of the recording for which it was made."""
+        super().__init__(waits_of(desk, recording))
+        self._scene = of_desk(desk, recording)
+
+    def past(self, stamp: int) -> Past:
+        return Past(iter([self._scene]), self._scene.holes)
+
+    def contexts(self) -> Callable[[Event], str | None]:
+        return self._scene.context_of
+
+    def scene(self, wait: Wait) -> Scene:
+        return self._scene
+
+    def event(self, cpu: int, line: int) -> Event | None:
+        at = self._scene.at(cpu, line)
+        return None if at is None else self._scene.event(at)
+
+    def acts(self, pid: int, start: int, until: int) -> Scene:
+        mask = (self._scene.stamp >= start) & (self._scene.stamp < until)
+        mask &= _surroundings.is_about(self._scene.array, pid)
+        return Scene(*_surroundings.Piece(self._scene.events, self._scene.line).only(mask), self._scene.holes)
+
+    def lines(self, cpu: int) -> tuple[int, int] | None:
+        lines = self._scene.line[self._scene.cpu == cpu]
+        return (int(lines.min()), int(lines.max())) if len(lines) else None
+
+
+class SourceExplainer(Explainer):
+    """Explains the waits of a whole recording, of which it reads the events around each."""
+
+    def __init__(self, waits: Waits, source: Source) -> None:
+        super().__init__(waits)
+        self._source = source
+
+    def explain(self, wait: Wait) -> Why:
+        return why_in(self._source, wait)._known_to(self)
+
+    def past(self, stamp: int) -> Past:
+        return Past(scenes_before(self._source, stamp + 1), self._source.losses.holes)
+
+    def contexts(self) -> Callable[[Event], str | None]:
+        return Contexts(self._source)
+
+    def scene(self, wait: Wait) -> Scene:
+        return scene_in(self._source, wait)
+
+    def event(self, cpu: int, line: int) -> Event | None:
+        stamp = self._source.stamp_of(cpu, line)
+        if stamp is None:
+            return None
+        scene = Scene(*_surroundings.piece_of(self._source.between_micros(stamp, stamp + 1)))
+        at = scene.at(cpu, line)
+        return None if at is None else scene.event(at)
+
+    def acts(self, pid: int, start: int, until: int) -> Scene:
+        return _surroundings.acts_of(self._source, pid, start, until)
+
+    def lines(self, cpu: int) -> tuple[int, int] | None:
+        count = _surroundings.known(self._source)[-1].events.get(cpu, 0)
+        return (1, count) if count else None
+
+
+class Contexts:
+    """Finds in which context wakings of a recording were, by the flags of their lines."""
+
+    def __init__(self, source: Source) -> None:
+        self._source = source
+        # The part of its text that was read last, by its ends: the wakings of a chain are often near each other.
+        self._ends: tuple[int, int] | None = None
+        self._text = b""
+
+    def __call__(self, event: Event) -> str | None:
+        first, last = self._source._around(event.stamp, event.stamp + 1, 0)
+        if self._ends != (first.at, last.at):
+            self._ends, self._text = (first.at, last.at), self._source._text.read(first.at, last.at)
+        return context_of(event, lines_with(self._text, f"{seconds(event.stamp)}:".encode()))
+
+
+def explainer_of(trace: Desk | Trace | Recording | Waits) -> Explainer:
+    """Return what explains these waits, or those of a desk or of what `waits` takes.
+
+    Raises
+    ------
+    ValueError
+        If the recording of these waits can't be read again.
+
+    It also raises what `waits` raises, but not for a recording of some CPUs.
+    """
+    if isinstance(trace, Desk):
+        return DeskExplainer(trace)
+    if isinstance(trace, Waits):
+        if trace.source is None:
+            raise ValueError("the recording of these waits can't be read again: they were pickled, or come from a desk")
+        return SourceExplainer(trace, trace.source)
+    if isinstance(trace, Recording):
+        if trace.choice.cpus is not None:
+            return part_explainer(trace)
+        return explainer_with(waits_of_recording(trace), trace)
+    return explainer_with(waits_of_text(trace, ReadOptions(jobs=None)), trace)
+
+
+def part_explainer(recording: Recording) -> Explainer:
+    """Return what explains the waits of those events of a recording that a desk holds."""
+    with recording.desk() as desk:
+        return DeskExplainer(desk, recording)
+
+
+def explainer_with(waits: Waits, trace: Trace | Recording, lenient: bool = False) -> Explainer:
+    """Return what explains the waits of a trace.
+
+    Raises
+    ------
+    ValueError
+        If its events aren't in the order of time, so that a desk has to hold them, and it can't be read again.
+    """
+    if waits.source:
+        return SourceExplainer(waits, waits.source)
+    if not isinstance(trace, Recording) and is_read_once(trace):
+        raise ValueError("its events aren't in the order of time; such a trace must be a file")
+    recording = trace if isinstance(trace, Recording) else read_text(path_of(trace), text_again(trace), Choice(), lenient)
+    # The waits have reported what was lost.
+    recording.is_reported = True
+    return part_explainer(recording)
+
+
+# ---- waits
+
+
+def select(waits: Waits, at: int | None, task: str | None) -> Waits:
+    """Return those that last or end at a stamp, and those of tasks with a name or number; None is all."""
+    if at is not None:
+        waits = waits[(waits._column("begin_stamp") <= at) & (at <= waits._column("end_stamp"))]
+    if task is not None:
+        mask = waits.names == task
+        if task.isdecimal() and task == str(int(task)):
+            mask |= waits._column("pid") == int(task)
+        waits = waits[mask]
+    return waits
+
+
+def greatest(waits: Waits, most: int | None, doubtful: bool) -> Waits:
+    """Return so many of the longest ones, or all of them, the longest first; doubtful ones only if they are asked for."""
+    waits = waits if doubtful else waits[~waits._column("doubtful")]
+    micros = waits._column("micros")
+    if most is not None and most < len(waits):
+        # Only those that may be among them are put in order.
+        at = np.flatnonzero(micros >= np.partition(micros, len(waits) - most)[len(waits) - most])
+        waits, micros = waits[at], micros[at]
+    longest: NDArray[np.int64] = (-micros).argsort(kind="stable")[:most]
+    return waits[longest]
+
+
+def wait_of(row: Any) -> Wait:
+    """Return the wait of a row of `Waits.array`."""
+    begin, end = (Place(*(int(row[f"{end}_{name}"]) for name in Place._fields)) for end in ("begin", "end"))
+    return Wait(str(row.kind), int(row.pid), begin, end)
+
+
+def lasting_wait(acts: Scene, pid: int, last: int) -> Wait | None:
+    """Return the wait of a task that lasts to the end of a recording, of all events about the task since it last ran, and the
+    last stamp: the one that the engine finds if a switch to the task comes last."""
+    events = [acts.event(at) for at in numbers(acts.name != WAKEUP)]
+    turns = [at for at, event in enumerate(events) if event.name == "sched_switch" and event.pid == pid]
+    events = events[turns[-1] if turns else 0 :]
+    cpu = max((event.cpu for event in events), default=0)
+    front = f"x-1 [{cpu}] {seconds(last)}: sched_switch: prev_comm=x prev_pid={pid + 1} prev_prio=0 prev_state=S"
+    lines = [*map(line_of, events), f"{front} ==> next_comm=x next_pid={pid} next_prio=0"]
+    with Desk() as desk:
+        desk.load("\n".join(lines).encode())
+        kept = held_waits(desk._session)
+    records = kept.records()
+    judge(records, kept.besides, acts.holes)
+    count = 1 + sum(event.cpu == cpu for event in events)
+    for record in records[(records["end_cpu"] == cpu) & (records["end_line"] == count)]:
+        of_cpu = [event for event in events if event.cpu == record["begin_cpu"]]
+        return Wait(KINDS[record["kind"]], pid, place_of(of_cpu[record["begin_line"] - 1]), None)
+    return None
+
+
+def line_of(event: Event) -> str:
+    """Return an event as a line of a trace, with as much of it as a wait needs."""
+    front = f"x-1 [{event.cpu}] {seconds(event.stamp)}: {event.name}:"
+    if event.name != "sched_switch":
+        return f"{front} comm=x pid={event.pid} prio=0 target_cpu=0"
+    left = f"prev_comm=x prev_pid={event.prev_pid} prev_prio=0 prev_state={event.prev_state}"
+    return f"{front} {left} ==> next_comm=x next_pid={event.pid} next_prio=0"

@@ -1,0 +1,158 @@
+"""Waits of a text whose parts were read apart, in the order in which they ended."""
+
+from __future__ import annotations
+
+from collections.abc import Iterator
+from typing import TYPE_CHECKING, Any
+
+import numpy as np
+
+from ._wait_records import RECORD_FIELDS, Besides, Kept, WaitSink, within
+
+if TYPE_CHECKING:
+    from numpy.typing import NDArray
+
+    from ._numbering import Numbers
+    from ._wait_records import Structs
+
+# The largest line of an event.
+LAST_LINE = (1 << 32) - 1
+
+
+class PartWaits:
+    """The waits of a part that was read apart: those that it reported itself, whose places are counted from its own start, and
+    those that the join completed, whose places are those of the whole text."""
+
+    def __init__(self, own: WaitSink, completions: Kept, before: NDArray[np.integer[Any]]) -> None:
+        """Take both kinds of waits, and how many events each CPU had before the part, by the CPU's number."""
+        self._own, self._completions, self._before = own, completions, before
+
+    def __len__(self) -> int:
+        return len(self._own) + len(self._completions)
+
+    def add_names(self, names: Numbers) -> None:
+        """Add the names of its tasks to others."""
+        names.of(self._own.name_rows)
+        names.of(self._completions.name_rows)
+
+    def parts(self, names: Numbers) -> Iterator[tuple[Structs, Besides]]:
+        """Yield arrays of all of them, each with what was besides by the index in it. The names of tasks get their numbers
+        among the `names` of the whole text."""
+        more, besides = self._completions.records().copy(), self._completions.besides
+        more["name"] = names.of(self._completions.name_rows)[more["name"]]
+        start = 0
+        for records, own_besides in rename(self._own, names):
+            for end in ("begin", "end"):
+                self._move(records, end)
+            end_at = start + int(places_in(more[start:], records[-1:])[0])
+            own_besides = [(at, self._move_waits(waits)) for at, waits in own_besides]
+            yield merge(records, own_besides, more[start:end_at], within(besides, start, end_at - start))
+            start = end_at
+        if start < len(more):
+            yield more[start:], within(besides, start, len(more) - start)
+
+    def _move_waits(self, waits: Structs) -> Structs:
+        """Return waits of the engine's that were woken or created besides, with the places of the whole text."""
+        waits = waits.copy()
+        self._move(waits, "awoken")
+        return waits
+
+    def _move(self, structs: Structs, end: str) -> None:
+        """Count the lines of an end from the beginning of the whole text."""
+        lines = self._before[structs[f"{end}_cpu"]] + structs[f"{end}_line"]
+        structs[f"{end}_line"] = np.minimum(lines, LAST_LINE)
+
+
+class LaterWaits:
+    """Waits that follow others of the same text, with its places."""
+
+    def __init__(self, sink: WaitSink) -> None:
+        """Take what takes these waits."""
+        self._sink = sink
+
+    def __len__(self) -> int:
+        return len(self._sink)
+
+    def add_names(self, names: Numbers) -> None:
+        """Add the names of their tasks to others."""
+        names.of(self._sink.name_rows)
+
+    def parts(self, names: Numbers) -> Iterator[tuple[Structs, Besides]]:
+        """Yield all of them, as `PartWaits.parts` does."""
+        return rename(self._sink, names)
+
+
+class JoinedWaits:
+    """The waits of a text, of which some parts may have been read apart."""
+
+    def __init__(self, first: WaitSink) -> None:
+        """Begin with what takes the waits of the text's beginning."""
+        self._first = first
+        self._parts: list[LaterWaits | PartWaits] = []
+
+    def add(self, part: LaterWaits | PartWaits) -> None:
+        """Add the waits that follow."""
+        self._parts.append(part)
+
+    def __len__(self) -> int:
+        return len(self._first) + sum(map(len, self._parts))
+
+    def names(self) -> NDArray[np.object_]:
+        """Return the names of tasks, as an array of texts."""
+        for part in self._parts:
+            part.add_names(self._first.numbers)
+        return self._first.names()
+
+    def all(self) -> tuple[Structs, Besides]:
+        """Return an array of all records, and what was besides by the index in it."""
+        records_of_all, besides, count = np.empty(len(self), RECORD_FIELDS), [], 0
+        for records, part in self.parts():
+            records_of_all[count : count + len(records)] = records
+            besides += [(at + count, waits) for at, waits in part]
+            count += len(records)
+        return records_of_all, besides
+
+    def parts(self) -> Iterator[tuple[Structs, Besides]]:
+        """Yield copies of all records, each array with what was besides by the index in it."""
+        for portion in self.portions():
+            yield from portion
+
+    def portions(self) -> list[Iterator[tuple[Structs, Besides]]]:
+        """Return the same in several portions that may be gone through at once, in order, after `names` was asked for."""
+        return [self._first.parts(), *(part.parts(self._first.numbers) for part in self._parts)]
+
+
+def rename(sink: WaitSink, names: Numbers) -> Iterator[tuple[Structs, Besides]]:
+    """Yield all records of what took waits, with the numbers that their names have among others."""
+    own_names = names.of(sink.name_rows)
+    for records, besides in sink.parts():
+        records["name"] = own_names[records["name"]]
+        yield records, besides
+
+
+def merge(records: Structs, besides: Besides, more: Structs, more_besides: Besides) -> tuple[Structs, Besides]:
+    """Merge two arrays of records, both in the order in which their waits ended."""
+    if not len(more):
+        return records, besides
+    before = places_in(records, more)
+    where = before + np.arange(len(more))
+    result = np.empty(len(records) + len(more), records.dtype)
+    is_own = np.ones(len(result), bool)
+    is_own[where] = False
+    result[where], result[is_own] = more, records
+    shifts = [(at + before.searchsorted(at, side="right"), waits) for at, waits in besides]
+    return result, shifts + [(where[at], waits) for at, waits in more_besides]
+
+
+def places_in(records: Structs, others: Structs) -> NDArray[np.intp]:
+    """Return how many records each of some others comes after, by where their waits ended; no two ended at one place."""
+    stamps = records["end_stamp"]
+    places, most = stamps.searchsorted(others["end_stamp"]), stamps.searchsorted(others["end_stamp"], side="right")
+    for number in np.flatnonzero(places < most).tolist():
+        other = others[number]
+        equal = records[places[number] : most[number]]
+        is_before = (equal["end_cpu"] < other["end_cpu"]) | (
+            (equal["end_cpu"] == other["end_cpu"]) & (equal["end_line"] < other["end_line"])
+        )
+        places[number] += int(is_before.sum())
+    return places

@@ -1,0 +1,369 @@
+"""The events around a wait, of a recording of any length."""
+
+from __future__ import annotations
+
+import bisect
+from collections.abc import Callable, Iterable, Iterator
+from typing import TYPE_CHECKING, Any, NamedTuple, TypeVar
+
+import numpy as np
+
+from ._events import Events
+from ._losses import Hole, seconds
+from ._recording import LIMIT, Recording
+from ._scene import NEVER, Bounds, Scene, Wait, lines_with
+from ._schema import WAKEUP_NEW, WAKING
+from ._slices import Source
+from ._stream import Checkpoint
+from ._stretches import Wakings
+from ._values import Place
+from .native.arrays import EVENT_TYPE
+
+if TYPE_CHECKING:
+    from numpy.typing import NDArray
+
+    from ._source import Buffer
+
+Answer = TypeVar("Answer")
+
+# So many events before a wait are read at first, and so many microseconds after it if they are wanted; each time so many times
+# more.
+LEAD, WIDTH, GROWTH = 2048, 1000, 8
+# About so many events are read at once.
+PART = 1 << 18
+# There is room for so many more at both ends of those that are kept.
+SPARE = 1 << 10
+
+
+class Piece(NamedTuple):
+    """Events in merged order, and their lines in the whole recording."""
+
+    events: Events
+    lines: NDArray[np.integer[Any]]
+
+    def only(self, mask: NDArray[np.bool_]) -> Piece:
+        """Return those on which a mask holds."""
+        return Piece(Events(self.events.array[mask].view("u1", np.ndarray)), self.lines[mask])
+
+
+def gather(
+    source: Source,
+    wait: Wait,
+    answer: Callable[[Scene], Answer],
+    margin: int = 0,
+    look: Callable[[Scene], None] | None = None,
+) -> Answer:
+    """Return what can be answered from the events around a wait of a recording: those of its time, and those before and after
+    that are wanted.
+
+    If they are more than a desk holds, they are those of the CPUs of the wait and of its task; with `look`, which is for a wait
+    that is explained alone, if they are many.
+
+    Parameters
+    ----------
+    source
+        The recording.
+    wait
+        The wait.
+    answer
+        Answers from events. It is called with ever more of them, until it wants no others.
+    margin
+        How many microseconds before and after the wait are read too.
+    look
+        Only finds out which events `answer` will want.
+
+    Raises
+    ------
+    ValueError, OSError
+        What `Source.between` raises.
+    """
+    around = Around(source, wait, margin, look is not None)
+    around.read()
+    while True:
+        scene = around.scene()
+        if look:
+            look(scene)
+        if not (look and around.reads_more(scene)):
+            found = answer(scene)
+            if not around.reads_more(scene):
+                return found
+        # There is no room for two of them.
+        del scene
+
+
+def acts_of(source: Source, pid: int, start: int, until: int) -> Scene:
+    """Return the events about a task with a stamp from one on and below another one."""
+    return acts_in(map(piece_of, parts_of(source, start, until)), pid, source._losses.holes)
+
+
+def acts_in(pieces: Iterable[Piece], pid: int, holes: tuple[Hole, ...] = ()) -> Scene:
+    """Return the events about a task among those of pieces, of a recording with these holes."""
+    return Scene(*join([piece.only(is_about(piece.events.array, pid)) for piece in pieces]), holes)
+
+
+def is_about(array: np.recarray[Any, Any], pid: int) -> NDArray[np.bool_]:
+    """Return which events are about a task, as a mask."""
+    mask: NDArray[np.bool_] = (array["pid"] == pid) | (array["prev_pid"] == pid)
+    return mask
+
+
+class Around:
+    """The events around a wait: those of a stretch of time, and those of some moments before and after it."""
+
+    def __init__(self, source: Source, wait: Wait, margin: int, is_alone: bool) -> None:
+        """Of a wait, and so many microseconds on both sides. If it is alone, the events are for nothing else."""
+        self._source, self._wait, self._is_alone = source, wait, is_alone
+        self._start = wait.begin.stamp - margin
+        self._until = (wait.end.stamp if wait.end else last_of(source)) + margin + 1
+        self._pieces: list[Piece] = []
+        # By their stamps; and the CPUs of which they are the last events before, and the first ones after.
+        self._moments: dict[int, Piece] = {}
+        self._before: set[int] = set()
+        self._after: set[int] = set()
+        self._text: Buffer | None = None
+        self._long: Long | None = None
+        # What was read in one, once that is asked for.
+        self._store: Store | None = None
+        self._lead, self._width = LEAD, WIDTH
+
+    def scene(self) -> Scene:
+        """Return what was read."""
+        moments = sorted(self._moments.items())
+        before = [piece for stamp, piece in moments if stamp < self._start]
+        after = [piece for stamp, piece in moments if stamp >= self._until]
+        wakings, only = (self._long.wakings(), self._long.known_cpus()) if self._long else (None, None)
+        bounds = Bounds(self._start, self._until, frozenset(self._before), frozenset(self._after), only)
+        if self._store is None:
+            self._store = Store(self._pieces)
+        return Scene(*self._store.between(before, after), self._source._losses.holes, self._text, wakings, bounds)
+
+    def read(self) -> None:
+        """Read the wait's own time, and some events before it."""
+        count, begin = 0, self._wait.begin.stamp
+        for recording in parts_of(self._source, self._start, self._until, self._lead):
+            piece = piece_of(recording)
+            stamps = piece.events.array.stamp
+            if not count and len(stamps):
+                self._start = int(stamps[0])
+            # The lines of the moment at which the wait begins have its flags.
+            if self._text is None and (stamps[-1:] >= begin).any():
+                self._text = lines_at(recording.text, begin) if self._is_alone else recording.text
+            # Another text is read next.
+            del recording
+            count += len(stamps)
+            self._pieces.append(self._long.keep(piece) if self._long else piece)
+            if self._long is None and count > (PART if self._is_alone else LIMIT):
+                self._leave_out(count)
+
+    def _leave_out(self, count: int) -> None:
+        """Keep only what a long wait needs of so many events that were read, or all of them if a desk holds so many and it
+        isn't known yet where the task was queued."""
+        long = Long(self._wait, acts_in(self._pieces, self._wait.pid))
+        if count > LIMIT or long.is_known:
+            self._long = long
+            for at, piece in enumerate(self._pieces):
+                self._pieces[at] = long.keep(piece)
+
+    def reads_more(self, scene: Scene) -> bool:
+        """Read more if something was wanted that isn't there, and return whether that was so."""
+        if scene.wants.turn_after and self._until <= last_of(self._source):
+            self._read_after()
+        elif scene.wants.turn_before and self._start > NEVER:
+            self._read_before()
+        else:
+            return self._reads_moments(scene)
+        for stamp in [stamp for stamp in self._moments if self._start <= stamp < self._until]:
+            del self._moments[stamp]
+        return True
+
+    def _read_before(self) -> None:
+        """Read events before the stretch of time."""
+        lead, self._lead = self._lead, min(self._lead * GROWTH, PART)
+        piece = piece_of(self._source.between_micros(self._start, self._start, lead))
+        self._store = Store([piece, *self._stored()])
+        self._start = int(piece.events.array.stamp[0]) if len(piece.lines) >= lead else NEVER
+
+    def _read_after(self) -> None:
+        """Read events after it."""
+        start, self._until, self._width = self._until, self._until + self._width, self._width * GROWTH
+        self._store = Store([*self._stored(), *map(piece_of, parts_of(self._source, start, self._until))])
+
+    def _stored(self) -> list[Piece]:
+        """Return what was read until now, and keep it no longer."""
+        store, self._store = self._store, None
+        return [store.between([], [])] if store else []
+
+    def _reads_moments(self, scene: Scene) -> bool:
+        """Read the last events before it, and the first ones after it, of CPUs of which they are wanted. Return whether there
+        are such CPUs."""
+        stamps = {stamp_before(self._source, cpu, self._start) for cpu in scene.wants.before}
+        stamps |= {stamp_after(self._source, cpu, self._until) for cpu in scene.wants.after}
+        self._before |= scene.wants.before
+        self._after |= scene.wants.after
+        new = {stamp for stamp in stamps if stamp is not None} - set(self._moments)
+        for stamp in new:
+            self._moments[stamp] = piece_of(self._source.between_micros(stamp, stamp + 1))
+        return bool(scene.wants.before or scene.wants.after)
+
+
+class Store:
+    """Events in merged order, and their lines, in one array that has room for more of them at both ends."""
+
+    def __init__(self, pieces: list[Piece]) -> None:
+        """Of events in pieces, which aren't kept: the list is empty then."""
+        count = sum(len(piece.lines) for piece in pieces)
+        self._lines = join_lines(pieces)
+        self._room = np.empty(count + 2 * SPARE, EVENT_TYPE)
+        self._low, self._high = SPARE, SPARE + count
+        at = self._high
+        while pieces:
+            # What was allocated last is given back first.
+            at -= len(pieces[-1].lines)
+            self._put(at, pieces.pop())
+
+    def _put(self, at: int, piece: Piece) -> int:
+        """Put events into the room, and return where it goes on after them."""
+        self._room[at : at + len(piece.lines)] = piece.events.array
+        return at + len(piece.lines)
+
+    def between(self, before: list[Piece], after: list[Piece]) -> Piece:
+        """Return all of them between some more. What was returned before changes if others were before or after."""
+        low, high = self._low - len(join_lines(before)), self._high + len(join_lines(after))
+        if low < 0 or high > len(self._room):
+            return join([*before, self.between([], []), *after])
+        for at, pieces in ((low, before), (self._high, after)):
+            for piece in pieces:
+                at = self._put(at, piece)
+        lines = np.concatenate([join_lines(before), self._lines, join_lines(after)])
+        return Piece(Events(self._room[low:high].view("u1")), lines)
+
+
+class Long:
+    """What is kept of a wait that has many events, such as more than a desk holds: those of its CPUs and of its task, and who
+    was woken meanwhile."""
+
+    def __init__(self, wait: Wait, scene: Scene) -> None:
+        """Of a wait, and the first events about its task: if it begins among them, they may show where it was queued."""
+        self._wait, self._count = wait, 0
+        cpus = {wait.begin.cpu, *([wait.end.cpu] if wait.end else [])}
+        # Whether these are all of its CPUs, and it doesn't last to the end of the recording.
+        self.is_known = False
+        begin = scene.at(wait.begin.cpu, wait.begin.line)
+        if begin is not None:
+            steps = scene.steps_from(wait, begin, len(scene.events))
+            cpus |= {steps.cpu} if steps.queue_cpu is None else {steps.cpu, steps.queue_cpu}
+            self.is_known = wait.end is not None and steps.queue_cpu is not None
+        self._cpus = frozenset(cpus)
+        self._woken: list[Wakings] = []
+
+    def keep(self, piece: Piece) -> Piece:
+        """Return those of some events that are kept."""
+        array = piece.events.array
+        woken = (array.name == WAKING) | (array.name == WAKEUP_NEW)
+        woken &= is_after(array, piece.lines, self._wait.begin)
+        if self._wait.end:
+            woken &= ~is_after(array, piece.lines, self._wait.end)
+        self._woken.append(Wakings(array.pid[woken], array.stamp[woken]))
+        mask = is_about(array, self._wait.pid)
+        if self._count <= LIMIT:
+            mask |= np.isin(array.cpu, list(self._cpus))
+        self._count += int(mask.sum())
+        return piece.only(mask)
+
+    def known_cpus(self) -> frozenset[int]:
+        """Return the CPUs of which all events are kept."""
+        return self._cpus if self._count <= LIMIT else frozenset()
+
+    def wakings(self) -> Wakings:
+        """Return who was woken."""
+        return Wakings._make(map(np.concatenate, zip(*self._woken)))
+
+
+def is_after(array: np.recarray[Any, Any], lines: NDArray[np.integer[Any]], place: Place) -> NDArray[np.bool_]:
+    """Return which events come after a place, as a mask."""
+    mask: NDArray[np.bool_] = lines > place.line
+    for column, value in ((array["cpu"], place.cpu), (array["stamp"], place.stamp)):
+        mask = (column > value) | (column == value) & mask
+    return mask
+
+
+def lines_at(text: Buffer, stamp: int) -> bytes:
+    """Return the lines of a text that have a stamp."""
+    return b"\n".join(lines_with(text, f"{seconds(stamp)}:".encode()))
+
+
+# ---- from a source
+
+
+def piece_of(recording: Recording) -> Piece:
+    """Return the events of what was read of a recording."""
+    with recording.desk() as desk:
+        events = desk.events()
+    return Piece(events, recording.lines(events.array.cpu, events.array.line.copy()))
+
+
+def join(pieces: list[Piece]) -> Piece:
+    """Return the events of pieces, which are in order."""
+    return Piece(Events(b"".join(piece.events.array.data for piece in pieces)), join_lines(pieces))
+
+
+def join_lines(pieces: list[Piece]) -> NDArray[np.uint32]:
+    """Return the lines of pieces."""
+    lines: NDArray[np.uint32] = np.concatenate([np.zeros(0, "u4"), *(piece.lines for piece in pieces)])
+    return lines
+
+
+def parts_of(source: Source, start: int, until: int, lead: int = 0) -> Iterator[Recording]:
+    """Go through the events with a stamp from one on and below another one, in parts that a desk holds; before the first of
+    them come so many more."""
+    while start < until:
+        end = cut_of(source, start, until)
+        recording = source.between_micros(start, end, lead)
+        rest = recording.taken.rest if recording.taken else None
+        yield recording
+        # There is no room for two texts.
+        del recording
+        start, lead = end if rest is None else rest, 0
+
+
+def cut_of(source: Source, start: int, until: int) -> int:
+    """Return the end of a part of a stretch of time, which begins at a stamp."""
+    checkpoints = known(source)
+    stamps = [checkpoint.last for checkpoint in checkpoints]
+    first = checkpoints[max(bisect.bisect_left(stamps, start) - 1, 0)].total
+    last = bisect.bisect_right([checkpoint.total - first for checkpoint in checkpoints], PART) - 1
+    # At least up to the next checkpoint whose stamp is another one.
+    last = max(last, bisect.bisect_right(stamps, start))
+    return until if last >= len(stamps) - 1 else min(stamps[last], until)
+
+
+def last_of(source: Source) -> int:
+    """Return the last stamp of a recording; -1 if it has no events."""
+    return known(source)[-1].last
+
+
+def stamp_before(source: Source, cpu: int, stamp: int) -> int | None:
+    """Return the stamp of the last event of a CPU before a stamp; None if there is none."""
+    before = known(source)[bisect.bisect_left([checkpoint.last for checkpoint in known(source)], stamp) - 1]
+    stamps = stamps_of(source.between_micros(max(before.last, 0), stamp), cpu)
+    return int(stamps[-1]) if len(stamps) else source.stamp_of(cpu, before.events.get(cpu, 0))
+
+
+def stamp_after(source: Source, cpu: int, stamp: int) -> int | None:
+    """Return the stamp of the first event of a CPU from a stamp on; None if there is none."""
+    for after in known(source)[bisect.bisect_left([checkpoint.last for checkpoint in known(source)], stamp) :][:1]:
+        stamps = stamps_of(source.between_micros(stamp, after.last + 1), cpu)
+        return int(stamps[0]) if len(stamps) else source.stamp_of(cpu, after.events.get(cpu, 0) + 1)
+    return None
+
+
+def stamps_of(recording: Recording, cpu: int) -> NDArray[np.uint64]:
+    """Return the stamps of a CPU's events, in order."""
+    array = piece_of(recording).events.array
+    stamps: NDArray[np.uint64] = array.stamp[array.cpu == cpu]
+    return stamps
+
+
+def known(source: Source) -> list[Checkpoint]:
+    """Return the checkpoints of a recording, in order."""
+    return source.checkpoints()

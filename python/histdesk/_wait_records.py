@@ -1,0 +1,246 @@
+"""Waits as the engine reports them, and what is kept of each."""
+
+from __future__ import annotations
+
+import functools
+import tempfile
+from collections.abc import Collection, Iterator
+from typing import TYPE_CHECKING, Any, TypeAlias
+
+import numpy as np
+
+from ._numbering import Numbers
+from ._schema import WAIT_KINDS
+from ._text import in_temporary_folder
+from .native import layout
+from .native.arrays import WAIT_TYPE, texts_of_names, words_of_names
+from .native.library import library
+
+if TYPE_CHECKING:
+    from numpy.typing import NDArray
+
+    # Waits as the library has them, and records of them: arrays of structs.
+    Structs: TypeAlias = NDArray[np.void]
+
+# So many waits are kept at first, and given at once. Of those put aside, so many bytes are in memory.
+ROOM, PART, ASIDE = 1 << 16, 1 << 14, 1 << 22
+
+# The kinds of waits, by their numbers.
+KINDS = WAIT_KINDS
+# What is kept of a wait, in 48 bytes: its ends, its task, the number of the task's name, the number of its kind, and how sure
+# it is.
+RECORD_FIELDS = [
+    *((f"{end}_{name}", kind) for end in ("end", "begin") for name, kind in layout.PLACE_FIELDS),
+    ("pid", "=i4"),
+    ("prio", "=i4"),
+    ("name", "=u4"),
+    ("kind", "u1"),
+    ("doubt", "u1"),
+    ("spare", "S2"),
+]
+# What is alike in a wait of the engine's and in what is kept of it, and where that begins in both: the two ends, and the task
+# with its priority.
+ALIKE = {"ends": ("V32", "ended_stamp", "end_stamp"), "task": ("V8", "pid")}
+
+
+def mask_of(records: Structs, kinds: Collection[str] | None, cpus: Collection[int] | None) -> NDArray[np.bool_]:
+    """Return which records are of these kinds and ended on these CPUs, as a mask; None is all."""
+    mask = np.ones(len(records), bool)
+    if kinds is not None:
+        mask &= np.isin(records["kind"], [KINDS.index(kind) for kind in kinds])
+    if cpus is not None:
+        mask &= np.isin(records["end_cpu"], list(cpus))
+    return mask
+
+
+class WaitSink:
+    """Takes waits as the engine reports them, and makes records of them (`RECORD_FIELDS`), which go to `take`."""
+
+    def __init__(self, most: int) -> None:
+        """Take so many waits at once."""
+        # For waits as the engine has them.
+        self._room = np.empty(most, WAIT_TYPE)
+        self.numbers = Numbers(layout.NAME_WORDS)
+
+    @property
+    def name_rows(self) -> NDArray[np.uint64]:
+        """The names of tasks as 64-bit words, by their numbers."""
+        return self.numbers.rows
+
+    def names(self) -> NDArray[np.object_]:
+        """Return the names of tasks, as an array of texts."""
+        return texts_of_names(self.name_rows)
+
+    def all(self) -> tuple[Structs, Besides]:
+        """Return an array of all records, and what was besides by the index in it."""
+        raise NotImplementedError
+
+    def parts(self) -> Iterator[tuple[Structs, Besides]]:
+        """Yield copies of all records, each array with what was besides by the index in it."""
+        raise NotImplementedError
+
+    def portions(self) -> list[Iterator[tuple[Structs, Besides]]]:
+        """Return the same in several portions that may be gone through at once, in order, after `names` was asked for."""
+        return [self.parts()]
+
+    def __len__(self) -> int:
+        """Return how many waits were taken."""
+        raise NotImplementedError
+
+    def copy_waits(self, handle: layout.Handle) -> None:
+        """Take the waits that the last call of a desk or a stream reported."""
+        start, most = 0, len(self._room)
+        count = most
+        while count == most:
+            count = library.histdesk_waits_copy(handle, start, self._room.ctypes.data, most)
+            self.take(self._room[:count])
+            start += count
+
+    def take(self, waits: Structs) -> None:
+        """Take some waits of the engine's, which stay for this call only."""
+        raise NotImplementedError
+
+    def write(self, waits: Structs, records: Structs) -> None:
+        """Write records of as many waits. Nothing says yet how sure they are."""
+        copy_alike(waits, records)
+        records["name"] = self.numbers.of(words_of_names(waits, "name"))
+        records["kind"] = waits["cause"] - 1
+        records["doubt"] = layout.SURE
+
+
+class Nobody(WaitSink):
+    """Takes no waits."""
+
+    def __init__(self) -> None:
+        super().__init__(1)
+
+    def __len__(self) -> int:
+        return 0
+
+    def copy_waits(self, handle: layout.Handle) -> None:
+        pass
+
+    def parts(self) -> Iterator[tuple[Structs, Besides]]:
+        return iter(())
+
+
+def copy_alike(source: Structs, target: Structs) -> None:
+    """Copy what is alike from waits of the engine's to their records, or from records to waits."""
+    for field in ALIKE:
+        target.view(alike(target.dtype))[field] = source.view(alike(source.dtype))[field]
+
+
+@functools.lru_cache(maxsize=None)
+def alike(kind: np.dtype[Any]) -> np.dtype[np.void]:
+    """Return numpy's type of what is alike in waits of the engine's or in records, by their type."""
+    fields = kind.fields
+    assert fields is not None
+    names = [next(name for name in at if name in fields) for _, *at in ALIKE.values()]
+    offsets, formats = [fields[name][1] for name in names], [form for form, *_ in ALIKE.values()]
+    return np.dtype({"names": list(ALIKE), "formats": formats, "offsets": offsets, "itemsize": kind.itemsize})
+
+
+# Of preempted tasks that were woken or created besides: which waits these are, and where and how that was.
+Besides: TypeAlias = "list[tuple[NDArray[np.intp], Structs]]"
+
+
+class Kept(WaitSink):
+    """What is kept of waits, 48 bytes of each."""
+
+    def __init__(self, most: int) -> None:
+        super().__init__(most)
+        self._records = np.zeros(ROOM, RECORD_FIELDS)
+        self._count = 0
+        self.besides: Besides = []
+
+    def __len__(self) -> int:
+        return self._count
+
+    def records(self) -> Structs:
+        """Return an array of the records."""
+        return self._records[: self._count]
+
+    def take(self, waits: Structs) -> None:
+        start, self._count = self._count, self._count + len(waits)
+        if self._count > len(self._records):
+            # In place where it can be: no other array stands on this one's memory yet.
+            self._records.resize(max(self._count, len(self._records) * 9 // 8), refcheck=False)
+        self.write(waits, self._records[start : self._count])
+        self.besides += besides_of(start, waits)
+
+    def all(self) -> tuple[Structs, Besides]:
+        """Return an array of all records, and what was besides by the index in it."""
+        return self.records(), self.besides
+
+    def parts(self) -> Iterator[tuple[Structs, Besides]]:
+        for start in range(0, self._count, PART):
+            records = self._records[start : min(start + PART, self._count)].copy()
+            yield records, within(self.besides, start, len(records))
+
+
+class Aside(WaitSink):
+    """What is kept of waits, put aside until all of them are there: in a temporary file without a name, if they are many."""
+
+    def __init__(self, most: int) -> None:
+        super().__init__(most)
+        self._records = np.empty(most, RECORD_FIELDS)
+        self._file = tempfile.SpooledTemporaryFile(ASIDE)
+        self._count = 0
+        self._besides: Besides = []
+
+    def __del__(self) -> None:
+        if hasattr(self, "_file"):
+            self._file.close()
+
+    def __len__(self) -> int:
+        return self._count
+
+    def take(self, waits: Structs) -> None:
+        records = self._records[: len(waits)]
+        self.write(waits, records)
+        self._besides += besides_of(self._count, waits)
+        self._count += len(waits)
+        with in_temporary_folder():
+            self._file.write(records.view("u1").data)
+
+    def parts(self) -> Iterator[tuple[Structs, Besides]]:
+        """Yield all records, each array with what was besides by the index in it."""
+        size = self._records.nbytes
+        self._file.seek(0)
+        for start in range(0, self._count, len(self._records)):
+            records = np.frombuffer(bytearray(self._file.read(size)), RECORD_FIELDS)
+            yield records, within(self._besides, start, len(records))
+
+
+def besides_of(start: int, waits: Structs) -> Besides:
+    """Return what was besides of some waits of the engine's, of which the first has that index."""
+    places = np.flatnonzero(waits["awoken_cause"])
+    return [(start + places, waits[places])] if len(places) else []
+
+
+def within(besides: Besides, start: int, count: int) -> Besides:
+    """Return what was besides of so many waits from an index on, by the index among these."""
+    parts = []
+    for at, waits in besides:
+        # They ascend, and most are of other parts.
+        if at[-1] >= start and at[0] < start + count:
+            first, end = at.searchsorted([start, start + count])
+            parts.append((at[first:end] - start, waits[first:end]))
+    return parts
+
+
+def engine_waits(records: Structs, besides: Besides) -> Structs:
+    """Return waits as the engine has them, without names, by their records."""
+    waits = np.zeros(len(records), WAIT_TYPE)
+    copy_alike(records, waits)
+    waits["cause"] = records["kind"] + 1
+    for at, others in besides:
+        for name in ("awoken_stamp", "awoken_cpu", "awoken_line", "awoken_cause"):
+            waits[name][at] = others[name]
+    return waits
+
+
+def take_over(records: Structs, waits: Structs) -> None:
+    """Write to records what their waits began with, and how sure they are."""
+    copy_alike(waits, records)
+    records["kind"], records["doubt"] = waits["cause"] - 1, waits["doubt"]

@@ -1,0 +1,117 @@
+"""view TRACE [TRACE]: a page to look at waits, and to ask what they would be without some events."""
+
+from __future__ import annotations
+
+import argparse
+import os
+import shlex
+import signal
+import sys
+import threading
+import webbrowser
+from typing import TYPE_CHECKING, Sequence
+
+from .._invocation import program, tool
+from . import arguments, process
+
+if TYPE_CHECKING:
+    from ..view.model import Side, View
+    from ..view.server import Server
+
+DESCRIPTION = """A page in a browser that shows how long tasks waited for a processor: a histogram, which follows
+a filter as it is typed, the longest waits, what ran on all CPUs during one of them and during the
+whole recording, and the waits without some events. Two recordings are drawn one over the other,
+and the page says which waits differ. TRACE is the text of the kernel's trace file, compressed by
+gzip or not, or a recording of perf or trace-cmd; - is standard input.
+
+It prints the page's address, opens a browser if there is a desktop, and answers until Ctrl-C. It
+listens only on this machine (127.0.0.1), and answers only requests for the complete address, which
+contains a random word.
+
+A recording may be of any length. If it has more events than a desk holds, a trigger's table and
+the script cover only its first events, and say so.
+
+With --save, the page is written as one file, which needs no server. Such a page has no filters,
+triggers or strikes, and shows all CPUs with the time divided into at most 1,024 parts.
+
+tools/waits --help says what a wait is. In a terminal, tools/why explains one, and tools/diff compares."""
+# If none of these variables is set, there is no desktop.
+DESKTOPS = ("BROWSER", "DISPLAY", "WAYLAND_DISPLAY")
+
+
+def parsed(argv: Sequence[str] | None) -> argparse.Namespace:
+    """Return the arguments."""
+    parser = arguments.parser("view", DESCRIPTION)
+    parser.add_argument("trace", metavar="TRACE")
+    parser.add_argument("other", metavar="TRACE", nargs="?", help="another recording, to draw over the first")
+    parser.add_argument("--save", metavar="FILE", help="write the page to this file, and exit")
+    parser.add_argument("--no-browser", action="store_true", help="don't open a browser")
+    port_help = "listen on this port (default: any free one)"
+    parser.add_argument("--port", metavar="N", type=arguments.port, default=0, help=port_help)
+    arguments.add_choice(parser, cpus="not available: tasks are woken from any CPU")
+    arguments.add_jobs(parser)
+    options = parser.parse_intermixed_args(argv)
+    if options.cpus is not None:
+        parser.error("waits need the events of all CPUs, since tasks are woken from any; the page chooses CPUs")
+    return options
+
+
+def side_of(options: argparse.Namespace, path: str) -> Side:
+    """Return a recording, and what the user has to know of it."""
+    from .. import _waits
+    from ..view.model import Side
+    from . import traces
+
+    if options.events is None:
+        waits = traces.whole_waits(options, path, "view")
+        if waits.source is not None:
+            return Side(waits, filter(None, [traces.bad_lines_of(waits)]))
+        if path == "-":
+            raise process.Stop("standard input: its events aren't in the order of time; such a trace must be a file")
+    # A desk holds what is chosen.
+    recording = traces.recording(options, path, "view", spare=_waits.SPARE)
+    return Side(recording, traces.bad_line_remarks(recording))
+
+
+def server_of(view: View, port: int) -> Server:
+    """Return the server of a page. Raises `Stop` if the port is taken."""
+    from ..view import server
+
+    try:
+        return server.server_of(view, port)
+    except OSError as error:
+        raise process.Stop(f"port {port}: {error.strerror}; without --port it is one that is free") from None
+
+
+def work(argv: Sequence[str] | None) -> int:
+    """Save the page, or answer a browser until Ctrl-C, and return the exit status."""
+    options = parsed(argv)
+    from .._tables import printable
+
+    # A missing numpy is reported here, before anything takes long.
+    from ..view.model import View
+
+    paths = [path for path in (options.trace, options.other) if path is not None]
+    command = " ".join([tool("view"), *(shlex.quote(printable(path)) for path in paths)])
+    view = View([side_of(options, path) for path in paths], command, program())
+    if options.save is not None:
+        from ..view import saved_page
+
+        saved_page.save(view, options.save)
+        return process.SUCCESS
+    server = server_of(view, options.port)
+    # Nothing has to be put in order, so Ctrl-C ends it whatever it does.
+    if signal.getsignal(signal.SIGINT) is signal.default_int_handler:
+        signal.signal(signal.SIGINT, signal.SIG_DFL)
+    server.listen()
+    print(f"{server.address}  (Ctrl-C ends it)" if sys.stdout.isatty() else server.address, flush=True)
+    if not options.no_browser and any(map(os.environ.get, DESKTOPS)):
+        # Some browsers stay until they end.
+        threading.Thread(target=webbrowser.open, args=[server.address], daemon=True).start()
+    server.answer_all(view.prepare())
+    return process.SUCCESS
+
+
+def main(argv: Sequence[str] | None = None) -> int:
+    """Run the tool; see `process.run`."""
+    return process.run("view", lambda: work(argv))

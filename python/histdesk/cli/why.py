@@ -1,0 +1,193 @@
+"""why TRACE [CPU:LINE]...: why a task waited for a processor."""
+
+from __future__ import annotations
+
+import argparse
+import json
+from typing import TYPE_CHECKING, Any, Iterator, Sequence
+
+from . import arguments, process
+from .texts import columns
+
+if TYPE_CHECKING:
+    from .._chain import Chain, ChainStep
+    from .._explainer import Explainer
+    from .._values import Event
+    from .._waits import Waits
+    from .._why import Why
+
+DESCRIPTION = """Why a task waited for a processor: who woke it, where it was queued and where it ran, and what
+ran there meanwhile and for how long, in words, as a picture, and in order. TRACE is the text of
+the kernel's trace file, compressed by gzip or not, or a recording of perf or trace-cmd; - is
+standard input. TRACE may be of any length: the events around a wait are read again.
+
+CPU:LINE names an event, the LINEth of its CPU in the whole trace, as tools/waits prints it. It
+selects the wait that this event ends, or else the one that it begins; a waking of a task that
+already waits selects that wait. Without a place, it is the longest wait; the options select others.
+REFERENCE.md, Waits, defines what a wait is.
+
+In the picture, a column has # if the task ran for at least half of the column's time, and - if it
+ran for less. The state in which a task left its CPU is in parentheses, as in the trace: R+ was preempted
+in the kernel; R was preempted on its way back to user space, or yielded; S, D and I
+slept; X and Z exited. Only sched_wakeup shows on which CPU a task was queued. Only the flags of a
+line show that an interrupt woke a task, and perf's text has no flags.
+
+--chain also follows the wakings back: who woke the task that woke this one, and so on. Each step is
+a task from its own waking or creation until it woke the one above it: how long it had slept before
+that, waited for a processor, and run. The chain ends with an interrupt, or with a task that was
+already awake when the first one fell asleep; the last line says why. Recordings don't show what a
+task waited for in its sleep, only who ended it: a task that is woken by another one need not have
+been waiting for it. A waking from an interrupt names the task that was interrupted, which has
+nothing to do with it: the chain ends there if the line has flags. Without flags, it goes on with
+that task, and marks the waking as `task?`."""
+LINE = "-" * 72
+# A chain has no more steps by default.
+STEPS = 32
+
+
+def parsed(argv: Sequence[str] | None) -> argparse.Namespace:
+    """Return the arguments."""
+    parser = arguments.parser("why", DESCRIPTION)
+    parser.add_argument("trace", metavar="TRACE")
+    place_help = "an event of a wait"
+    parser.add_argument("places", metavar="CPU:LINE", nargs="*", default=[], type=arguments.place, help=place_help)
+    parser.add_argument("--all", action="store_true", help="show everything that ran, in order (otherwise 10 from each end)")
+    parser.add_argument("--chain", action="store_true", help="also show who woke the task that woke it, and so on")
+    beyond_help = "with --chain: also what came before the waiting task fell asleep"
+    parser.add_argument("--beyond", action="store_true", help=beyond_help)
+    steps_help = f"with --chain: at most N steps ({STEPS})"
+    parser.add_argument("--steps", metavar="N", type=arguments.positive, default=STEPS, help=steps_help)
+    parser.add_argument("--json", action="store_true", help="one JSON object, with an object for each wait")
+    chosen = parser.add_argument_group("which waits to explain if no place is given")
+    chosen.add_argument("--worst", metavar="N", type=arguments.positive, help="the N longest (1, or all with --at)")
+    at_help = "those in progress or ending at this timestamp"
+    chosen.add_argument("--at", metavar="STAMP", type=arguments.stamp, help=at_help)
+    chosen.add_argument("--task", metavar="TASK", help="only those of tasks with this name or number")
+    arguments.add_kinds(chosen, "only of these kinds, such as woken,new")
+    chosen.add_argument("--doubtful", action="store_true", help="also waits that may be false")
+    arguments.add_choice(parser, cpus="only waits that ended on these CPUs, such as 0,2,4-7")
+    arguments.add_jobs(parser)
+    return parser.parse_intermixed_args(argv)
+
+
+def explainer_of(options: argparse.Namespace) -> Explainer:
+    """Return what explains the waits of the trace, of a stretch of it, or of the events that are chosen."""
+    from .. import _explainer, _recording
+    from . import traces
+
+    if options.events is not None:
+        return _explainer.part_explainer(traces.recording(options, options.trace, "why", cpus=None))
+    waits = traces.whole_waits(options, options.trace, "why")
+    if waits.lines_from is not None:
+        process.say("why", f"{options.trace}: {_recording.counted_from(waits.lines_from)}")
+    if waits.source or options.trace == "-":
+        return _explainer.explainer_with(waits, traces.source_of(options.trace), options.lenient)
+    # It isn't in the order of time. What was lost has been reported.
+    choice = _recording.Choice(options.start, options.until)
+    text = traces.checked_text(options.trace)
+    return _explainer.part_explainer(_recording.read_text(options.trace, text, choice, options.lenient))
+
+
+def longest(options: argparse.Namespace, explainer: Explainer) -> Waits:
+    """Return the longest of the waits that are chosen, in order. Raises `Stop` if there are none."""
+    from .. import _explainer
+    from .._tables import are, count_of
+
+    waits = explainer.waits.only(kinds=options.kinds, cpus=options.cpus)
+    waits = _explainer.select(waits, options.at, options.task)
+    doubtful = waits.doubtful
+    if doubtful and not options.doubtful:
+        them = "it" if doubtful == 1 else "them"
+        left_out = f"{count_of(doubtful, 'wait')} may be false and {are(doubtful)} left out"
+        process.say("why", f"{options.trace}: {left_out}; --doubtful explains {them} too")
+    most = options.worst or (1 if options.at is None else None)
+    waits = _explainer.greatest(waits, most, options.doubtful)
+    if not len(waits):
+        raise process.Stop("there is no such wait", process.PARTIAL)
+    return waits
+
+
+# ---- output
+
+
+def write_text(options: argparse.Namespace, waits: Iterator[Why]) -> None:
+    """Print each wait for people."""
+    width = columns()
+    for at, why in enumerate(waits):
+        print(*[LINE] * (at > 0), why.text(options.all, width), sep="\n")
+        if options.chain:
+            print("", why.chain(options.steps, options.beyond).text(width, options.all), sep="\n")
+
+
+def write_json(options: argparse.Namespace, path: str | None, waits: Iterator[Why]) -> None:
+    """Print an object on several lines, one for each wait. It is complete even if a later wait can't be explained."""
+    print(f'{{"trace": {json.dumps(path)}, "waits": [', end="")
+    before = "\n"
+    try:
+        for why in waits:
+            print(before + json.dumps(json_of(why, options)), end="")
+            before = ",\n"
+    finally:
+        print("\n]}")
+
+
+def json_of(why: Why, options: argparse.Namespace) -> dict[str, Any]:
+    """Return a wait as plain data. Stamps are in microseconds, as all times."""
+    events = {name: json_of_event(getattr(why, name)) for name in ("begin", "end", "queued", "slept")}
+    lists: dict[str, Sequence[Any]] = {"shares": why.shares, "holes": why.holes}
+    if options.all:
+        lists["stretches"] = why.stretches
+    return {
+        **{name: getattr(why, name) for name in ("kind", "task", "pid", "prio", "micros", "until", "cpu", "queue_cpu")},
+        **events,
+        "waker": why.waker._asdict(),
+        "context": why.context,
+        "doubtful": why.doubtful,
+        "unknown_cpus": why.unknown_cpus,
+        **{name: [one._asdict() for one in items] for name, items in lists.items()},
+        **({"chain": json_of_chain(why.chain(options.steps, options.beyond))} if options.chain else {}),
+    }
+
+
+def json_of_chain(chain: Chain) -> dict[str, Any]:
+    """Return a chain as plain data."""
+    return {"micros": chain.micros, "end": chain.end, "remark": chain.remark, "steps": list(map(json_of_step, chain))}
+
+
+def json_of_step(step: ChainStep) -> dict[str, Any]:
+    """Return a step of a chain as plain data."""
+    events = {name: json_of_event(getattr(step, name)) for name in ("begin", "asleep")}
+    return {**step._asdict(), **events, "waker": step.waker and step.waker._asdict()}
+
+
+def json_of_event(event: Event | None) -> dict[str, Any] | None:
+    """Return the fields that an event has."""
+    return event and {name: value for name, value in event._asdict().items() if value is not None}
+
+
+def explanations(options: argparse.Namespace, explainer: Explainer) -> Iterator[Why]:
+    """Go through the waits that are asked for."""
+    if options.places:
+        return (explainer.explain_at(*place) for place in options.places)
+    return explainer.explain_each(longest(options, explainer))
+
+
+def work(argv: Sequence[str] | None) -> int:
+    """Print an explanation of each wait, and return the exit status."""
+    options = parsed(argv)
+    explainer = explainer_of(options)
+    try:
+        waits = explanations(options, explainer)
+        if options.json:
+            write_json(options, explainer.waits.path, waits)
+        else:
+            write_text(options, waits)
+    except LookupError as error:
+        # A place that belongs to no wait.
+        raise process.Stop(error.args[0], process.PARTIAL) from None
+    return process.SUCCESS
+
+
+def main(argv: Sequence[str] | None = None) -> int:
+    """Run the tool; see `process.run`."""
+    return process.run("why", lambda: work(argv))

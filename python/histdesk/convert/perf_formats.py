@@ -1,0 +1,218 @@
+"""The formats of the scheduler's events as a recording of perf has them in its header, and the arguments by which perf_filter.c
+learns them. If a format isn't known here, the recording is converted without the filter."""
+
+from __future__ import annotations
+
+import ast
+import operator
+import os
+import re
+import struct
+from collections.abc import Callable
+from typing import IO
+
+from .. import _schema
+
+# A system's name and an event's, and the text of the format.
+Formats = dict[tuple[str, str], str]
+
+# The fields whose places the filter needs, in its order, and how many bytes each has; None if that depends on the kernel.
+WAKING: dict[str, int | None] = {**{field.name: field.size for field in _schema.event("sched_waking").fields}, "success": 4}
+SWITCH: dict[str, int | None] = {field.name: field.size for field in _schema.event("sched_switch").fields}
+FIELD = re.compile(r"field:[^;]*?(\w+)(?:\[\d*\])?;\s*offset:(\d+);\s*size:(\d+);")
+# What the kernel prints of a waking; older ones tell of success.
+WAKING_TEXTS = (
+    '"comm=%s pid=%d prio=%d target_cpu=%03d", REC->comm, REC->pid, REC->prio, REC->target_cpu',
+    '"comm=%s pid=%d prio=%d success=%d target_cpu=%03d", REC->comm, REC->pid, REC->prio, REC->success, REC->target_cpu',
+)
+# What it prints of a switch, with two masks, the bits by their texts, and the mask for the plus.
+SWITCH_TEXT = re.compile(
+    r'"prev_comm=%s prev_pid=%d prev_prio=%d prev_state=%s%s ==> next_comm=%s next_pid=%d next_prio=%d", '
+    r"REC->prev_comm, REC->prev_pid, REC->prev_prio, "
+    r'(\(?)REC->prev_state & ([^?:{}",]+) \? __print_flags\(REC->prev_state & ([^?:{}",]+), "\|", ([^:]+)\) : "R", '
+    r'REC->prev_state & ([^?:{}",]+) \? "\+" : "", REC->next_comm, REC->next_pid, REC->next_prio'
+)
+BIT = re.compile(r'\{ ?(0x[0-9a-f]{1,15}|[1-9][0-9]{0,14}), "([A-Za-z]{1,7})" ?\} ?(?:, ?)?')
+BITS = re.compile(f"(?:{BIT.pattern})+")
+OPERATORS: dict[type[ast.operator], Callable[[int, int], int]] = {
+    ast.BitOr: operator.or_,
+    ast.Add: operator.add,
+    ast.Sub: operator.sub,
+    ast.LShift: operator.lshift,
+}
+# A recording begins with a header of so many bytes: magic, sizes, three sections and the bits of what follows the data.
+HEADER = struct.Struct("<8s8Q4Q")
+SECTION = struct.Struct("<QQ")
+# The second bit says that the kernel's formats follow; sections stand in the order of their bits.
+TRACING = 2
+# No header of formats is larger.
+MOST = 1 << 26
+
+
+class Unknown(Exception):
+    """The filter can't learn the formats; the message says why."""
+
+
+class Reader:
+    """Bytes that are read from the front on."""
+
+    def __init__(self, content: bytes) -> None:
+        self.content, self.at = content, 0
+
+    def take(self, size: int) -> bytes:
+        """Return so many bytes."""
+        content = self.content[self.at : self.at + size]
+        if len(content) < size:
+            raise Unknown("the formats end too early")
+        self.at += size
+        return content
+
+    def number(self, size: int) -> int:
+        """Return a number of so many bytes."""
+        return int.from_bytes(self.take(size), "little")
+
+    def block(self) -> bytes:
+        """Return bytes that stand after their count."""
+        return self.take(self.number(8))
+
+    def word(self) -> bytes:
+        """Return a text that ends with a zero."""
+        end = self.content.find(b"\0", self.at)
+        if end < 0:
+            raise Unknown("the formats end too early")
+        word, self.at = self.content[self.at : end], end + 1
+        return word
+
+    def expect(self, *parts: bytes) -> None:
+        """Read bytes that have to be there."""
+        for one in parts:
+            if self.take(len(one)) != one:
+                raise Unknown("the formats have another layout")
+
+
+def tracing_data(path: str) -> bytes:
+    """Return what perf has written of the kernel's formats into the recording of that path. Raises `Unknown` and `OSError`."""
+    with open(path, "rb") as file:
+        head = file.read(HEADER.size)
+        if len(head) < HEADER.size or head[:8] != b"PERFILE2":
+            raise Unknown("no header of this byte order")
+        _, size, _, _, _, data_at, data_size, _, _, flags, *_ = HEADER.unpack(head)
+        if size < HEADER.size:
+            raise Unknown("recorded into a pipe")
+        if not flags & TRACING:
+            raise Unknown("no formats")
+        at, size = SECTION.unpack(read_at(file, data_at + data_size + SECTION.size * (flags & 1), SECTION.size))
+        return read_at(file, at, size)
+
+
+def read_at(file: IO[bytes], at: int, size: int) -> bytes:
+    """Return so many bytes of an open file, from there on."""
+    if size > MOST or at + size > os.fstat(file.fileno()).st_size:
+        raise Unknown("the recording ends too early")
+    file.seek(at)
+    return file.read(size)
+
+
+def formats(content: bytes) -> Formats:
+    """Return the text of each event's format in tracing data. Raises `Unknown`."""
+    reader = Reader(content)
+    texts: Formats = {}
+    reader.expect(b"\x17\x08\x44tracing")
+    reader.word()
+    # Little end first, words of eight bytes; then the size of a page.
+    reader.expect(b"\0\x08")
+    reader.number(4)
+    for name in (b"header_page\0", b"header_event\0"):
+        reader.expect(name)
+        reader.block()
+    for _ in range(reader.number(4)):
+        reader.block()
+    for _ in range(reader.number(4)):
+        system = reader.word().decode("latin-1")
+        for _ in range(reader.number(4)):
+            text = reader.block().decode("latin-1")
+            match = re.match(r"name: (\S+)\n", text)
+            texts[system, match[1] if match else ""] = text
+    return texts
+
+
+def filter_arguments(texts: Formats) -> list[str]:
+    """Return the arguments of the filter. Raises `Unknown`."""
+    words = [event_argument(name, texts["sched", name]) for name in _schema.TRACED_EVENTS if ("sched", name) in texts]
+    if not words:
+        raise Unknown("no event of the scheduler")
+    if ("sched", "sched_switch") in texts:
+        words.append(states_argument(print_format(texts["sched", "sched_switch"])))
+    return words
+
+
+def needs_symbols(texts: Formats) -> bool:
+    """Return whether perf may print the kernel's symbols, as it does for pointers and for functions that were traced."""
+    return any(system == "ftrace" or "%p" in text for (system, _), text in texts.items())
+
+
+def print_format(text: str) -> str:
+    """Return how a format says that the kernel prints the event."""
+    match = re.search(r"^print fmt: (.*)$", text, re.MULTILINE)
+    return match[1] if match else ""
+
+
+def event_argument(name: str, text: str) -> str:
+    """Return the argument that says where the fields of an event are. Raises `Unknown`."""
+    fields = SWITCH if name == "sched_switch" else WAKING
+    number = re.search(r"^ID: (\d+)$", text, re.MULTILINE)
+    places = {match[1]: (int(match[2]), int(match[3])) for match in FIELD.finditer(text)}
+    if not number or places.get("common_type") != (0, 2):
+        raise Unknown(f"{name} has no number")
+    if fields is WAKING:
+        if print_format(text) not in WAKING_TEXTS:
+            raise Unknown(f"{name} is printed otherwise")
+        if print_format(text) == WAKING_TEXTS[0]:
+            places.pop("success", None)
+    for field, size in fields.items():
+        if field not in places and field == "success":
+            places[field] = -1, 4
+        if field not in places or places[field][1] not in ([size] if size else [4, 8]):
+            raise Unknown(f"{name} has no {field} of that size")
+    size = max(at + size for at, size in places.values())
+    state_size = places["prev_state"][1] if fields is SWITCH else 0
+    return f"{name}:{number[1]}:{size}:{state_size}:" + ",".join(str(places[field][0]) for field in fields)
+
+
+def states_argument(text: str) -> str:
+    """Return the argument that says how a state is printed. Raises `Unknown`."""
+    match = SWITCH_TEXT.fullmatch(text)
+    if not match or not BITS.fullmatch(match[4]):
+        raise Unknown("a switch is printed otherwise")
+    # The parenthesis before the first mask ends after it.
+    mask, same, plus = map(constant, (match[2].removesuffix(")" if match[1] else ""), match[3], match[5]))
+    if mask != same:
+        raise Unknown("a state has two masks")
+    bits = ",".join(f"{int(bit, 0)}={name}" for bit, name in BIT.findall(match[4]))
+    return f"states:{mask}:{plus}:{bits}"
+
+
+def constant(text: str) -> int:
+    """Return the value of an expression in C, of numbers only. Raises `Unknown`."""
+    if len(text) > 1000 or not re.fullmatch(r"[0-9a-fx()|+\-< ]+", text):
+        raise Unknown("a mask that isn't known")
+    try:
+        value = value_of(ast.parse(text, mode="eval").body)
+    except (SyntaxError, ValueError, RecursionError, MemoryError):
+        raise Unknown("a mask that isn't known") from None
+    if not 0 < value < 1 << 62:
+        raise Unknown("a mask that isn't known")
+    return value
+
+
+def value_of(node: ast.expr) -> int:
+    """Return the value of a part of an expression. Raises `ValueError`."""
+    if isinstance(node, ast.Constant) and isinstance(node.value, int):
+        return node.value
+    if isinstance(node, ast.BinOp) and type(node.op) in OPERATORS:
+        left, right = value_of(node.left), value_of(node.right)
+        if isinstance(node.op, ast.LShift) and not 0 <= right < 62:
+            raise ValueError
+        value: int = OPERATORS[type(node.op)](left, right)
+        return value
+    raise ValueError

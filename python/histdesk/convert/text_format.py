@@ -1,0 +1,111 @@
+"""What a converter has to know of the text that it converts."""
+
+from __future__ import annotations
+
+import re
+from collections.abc import Callable, Iterable, Sequence
+from typing import TypeAlias
+
+from .lines import Line
+from .report import Report, printable
+
+# What the groups of a pattern match in a line; those that match nothing are empty.
+Groups: TypeAlias = tuple[bytes, ...]
+
+
+class TextFormat:
+    """The text that a tool prints, and how its lines are converted.
+
+    Attributes
+    ----------
+    pattern
+        For `findall`: it matches each line with its line break, and the last group is an odd line without it.
+    name
+        What prints the text.
+    advice
+        What to do if the fields of an event have another layout.
+    program, command
+        The program that reads a recording, and the words that make it print the text of one, except for its path.
+    is_apart
+        Whether the program of `quick_command` reads recordings by itself, so that what it writes first is compared with what
+        the tool prints first.
+    """
+
+    pattern: re.Pattern[bytes]
+    name = advice = ""
+    program = ""
+    command: tuple[str, ...] = ()
+    is_apart = False
+
+    @property
+    def holds_back(self) -> bool:
+        """Whether nothing may be written before the end is known."""
+        return False
+
+    def prepared(self, text: bytes) -> bytes:
+        """Return whole lines as they are before they are converted."""
+        return text
+
+    def unchanged(self, text: bytes) -> int:
+        """Return how many lines a text has, if each of them stays as it is, or 0 if not, or if that isn't known quickly."""
+        return 0
+
+    def find(self, text: bytes) -> Sequence[Groups]:
+        """Return the matches of the pattern in whole lines."""
+        return self.pattern.findall(text)
+
+    def places(self, line: bytes) -> Sequence[bytes]:
+        """Return the places about which a converted line says something to later lines."""
+        return ()
+
+    def plain(self, matches: Sequence[Groups]) -> list[bytes]:
+        """Return matches of the pattern as converted lines with line breaks. Odd lines become what empty groups become."""
+        raise NotImplementedError
+
+    def aside(self, line: bytes, report: Report) -> bytes | None:
+        """Return what a line becomes that holds no event, with its line break, or empty; None for a line of an event."""
+        raise NotImplementedError
+
+    def parts(self, line: bytes, earlier: Callable[[], Iterable[bytes]]) -> Line:
+        """Return the parts of an odd line, or of one that the line breaks of names have torn.
+
+        Parameters
+        ----------
+        line
+            The line, without its line break.
+        earlier
+            Goes through the converted lines before it, backwards, as far as they are at hand.
+
+        Raises
+        ------
+        NotConvertible
+            If it isn't of this form.
+        """
+        raise NotImplementedError
+
+    def may_follow(self, text: bytes, piece: bytes | None) -> bool:
+        """Return whether a piece may stand after a line break in a name of `text`, which begins a line; for None, whether
+        `text` may begin such a line."""
+        raise NotImplementedError
+
+    def message(self, line: bytes, path: str) -> str | None:
+        """Return what is reported if the tool prints a line on standard error, or None for nothing.
+
+        Raises
+        ------
+        ConversionError
+            If the recording of that path can't be read.
+        """
+        return f"{self.program} says: {printable(line)}" if line else None
+
+    def check_end(self, name: str) -> None:
+        """Raise `ConversionError` if what was read of the file of that name can't be one trace."""
+
+    def quick_command(self, path: str) -> list[str] | None:
+        """Return the words of a program that reads the recording of that path and writes blocks, or None if there is none."""
+        return None
+
+    def head_of(self, text: bytes) -> bytes:
+        """Return the lines before the first event in what the tool prints first, which the program of `quick_command` doesn't
+        write."""
+        return b""

@@ -1,0 +1,1 @@
+"""The shared library `libhistdesk.so.0`: where it is, its calls, its structs, and the values that it takes."""

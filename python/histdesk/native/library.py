@@ -1,0 +1,190 @@
+"""Finds `libhistdesk.so.0`, and declares what each of its calls takes and returns."""
+
+from __future__ import annotations
+
+import ctypes
+import os
+from collections.abc import Callable
+from pathlib import Path
+from typing import Any, TypeAlias
+
+from . import layout
+
+# A call of the library, with the types that `declare` gives it. One that returns nothing returns None.
+Call: TypeAlias = Callable[..., int]
+
+NAME = "libhistdesk.so.0"
+VARIABLE = "HISTDESK_LIBRARY"
+# The folder of the package histdesk.
+PACKAGE = Path(__file__).resolve().parent.parent
+
+Code, Number, Wide, Size = ctypes.c_uint32, ctypes.c_uint32, ctypes.c_uint64, ctypes.c_size_t
+Desk = ctypes.POINTER(layout.Handle)
+Count = ctypes.POINTER(Wide)
+# A text, and room for one: where it is, and how long it is. A text may hold zero bytes.
+TEXT = [ctypes.c_char_p, Size]
+ROOM = [Wide, ctypes.c_void_p, Size]
+
+# What each call returns, and what it takes after the desk.
+CALLS: dict[str, tuple[Any, list[Any]]] = {
+    "histdesk_new": (Code, []),
+    "histdesk_free": (None, []),
+    "histdesk_load": (Code, [ctypes.c_void_p, Size, Count]),
+    "histdesk_unload": (Code, [Number, Count]),
+    "histdesk_insert": (Code, [*TEXT, ctypes.POINTER(layout.Line)]),
+    "histdesk_strike": (Code, [Number, Number]),
+    "histdesk_strike_events": (Code, [ctypes.c_void_p, Size, ctypes.c_bool, Count]),
+    "histdesk_attach": (Code, [Number, *TEXT, ctypes.POINTER(Number)]),
+    "histdesk_refilter": (Code, [Number, *TEXT]),
+    "histdesk_unfilter": (Code, [Number]),
+    "histdesk_remove": (Code, [Number]),
+    "histdesk_totals_of": (Code, [Number, ctypes.POINTER(layout.Totals)]),
+    "histdesk_hist": (Code, [Number, Count]),
+    "histdesk_list": (Code, [Number, Count]),
+    "histdesk_trigger_text": (Code, [Number, Count]),
+    "histdesk_text_copy": (Size, ROOM),
+    "histdesk_rows": (Code, [Number, Count]),
+    "histdesk_rows_copy": (Size, ROOM),
+    "histdesk_latencies": (Code, [Number, Count]),
+    "histdesk_latencies_copy": (Size, ROOM),
+    "histdesk_events": (Code, [Count]),
+    "histdesk_lane": (Code, [Number, Number, Count]),
+    "histdesk_matching": (Code, [Number, *TEXT, Count]),
+    "histdesk_event_at": (Code, [Number, Number, ctypes.c_void_p]),
+    "histdesk_places_copy": (Size, ROOM),
+    "histdesk_events_copy": (Size, ROOM),
+    "histdesk_triggers": (Code, [Count]),
+    "histdesk_triggers_copy": (Size, ROOM),
+    "histdesk_report_of": (Code, [ctypes.POINTER(layout.Report)]),
+    "histdesk_rows_changed_copy": (Size, ROOM),
+    "histdesk_made_changed_copy": (Size, ROOM),
+    "histdesk_is_deferred": (ctypes.c_bool, []),
+    "histdesk_forget": (None, []),
+    "histdesk_lines": (Code, [ctypes.c_void_p, Size, Count]),
+    "histdesk_lines_copy": (Size, ROOM),
+    "histdesk_losses": (Code, [ctypes.c_void_p, Size, ctypes.POINTER(layout.LossesRead)]),
+    "histdesk_losses_copy": (Size, ROOM),
+    "histdesk_refused": (Code, [ctypes.POINTER(layout.Refusal)]),
+    "histdesk_waits_new": (Code, [ctypes.c_bool]),
+    "histdesk_waits_part": (Code, [ctypes.c_bool]),
+    "histdesk_waits_join": (Code, [Desk, Count]),
+    "histdesk_waits_without": (Code, [Number, *TEXT]),
+    "histdesk_waits_sum_up": (Code, []),
+    "histdesk_waits_feed": (Code, [ctypes.c_void_p, Size, Count]),
+    "histdesk_waits_finish": (Code, [ctypes.POINTER(layout.WaitsRead), Count]),
+    "histdesk_waits_copy": (Size, ROOM),
+    "histdesk_waits_holes": (Size, ROOM),
+    "histdesk_waits_left_out": (Size, ROOM),
+    "histdesk_waits_tasks": (Size, ROOM),
+    "histdesk_waits_cpus": (Size, ROOM),
+    "histdesk_waits_events": (Size, ROOM),
+    "histdesk_waits_last": (Code, [Count, ctypes.POINTER(ctypes.c_bool)]),
+    "histdesk_waits_held": (Code, [Count]),
+    "histdesk_waits_doubt": (Code, [ctypes.c_void_p, Size]),
+    "histdesk_waits_refused": (Code, [ctypes.POINTER(layout.Refusal)]),
+    "histdesk_waits_free": (None, []),
+}
+# These take a refusal, and no desk.
+REFUSAL_CALLS = ["histdesk_refusal_text", "histdesk_refusal_words"]
+
+
+def candidates(package: Path) -> list[Path]:
+    """Return where the library may stand, seen from the package's folder.
+
+    That is in it; in `lib` of the prefix that the package is installed in, as `PREFIX/lib/python3/dist-packages/histdesk` or as
+    `PREFIX/python/histdesk`; and where a checkout builds it.
+    """
+    above = [package, *package.parents, *[Path("/")] * 3]
+    is_installed = package.parent.parent.name.startswith("python3")
+    folders = [
+        package,
+        *([above[3]] if is_installed else []),
+        above[2] / "lib",
+        above[2] / "crates" / "ft_c" / "out",
+    ]
+    return [folder / NAME for folder in folders]
+
+
+def library_path() -> str:
+    """Return the library's path, or its bare name if the loader has to find it."""
+    path = os.environ.get(VARIABLE)
+    if path:
+        return path
+    return next((str(path) for path in candidates(PACKAGE) if path.exists()), NAME)
+
+
+def search_report() -> str:
+    """Return where the library is looked for, in lines."""
+    if os.environ.get(VARIABLE):
+        return f"{VARIABLE} names that file."
+    return "\n  ".join(["It was looked for here:", *map(str, candidates(PACKAGE)), "the loader's folders"])
+
+
+class Library:
+    """The library, which is loaded at its first call. A call is an attribute of its name.
+
+    Parameters
+    ----------
+    loader
+        How ctypes loads it: `PyDLL`, with which no other thread runs Python code during a call, or `CDLL`, with which they do.
+
+    Raises
+    ------
+    ImportError
+        At the first call, if the library can't be loaded or lacks a call. It says what to do.
+    """
+
+    def __init__(self, loader: type[ctypes.CDLL]) -> None:
+        self._loader = loader
+
+    def load(self) -> None:
+        """Load it now."""
+        library = declare(self._open(library_path()))
+        # They are found here from now on.
+        self.__dict__.update((name, getattr(library, name)) for name in ("_name", *CALLS, *REFUSAL_CALLS))
+
+    def __getattr__(self, name: str) -> Call:
+        if name in ("_name", *CALLS, *REFUSAL_CALLS) and name not in self.__dict__:
+            self.load()
+            call: Call = self.__dict__[name]
+            return call
+        raise AttributeError(name)
+
+    def _open(self, path: str) -> ctypes.CDLL:
+        """Return the library at a path."""
+        try:
+            return self._loader(path)
+        except OSError as error:
+            raise ImportError(
+                f"histdesk needs the library {NAME}, which can't be loaded:\n  {error}\n{search_report()}\n"
+                "build/build makes it in a checkout of histdesk, build/install puts it where it is found, and the\n"
+                f"environment variable {VARIABLE} may name the file.",
+                name=NAME,
+            ) from None
+
+
+def declare(library: ctypes.CDLL) -> ctypes.CDLL:
+    """Give the calls of a library their types, and return it.
+
+    Raises
+    ------
+    ImportError
+        If it lacks a call.
+    """
+    calls = {name: (result, [Desk, *takes]) for name, (result, takes) in CALLS.items()}
+    for name in REFUSAL_CALLS:
+        calls[name] = (Size, [ctypes.POINTER(layout.Refusal), ctypes.c_void_p, Size])
+    for name, (result, takes) in calls.items():
+        try:
+            call = getattr(library, name)
+        except AttributeError:
+            reason = f"{library._name} has no call {name}: it is of another version than this package"
+            raise ImportError(reason, name=NAME) from None
+        call.restype, call.argtypes = result, takes
+    return library
+
+
+# No other thread runs Python code during a call.
+library = Library(ctypes.PyDLL)
+# Other threads run meanwhile: for calls that take long, of a desk that no other thread knows.
+unlocked = Library(ctypes.CDLL)
