@@ -23,7 +23,7 @@ make_trace() {
 # Sets `histdesk` to the program itself where it is the launcher, which looks for stale sources at each call.
 take_program() {
     if [[ -z ${HISTDESK:-} ]]; then
-        "$here/../tools/build"
+        "$here/../build/build" histdesk
         histdesk=$here/../crates/histdesk/out/histdesk
     fi
 }

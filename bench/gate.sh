@@ -1,8 +1,8 @@
 #!/usr/bin/env bash
 # gate.sh: runs the gate, `rt ci`, on a clean clone of what is committed, over nothing that an earlier gate has kept, and
 # prints what it took: for each crate its proof, its tests, the second proof that its edits begin with, and these edits that
-# must fail, in processor minutes, and by the clock in minutes and seconds. What each proof took is written to tools/weights,
-# where the gate passes.
+# must fail, in processor minutes, and by the clock in minutes and seconds. If the gate passes, what each proof took is written
+# to build/proof_seconds.
 # shellcheck source-path=SCRIPTDIR
 set -euo pipefail
 
@@ -15,4 +15,4 @@ anew=()
 if grep -qe '--anew' -- "$(command -v rt)"; then
     anew=(--anew)
 fi
-python3 "$here/gate.py" "$here/../tools/weights" rt ci "${anew[@]}"
+python3 "$here/gate.py" "$here/../build/proof_seconds" rt ci "${anew[@]}"

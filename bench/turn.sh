@@ -1,6 +1,6 @@
 #!/usr/bin/env bash
 # turn.sh [RECORDING]..: times what makes a text of what was recorded: tools/record beside `cat` of the same trace, from-perf
-# beside `perf script`, from-trace-cmd beside `trace-cmd report`, and these two also without what tools/build compiles for them;
+# beside `perf script`, from-trace-cmd beside `trace-cmd report`, and these two also without what build/build compiles for them;
 # and tools/waits of each recording as it is, beside `perf sched latency` and `trace-cmd report`.
 # Without a word it records first, as root, a machine that two benchmarks of perf keep busy, by tracefs and by both tools.
 #
@@ -74,7 +74,7 @@ measure_record() {
     echo 0 >"$instance/tracing_on"
     tell 'tools/record' "$(cat -- "$instance"/per_cpu/cpu*/stats | awk '/^entries:/ { all += $2 } END { print all }')"
     row "cat $tracefs/instances/NAME/trace" cat -- "$instance/trace"
-    row 'what tools/record writes it by' python3 "$tools/kernel_text.py" record "$instance/trace"
+    row 'what tools/record writes it by' env "PYTHONPATH=$tools/../python" python3 -m histdesk.cli.kernel_text record "$instance/trace"
     measure
 }
 
@@ -83,7 +83,7 @@ measure_turned() {
     tell "$1" "$("$tools/$1" "$2" 2>"$folder/err" | grep -vc '^#')"
     row "${*:3:2}" "${@:3}"
     row "tools/$1" "$tools/$1" "$2"
-    row "tools/$1, nothing compiled" "$folder/slow/$1" "$2"
+    row "tools/$1, nothing compiled" "$folder/slow/tools/$1" "$2"
     measure
 }
 
@@ -96,8 +96,8 @@ measure_asked() {
 }
 
 trap take_back EXIT
-cp -r -- "$tools" "$folder/slow"
-rm -rf -- "$folder/slow/out"
+mkdir -- "$folder/slow"
+cp -r -- "$tools" "$tools/../python" "$folder/slow"
 if (($# == 0)); then
     measure_record
     record_by_perf "$folder/perf.data" "${events[@]}"

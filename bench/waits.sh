@@ -68,6 +68,7 @@ rows_of_any() {
     row 'wc -l' wc -l "$trace"
     row 'the engine by itself' "$folder/engine" "$trace"
     row 'tools/waits' "$python" "$tools/waits" "$trace"
+    row 'tools/summary' "$python" "$tools/summary" "$trace"
 }
 
 # The commands over a recording of perf, of which the trace is the text.
@@ -84,6 +85,7 @@ rows_of_recording() {
             --until "$(stamp_of $((middle + slice)))" "$trace"
     fi
     row 'tools/why, the worst wait' "$python" "$tools/why" "$trace"
+    row 'tools/why, with its chain' "$python" "$tools/why" --chain "$trace"
     row 'tools/view --save' "$python" "$tools/view" --save "$folder/page.html" "$trace"
     row 'tools/diff --without' "$python" "$tools/diff" "$trace" --without 'sched_waking if common_pid == 0'
     row 'tools/export waits' "$python" "$tools/export" "$trace" waits
@@ -99,7 +101,7 @@ tell() {
 
 python=python3
 "$python" -c 'import numpy' 2>/dev/null || python=/usr/bin/python3
-[[ -e $library/libhistdesk.a ]] || "$tools/build"
+[[ -e $library/libhistdesk.a ]] || "$here/../build/build" library
 cc -O2 -I "$here/../include" -o "$folder/engine" "$here/waits.c" "$library/libhistdesk.a" -lm -lpthread
 names=()
 commands=()

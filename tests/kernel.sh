@@ -1,9 +1,8 @@
 #!/usr/bin/env bash
-# kernel.sh [OPTION].. PROGRAM: sets the desk's tables beside a real kernel's own. By hand, never in CI: it boots a kernel
-# in qemu, without hardware virtualisation, attaches hist triggers there, runs a workload, takes the kernel's `hist` files
-# and the text of its `trace` file, and has PROGRAM, a built histdesk, answer the same triggers from that text. It prints
-# each difference, and a last line with the counts. The status is 0, or 1 where something differs, or 2 where it could
-# not run.
+# kernel.sh [OPTION].. PROGRAM: compares the desk's tables with a real kernel's. By hand, never in CI: it boots a kernel in
+# qemu, without hardware virtualisation, attaches hist triggers there, runs a workload, takes the kernel's `hist` files and
+# the text of its `trace` file, and has PROGRAM, a built histdesk, answer the same triggers from that text. It prints each
+# difference, and a last line with the counts. The status is 0, or 1 if something differs, or 2 if it could not run.
 set -euo pipefail
 
 # shellcheck disable=SC2016 # what stands in backquotes is the text's
@@ -13,23 +12,32 @@ Boots a kernel in qemu, attaches hist triggers to the four events of the schedul
 tables, the totals, the orders of rows and the latencies of the kernel with those that PROGRAM, a built histdesk, gives
 for the text of the same trace. It takes half a minute.
 
-  --cpus N             the guest has N processors (1); on several the tables that overflow are left out
-  --random SEED COUNT  so many random triggers beside the fixed ones; the seed is that of the workload too
-  --vmlinuz FILE       the kernel to boot; else that of Debian'"'"'s linux-image-cloud-amd64 is taken by apt-get download
-  --keep FOLDER        what the guest showed, and what the desk was given and printed, is left there
+  --cpus N             the guest has N processors (1); with several, tables that overflow are left out
+  --random SEED COUNT  adds COUNT random triggers to the fixed ones; the workload has the same seed
+  --package NAME       boot the kernel of this Debian package (linux-image-cloud-amd64), which apt-get downloads, such as
+                       linux-image-6.12-rt-amd64 or linux-image-6.1.0-50-cloud-amd64
+  --vmlinuz FILE       boot this kernel instead
+  --all                boot four kernels one after the other, 6.1 and 6.12, cloud and rt, each with one processor and
+                       with two; each boot has the next seed
+  --keep FOLDER        leave there what the guest showed, and what the desk was given and printed
 
 It needs qemu-system-x86, busybox-static, cpio, python3, and gcc with the static C library; without --vmlinuz also
-apt-get, dpkg-deb and a network. The package of the kernel is unpacked in $KERNEL_CACHE, or else
-~/.cache/histdesk-kernel, and is found there by the next run.'
+apt-get, dpkg-deb and a network. The package of the kernel is not installed: its kernel is unpacked in $KERNEL_CACHE, or
+else ~/.cache/histdesk-kernel, and the next run finds it there.'
 
 tests=$(dirname -- "$(realpath -- "${BASH_SOURCE[0]}")")
 cpus=1
 seed=1
 count=0
 vmlinuz=
+package=linux-image-cloud-amd64
+all=
 keep=
-# A boot that takes more seconds is ended.
-limit=300
+# What --all boots.
+packages=(linux-image-cloud-amd64 linux-image-rt-amd64 linux-image-6.12-cloud-amd64 linux-image-6.12-rt-amd64)
+# A boot that takes more seconds of the processors, or of time on a busy machine, is ended.
+limit=600
+patience=7200
 
 stop() {
     printf 'kernel.sh: %s\n' "$1" >&2
@@ -58,10 +66,14 @@ while (($# > 0)); do
         count=$3
         shift 3
         ;;
-    --vmlinuz | --keep)
+    --package | --vmlinuz | --keep)
         [[ -n ${2-} ]] || stop "$1 needs a word after it; --help says more"
-        [[ $1 == --keep ]] && keep=$2 || vmlinuz=$2
+        printf -v "${1#--}" %s "$2"
         shift 2
+        ;;
+    --all)
+        all=yes
+        shift
         ;;
     -*) stop "no such option: $1; --help says more" ;;
     *) break ;;
@@ -84,20 +96,32 @@ needs gcc gcc
 needs python3 python3
 
 folder=$(mktemp -d)
-trap 'rm -rf -- "$folder"' EXIT
 
-# Puts the kernel of Debian's package in the cache, unless it is there, and prints where it is.
+# Leaves what the run has made where --keep says, also if the guest failed.
+finish() {
+    if [[ -n $keep && -z $all ]]; then
+        mkdir -p -- "$keep"
+        rm -rf -- "$folder/root" "$folder/initrd"
+        cp -r -- "$folder/." "$keep/"
+    fi
+    rm -rf -- "$folder"
+}
+trap finish EXIT
+
+# Puts the kernel of the package in the cache, unless it is there, and prints where it is. A package may only depend on the
+# one that has a kernel, whose version is in its name.
 debian_kernel() {
-    local cache=${KERNEL_CACHE:-${XDG_CACHE_HOME:-$HOME/.cache}/histdesk-kernel} package found
+    local cache=${KERNEL_CACHE:-${XDG_CACHE_HOME:-$HOME/.cache}/histdesk-kernel} name found
     needs apt-get apt
     needs dpkg-deb dpkg
-    package=$(apt-cache depends linux-image-cloud-amd64 2>/dev/null | awk '$1 == "Depends:" { print $2; exit }')
-    [[ -n $package ]] || stop "apt knows no linux-image-cloud-amd64: apt-get update, or name a kernel by --vmlinuz"
-    found=$cache/boot/vmlinuz-${package#linux-image-}
+    apt-cache show "$package" >/dev/null 2>&1 || stop "apt knows no $package: apt-get update, or name a kernel by --vmlinuz"
+    name=$(apt-cache depends "$package" | awk '$1 == "Depends:" && $2 ~ /^linux-image-/ { print $2; exit }')
+    name=${name:-$package}
+    found=$cache/boot/vmlinuz-${name#linux-image-}
     if [[ ! -e $found ]]; then
         mkdir -p -- "$cache"
-        (cd -- "$folder" && apt-get download "$package" >&2) || stop "cannot download $package"
-        dpkg-deb --fsys-tarfile "$folder/$package"_*.deb | tar -x -C "$cache" --wildcards './boot/vmlinuz-*'
+        (cd -- "$folder" && apt-get download "$name" >&2) || stop "cannot download $name"
+        dpkg-deb --fsys-tarfile "$folder/$name"_*.deb | tar -x -C "$cache" --wildcards './boot/vmlinuz-*'
     fi
     printf '%s\n' "$found"
 }
@@ -117,35 +141,60 @@ initrd() {
     (cd -- "$root" && find . | cpio -o -H newc --quiet) >"$folder/initrd"
 }
 
-# Boots the guest, and unpacks what it wrote on its second serial line.
+# Boots the guest. On a busy machine, an emulated guest with several processors may reset before its first process runs, and
+# then has written nothing: it is booted again, twice at most.
 boot() {
     # On one processor the clock is that of a trigger that names none; kernel/triggers.py says why not on several.
-    local clock=global words
+    local clock=global words tries
     ((cpus == 1)) || clock=mono
-    words="console=ttyS0 panic=-1 hd_seed=$seed hd_clock=$clock"
-    timeout "$limit" qemu-system-x86_64 -accel tcg -smp "$cpus" -m 1024 -nic none -display none -monitor none -no-reboot \
-        -kernel "$1" -initrd "$folder/initrd" -append "$words" \
-        -serial "file:$folder/console" -serial "file:$folder/shown" </dev/null ||
-        stop "the guest did not end; its last words: $(tail -n 3 -- "$folder/console")"
+    # Without hardware virtualisation, a kernel may take the interrupts of its serial line for lost ones and turn them off.
+    words="console=ttyS0 panic=-1 noirqdebug loglevel=0 hd_seed=$seed hd_clock=$clock"
+    for tries in 1 2 3; do
+        (
+            ulimit -t "$limit"
+            timeout "$patience" qemu-system-x86_64 -accel tcg -smp "$cpus" -m 1024 -nic none -display none -monitor none \
+                -no-reboot -kernel "$1" -initrd "$folder/initrd" -append "$words" \
+                -serial "file:$folder/console" -serial "file:$folder/shown" </dev/null
+        ) || stop "the guest did not end; its last words: $(tail -n 3 -- "$folder/console")"
+        [[ ! -s $folder/console && ! -s $folder/shown ]] || break
+        printf 'kernel.sh: the guest ended before its first process ran (%d of 3)\n' "$tries" >&2
+    done
+    unpack
+}
+
+# Unpacks what the guest wrote on its second serial line.
+unpack() {
     mkdir -p -- "$folder/out"
     tr -d '\r' <"$folder/shown" | base64 -d 2>/dev/null | tar -x -z -C "$folder/out" 2>/dev/null ||
         stop "the guest showed no whole archive; its last words: $(tail -n 3 -- "$folder/console")"
 }
 
-# Leaves what the run has made where --keep says.
-kept() {
-    [[ -n $keep ]] || return 0
-    mkdir -p -- "$keep"
-    rm -rf -- "$folder/root" "$folder/initrd" "$folder/shown"
-    cp -r -- "$folder/." "$keep/"
+# Boots each of the packages with one processor and with two, and sums up what each boot told.
+boot_all() {
+    local status=0 options
+    for package in "${packages[@]}"; do
+        for cpus in 1 2; do
+            options=(--package "$package" --cpus "$cpus" --random "$seed" "$count")
+            [[ -z $keep ]] || options+=(--keep "$keep/$package-$cpus")
+            "$tests/kernel.sh" "${options[@]}" "$program" | tee -a -- "$folder/told" || status=$?
+            seed=$((seed + 1))
+        done
+    done
+    echo
+    grep -E '^kernel |[0-9] tables \(|^[0-9]+ of [0-9]+ rows ' -- "$folder/told"
+    awk '/^[0-9]+ passed, [0-9]+ failed$/ { boots++; passed += $1; failed += $3 }
+        END { printf "%d boots\n%d passed, %d failed\n", boots, passed, failed }' "$folder/told"
+    return "$status"
 }
 
+if [[ -n $all ]]; then
+    [[ -z $vmlinuz ]] || stop "--all names the kernels itself"
+    boot_all
+    exit
+fi
 [[ -n $vmlinuz ]] || vmlinuz=$(debian_kernel)
 [[ -r $vmlinuz ]] || stop "cannot read the kernel: $vmlinuz"
 python3 "$tests/kernel/triggers.py" "$cpus" "$seed" "$count" "$folder"
 initrd
 boot "$vmlinuz"
-status=0
-python3 "$tests/kernel/compare.py" "$cpus" "$folder" "$program" || status=$?
-kept
-exit "$status"
+python3 "$tests/kernel/compare.py" "$cpus" "$folder" "$program"

@@ -1,8 +1,8 @@
 #!/usr/bin/env bash
 # lint.sh: what others' programs find in the scripts of this repository: shellcheck in all that is bash; flake8, or pyflakes
-# where there is no flake8, in all that is Python, which has black's form; and mypy in the Python packages, whose types are
-# strict. Which findings are left out stands in .shellcheckrc and .flake8, or beside the line. It prints what was found, what
-# was not tried since a program is missing, and a last line with the counts.
+# where there is no flake8, in all that is Python, which has black's form; and mypy in the Python packages and in build, whose
+# types are strict. Which findings are left out stands in .shellcheckrc and .flake8, or beside the line. It prints what was
+# found, what was not tried since a program is missing, and a last line with the counts.
 # shellcheck disable=SC2154 # what counts.sh assigns
 set -uo pipefail
 
@@ -34,7 +34,7 @@ lint() {
 # there PROGRAM WHAT: whether it is installed.
 there() {
     command -v "$1" >/dev/null || {
-        echo "not tried: $2, since $1 is missing"
+        skip "$2, since $1 is missing"
         return 1
     }
 }
@@ -51,13 +51,13 @@ else
 fi
 # The form of lines is one for each year of black's.
 if [[ $(black --version 2>/dev/null) != "black, 23."* ]]; then
-    echo "not tried: the form of Python, since there is no black 23"
+    skip "the form of Python, since there is no black 23"
 else
     BLACK_CACHE_DIR=$folder/black lint black black -q -l 128 --diff --check -- "${pythons[@]}"
 fi
 if there mypy "types in Python"; then
     lint mypy mypy --strict --config-file=python/pyproject.toml --cache-dir="$folder/types" \
-        python/histdesk python/histdesk_tools tools/wheel
+        --scripts-are-modules python/histdesk build/*.py build/{build,crates,library,wheel}
 fi
 for at in "${!names[@]}"; do
     if wait "${runs[at]}"; then
@@ -68,5 +68,4 @@ for at in "${!names[@]}"; do
     fi
 done
 
-echo "$passed passed, $failed failed"
-((failed == 0))
+finish

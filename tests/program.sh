@@ -5,40 +5,26 @@
 # (tools/launchers.sh), how they build (tools/building.sh), the tools around it (tools/tools.sh) and the documents.
 # Where PLAINDESK is given, it runs the rows, the full desks and the hostile bytes too; ASKAGAIN runs the rows in
 # memory, and asks a second time for what found no memory, in some of them; HISTWATCH prints which rows edits change.
-# Without words, it runs the launcher and those of the other three that are built. It prints what went wrong, and a last
-# line with the counts.
+# Without words, it runs the launcher and those of the other three that are built. It prints what went wrong, what was
+# skipped and why, and a last line with the counts.
 set -uo pipefail
 
 tests=$(dirname -- "$(realpath -- "${BASH_SOURCE[0]}")")
 . "$tests/counts.sh"
 . "$tests/program/common.sh"
 
-# counted COMMAND..: a script of tests, each of which is a test here.
-counted() {
-    local told
-    told=$("$@" 2>&1)
-    if ! [[ ${told##*$'\n'} =~ ^([0-9]+)' passed, '([0-9]+)' failed'$ ]]; then
-        fail "${1##*/}: $told"
-        return
-    fi
-    passed=$((passed + BASH_REMATCH[1]))
-    failed=$((failed + BASH_REMATCH[2]))
-    if [[ $told == *$'\n'* ]]; then
-        printf '%s\n' "${told%$'\n'*}"
-    fi
-}
-
 for subject in rows examples words streams limits hostile growths changes; do
-    counted "$tests/program/$subject.sh" "$histdesk" "$plaindesk" "$askagain" "$histwatch"
+    holds "$tests/program/$subject.sh" "$histdesk" "$plaindesk" "$askagain" "$histwatch"
 done
-counted "$tests/tools/launchers.sh" "$program" ${histwatch:+"$histwatch"}
-counted "$tests/tools/building.sh"
-counted "$tests/tools/tools.sh" "$program" ${histwatch:+"$histwatch"}
+holds "$tests/tools/launchers.sh" "$program" ${histwatch:+"$histwatch"}
+holds "$tests/tools/building.sh"
+holds "$tests/tools/tools.sh" "$program" ${histwatch:+"$histwatch"}
 holds "$tests/documents/crates.py"
 holds "$tests/documents/proof.py"
 holds "$tests/documents/reference.py" "$histdesk"
+holds "$tests/documents/commands.py" "$histdesk"
+holds "$tests/documents/options.py"
 holds "$tests/documents/pages.py"
 holds "$tests/documents/python_names.py"
 
-echo "$passed passed, $failed failed"
-((failed == 0))
+finish

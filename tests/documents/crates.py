@@ -3,7 +3,7 @@
 
     crates.py > WHAT WENT WRONG
 
-docs/CRATES.md is what tools/crates prints, and each file of sources and definitions begins with a sentence. docs/HACKING.md
+docs/CRATES.md is what build/crates prints, and each file of sources and definitions begins with a sentence. docs/HACKING.md
 has each crate in its figure of layers, except those of tests, and each on no lower layer than what it stands on; and the
 functions, types and definitions that it names are there, and the edit that it shows. The last line says how many of these
 hold.
@@ -28,8 +28,9 @@ Told = Iterator[Tuple[str, bool]]
 
 
 def tool() -> ModuleType:
-    """tools/crates, as a module."""
-    loader = importlib.machinery.SourceFileLoader("crates", str(ROOT / "tools" / "crates"))
+    """build/crates, as a module, which finds those beside it."""
+    sys.path.insert(0, str(ROOT / "build"))
+    loader = importlib.machinery.SourceFileLoader("crates", str(ROOT / "build" / "crates"))
     spec = importlib.util.spec_from_loader("crates", loader)
     assert spec
     module = importlib.util.module_from_spec(spec)
@@ -38,7 +39,7 @@ def tool() -> ModuleType:
 
 
 CRATES = tool()
-BELOW: Dict[str, List[str]] = CRATES.crates()
+BELOW: Dict[str, List[str]] = CRATES.read_crates()
 
 
 def text_of(path: str) -> str:
@@ -48,7 +49,7 @@ def text_of(path: str) -> str:
 def table() -> Told:
     """The generated page, and the sentences that it and the listings are made of."""
     same = text_of("docs/CRATES.md") == CRATES.table()
-    yield "docs/CRATES.md is not what tools/crates prints", same
+    yield "docs/CRATES.md is not what build/crates prints", same
     for file in (file for crate in BELOW for file in CRATES.files_of(crate)):
         yield f"{file.relative_to(ROOT)} does not begin with a sentence", bool(CRATES.first_sentence(file))
 
@@ -83,9 +84,9 @@ def names(page: str) -> Told:
 
 def main() -> int:
     page = text_of("docs/HACKING.md")
-    told = [*table(), *layers(page), *names(page)]
-    wrong = [line for line, holds in told if not holds]
-    print("\n".join([*wrong, f"{len(told) - len(wrong)} of {len(told)} things hold"]))
+    things = [*table(), *layers(page), *names(page)]
+    wrong = [line for line, holds in things if not holds]
+    print("\n".join([*wrong, f"{len(things) - len(wrong)} of {len(things)} things hold"]))
     return 1 if wrong else 0
 
 

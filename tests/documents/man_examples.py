@@ -62,19 +62,19 @@ def main(folder, *pages):
     has_numpy = subprocess.run(["python3", "-c", "import numpy"], stderr=subprocess.DEVNULL).returncode == 0
     for page in pages if has_numpy else ():
         for commands in sessions(page):
-            for (command, wanted), told in zip(commands, session_prints(folder, commands)):
+            for (command, expected), output in zip(commands, session_prints(folder, commands)):
                 count += 1
-                good += told == wanted
-                if told != wanted:
-                    print(f"{os.path.basename(page)}: {command}: {told}")
+                good += output == expected
+                if output != expected:
+                    print(f"{os.path.basename(page)}: {command}: {output}")
     for page in pages:
-        for name, script, program, trace, wanted in examples(page):
+        for name, script, program, trace, expected in examples(page):
             count += 1
-            told = printed(folder, name, script, program, trace)
-            if told == wanted:
+            output = printed(folder, name, script, program, trace)
+            if output == expected:
                 good += 1
             else:
-                print(f"{os.path.basename(page)}: {name}: {told}")
+                print(f"{os.path.basename(page)}: {name}: {output}")
     print(f"{good} of {count} examples hold")
     return 0 if count and good == count else 1
 

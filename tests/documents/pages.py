@@ -7,7 +7,7 @@
 Of each document: a link leads to a file that is there, and to a heading of it; each file and folder of the repository that it
 names is there; a line has at most 120 characters, except in tables and blocks; no word of AVOIDED stands in it. docs/ has the
 pages of PAGES and no others. A document or script that sources and scripts name is there. README.md has
-the line that tools/needs prints, and docs/TESTING.md counts what there is; --write has these counts written there first.
+the line that build/needs prints, and docs/TESTING.md counts what there is; --write has these counts written there first.
 --links looks at the links of these pages alone, which may stand anywhere. The last line says how many things hold.
 """
 
@@ -89,15 +89,15 @@ def slug(heading):
 
 def anchors(path):
     """The names of a document's headings: of those that are alike, the second one has -1 at its end, and so on."""
-    found, seen = set(), Counter()
+    names, counts = set(), Counter()
     for line in without_blocks(text_of(path)):
         heading = re.match(r"#+ +(.*?) *#*$", line)
         if heading:
             name = slug(heading[1])
-            found.add(f"{name}-{seen[name]}" if seen[name] else name)
-            seen[name] += 1
-        found.update(re.findall(r'<a (?:id|name)="([^"]*)"', line))
-    return found
+            names.add(f"{name}-{counts[name]}" if counts[name] else name)
+            counts[name] += 1
+        names.update(re.findall(r'<a (?:id|name)="([^"]*)"', line))
+    return names
 
 
 # ---- links and names
@@ -119,10 +119,10 @@ def links(path):
     return targets, wrong
 
 
-def spelled(name):
+def paths_of(name):
     """The paths of a name: `a/{b,c}.rt` is two."""
     form = re.fullmatch(r"(.*?)\{([^{}]*)\}(.*)", name)
-    return [path for part in form[2].split(",") for path in spelled(form[1] + part + form[3])] if form else [name]
+    return [path for part in form[2].split(",") for path in paths_of(form[1] + part + form[3])] if form else [name]
 
 
 def names(path):
@@ -135,21 +135,21 @@ def names(path):
     # Of a block with commands, the first word of each line.
     blocks = re.findall(r"^```(?:sh|console)\n(.*?)^```", text, re.MULTILINE | re.DOTALL)
     words += [re.sub(r"^(\$ |> )?(sudo |time )?", "", line).split()[:1] for block in blocks for line in block.split("\n")]
-    found, wrong = [], []
+    present, wrong = [], []
     for word in (word.rstrip(",.:;") for code in words for word in code[:2]):
         if not NAME.fullmatch(word) or "/" not in word.rstrip("/"):
             continue
-        for one in spelled(word):
+        for one in paths_of(word):
             first = one[2:].split("/")[0] if one.startswith("./") else one.split("/")[0]
             if first not in tops and first not in crates or MADE.search(one):
                 continue
-            found.append(one)
+            present.append(one)
             # NAME stands for any name.
             form = re.sub(r"\b[A-Z]+(?=/|$)", "*", one)
             places = [os.path.join(ROOT, form), os.path.join(ROOT, "crates", form)]
             if not any(glob.glob(place) for place in places):
                 wrong.append(f"{path}: {one} isn't there")
-    return found, wrong
+    return present, wrong
 
 
 def mentions():
@@ -157,22 +157,22 @@ def mentions():
     own = ["*.md", "tests/rows", "examples/*.trace", "examples/*.expected", "*.edit"]
     words = ["git", "-C", ROOT, "ls-files", "-z", "--cached", "--others", "--exclude-standard", "--", "."]
     ran = subprocess.run([*words, *(f":!{form}" for form in own)], stdout=subprocess.PIPE, check=True)
-    written = {os.path.basename(path) for path in files("**", "*.md")}
-    found, wrong = [], []
+    pages = {os.path.basename(path) for path in files("**", "*.md")}
+    names, wrong = [], []
     for path in ran.stdout.decode().split("\0")[:-1]:
         try:
             text = text_of(path) if is_there(path) else ""
         except UnicodeDecodeError:
             continue
         for name in re.findall(r"(?<![\w/.-])(?:docs|tests|bench|tools|examples|include)/[\w/-]+\.(?:py|sh|md|c|h|rs)\b", text):
-            found.append(name)
+            names.append(name)
             if not is_there(name) and not is_there(os.path.join(os.path.dirname(path), name)):
                 wrong.append(f"{path}: {name} isn't there")
         for name in re.findall(r"(?<![\w/.-])[A-Z]{4,}\.md\b", text):
-            found.append(name)
-            if name not in written:
+            names.append(name)
+            if name not in pages:
                 wrong.append(f"{path}: {name} isn't there")
-    return found, wrong
+    return names, wrong
 
 
 # ---- form
@@ -187,9 +187,9 @@ def form(path):
     # A word may go over the end of a line.
     text = "\n".join(lines)
     for words in AVOIDED:
-        for found in re.finditer(rf"(?<![\w`])(?:{words})".replace(" ", r"\s"), text, re.IGNORECASE):
-            number = text.count("\n", 0, found.start()) + 1
-            wrong.append(f"{path}:{number}: {' '.join(found[0].split())!r} should not stand there")
+        for match in re.finditer(rf"(?<![\w`])(?:{words})".replace(" ", r"\s"), text, re.IGNORECASE):
+            number = text.count("\n", 0, match.start()) + 1
+            wrong.append(f"{path}:{number}: {' '.join(match[0].split())!r} should not stand there")
     return lines, wrong
 
 
@@ -203,12 +203,12 @@ def pages():
 # ---- what is printed and counted
 
 
-def needed():
+def packages():
     """The line that installs what is needed of Debian, which README has in some lines."""
-    ran = subprocess.run([os.path.join(ROOT, "tools", "needs")], stdout=subprocess.PIPE, check=True, universal_newlines=True)
+    ran = subprocess.run([os.path.join(ROOT, "build", "needs")], stdout=subprocess.PIPE, check=True, universal_newlines=True)
     line, readme = ran.stdout.split(), re.sub(r"\\\n", " ", text_of("README.md"))
     there = line in [text.split()[1:] for text in readme.split("\n")]
-    return [line], [] if there else ["README.md lacks what tools/needs prints"]
+    return [line], [] if there else ["README.md lacks what build/needs prints"]
 
 
 def tests_in(*names):
@@ -242,7 +242,7 @@ def write_counts(path):
         file.write(text)
 
 
-def counted(path):
+def check_counts(path):
     """The counts of a page's table, and those that are others here."""
     rows = dict(re.findall(r"^\| ([^|]*?) \| ([0-9,]+) \|", text_of(path), re.MULTILINE))
     wrong = [f"{path}: {what}: {count} (--write)" for what, count in counts().items() if rows.get(what) != f"{count:,}"]
@@ -252,17 +252,17 @@ def counted(path):
 def all_things():
     """What there is of each kind, and what is wrong with it."""
     documents = [path for path in [*PAGES, *OTHERS] if is_there(path)]
-    told = [links(path) for path in documents]
-    told += [check(path) for path in documents if path != PAST for check in (names, form)]
-    return told + [mentions(), pages(), needed(), counted(COUNTING)]
+    results = [links(path) for path in documents]
+    results += [check(path) for path in documents if path != PAST for check in (names, form)]
+    return results + [mentions(), pages(), packages(), check_counts(COUNTING)]
 
 
 def main():
     if sys.argv[1:] == ["--write"]:
         write_counts(COUNTING)
     is_of_links = sys.argv[1:2] == ["--links"]
-    told = [links(os.path.abspath(path)) for path in sys.argv[2:]] if is_of_links else all_things()
-    count, wrong = sum(len(things) for things, _ in told), [line for _, lines in told for line in lines]
+    results = [links(os.path.abspath(path)) for path in sys.argv[2:]] if is_of_links else all_things()
+    count, wrong = sum(len(things) for things, _ in results), [line for _, lines in results for line in lines]
     print("\n".join([*wrong, f"{max(count - len(wrong), 0)} of {count} things hold"]))
     return 1 if wrong else 0
 

@@ -56,30 +56,30 @@ def home(crate: str, module: str) -> Optional[str]:
     return next((home(other, module) for other in passed_on), None)
 
 
-def imported(path: str) -> List[str]:
+def imports(path: str) -> List[str]:
     """The files of definitions that a file imports."""
     homes = (home(crate, module) for crate, module in IMPORT.findall(of_crate(path)))
     return [file for file in homes if file]
 
 
-def reached() -> Set[str]:
+def files_in_reach() -> Set[str]:
     files: Set[str] = set()
-    left = [file for carrier in CARRIERS for file in imported(carrier)]
+    left = [file for carrier in CARRIERS for file in imports(carrier)]
     while left:
         file = left.pop()
         if file not in files:
             files.add(file)
-            left += imported(file)
+            left += imports(file)
     return files
 
 
 def definitions(page: str) -> Tuple[int, List[str]]:
-    wanted, listed = reached(), Counter(re.findall(r"`(\w+/specs/[\w/]+\.antt)`", page))
-    wrong = [f"PROOF.md lacks {file}" for file in sorted(wanted - set(listed))]
-    wrong += [f"PROOF.md needs no {file}" for file in sorted(set(listed) - wanted)]
-    wrong += [f"PROOF.md lists {file} {count} times" for file, count in sorted(listed.items()) if count > 1]
-    wrong += [f"{file} is among the words of private functions" for file in sorted(wanted) if "/inner/" in file]
-    return len(wanted), wrong
+    files, entries = files_in_reach(), Counter(re.findall(r"`(\w+/specs/[\w/]+\.antt)`", page))
+    wrong = [f"PROOF.md lacks {file}" for file in sorted(files - set(entries))]
+    wrong += [f"PROOF.md needs no {file}" for file in sorted(set(entries) - files)]
+    wrong += [f"PROOF.md lists {file} {count} times" for file, count in sorted(entries.items()) if count > 1]
+    wrong += [f"{file} is among the words of private functions" for file in sorted(files) if "/inner/" in file]
+    return len(files), wrong
 
 
 # ---- what is quoted
@@ -101,7 +101,7 @@ def quotes(page: str) -> Tuple[int, List[str]]:
 # ---- sizes
 
 
-def measured() -> List[Tuple[str, List[str]]]:
+def files_by_row() -> List[Tuple[str, List[str]]]:
     """What the table has a row for, and its files."""
 
     def below(form: str) -> List[str]:
@@ -113,14 +113,14 @@ def measured() -> List[Tuple[str, List[str]]]:
         ("sources (`src/`)", [path for path in sources if not TESTS.match(path)]),
         ("tests in Rattle (`ft_*_tests`, `askagain`)", [path for path in sources if TESTS.match(path)]),
         ("definitions (`specs/`)", below("specs/**/*.antt")),
-        ("of these, what must be believed", sorted(reached())),
+        ("of these, what must be believed", sorted(files_in_reach())),
         ("proofs (`proofs/`)", below("proofs/**/*.antt")),
         ("edits that must fail (`must-fail/`)", below("must-fail/*.edit")),
     ]
 
 
 def sizes() -> List[Tuple[str, int, int]]:
-    return [(what, len(paths), sum(of_crate(path).count("\n") for path in paths)) for what, paths in measured()]
+    return [(what, len(paths), sum(of_crate(path).count("\n") for path in paths)) for what, paths in files_by_row()]
 
 
 def table() -> str:
@@ -129,13 +129,13 @@ def table() -> str:
 
 
 def figures(page: str) -> Tuple[int, List[str]]:
-    told = {
+    table = {
         what: [int(figure.replace(",", "")) for figure in (files, lines)]
         for what, files, lines in re.findall(r"^\| (.*) \| ([\d,]+) \| ([\d,]+) \|$", page, re.MULTILINE)
     }
     wrong = []
     for what, files, lines in sizes():
-        for real, figure in zip((files, lines), told.get(what, [0, 0])):
+        for real, figure in zip((files, lines), table.get(what, [0, 0])):
             if abs(figure - real) * 20 > real:
                 wrong.append(f"PROOF.md says {figure} of {what}, which are {real}: proof.py --write")
     return 2 * len(sizes()), wrong
@@ -147,10 +147,10 @@ def main() -> int:
         with open(PAGE, "w", encoding="utf-8") as file:
             file.write(TABLE.sub(lambda _: table(), page))
         return 0
-    told = [definitions(page), quotes(page), figures(page)]
-    count, wrong = sum(things for things, _ in told), [line for _, lines in told for line in lines]
+    results = [definitions(page), quotes(page), figures(page)]
+    count, wrong = sum(things for things, _ in results), [line for _, lines in results for line in lines]
     print("\n".join([*wrong, f"{count - len(wrong)} of {count} things hold"]))
-    return 1 if wrong or not all(things for things, _ in told) else 0
+    return 1 if wrong or not all(things for things, _ in results) else 0
 
 
 sys.exit(main())

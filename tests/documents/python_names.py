@@ -13,17 +13,18 @@ import ast
 import builtins
 import re
 import sys
+from pathlib import Path
 from typing import Any, Dict, FrozenSet, Iterator, List, NamedTuple, Optional, Tuple
 
 # Nothing is written beside the sources.
 sys.dont_write_bytecode = True
 
-from pages import text_of, without_blocks
+from pages import ROOT, text_of, without_blocks
 
 PAGES = ["README.md", "docs/GUIDE.md", "docs/LIBRARY.md", "python/README.md"]
 PACKAGE = "histdesk"
 # Words of the section on Python that are of other packages.
-OTHERS = {PACKAGE, "distributed", "numpy", "pandas"}
+OTHERS = {PACKAGE, "distributed", "numpy", "pandas", "timedelta", "timedelta64"}
 # What reads as an attribute and is none: names of files, and fields with a modifier.
 NO_ATTRIBUTE = re.compile(r"\.(data|hex|log2|rt|script|so|trace|usecs)\b")
 
@@ -42,13 +43,13 @@ Members = Dict[str, Member]
 
 def kind_of(annotation: Optional[ast.expr]) -> str:
     """The class that an annotation names, by itself or as an optional one."""
-    found = re.fullmatch(r"(?:Optional\[)?['\"]?(\w+)['\"]?\]?", ast.unparse(annotation) if annotation else "")
-    return found[1] if found else ""
+    match = re.fullmatch(r"(?:Optional\[)?['\"]?(\w+)['\"]?\]?(?: \| None)?", ast.unparse(annotation) if annotation else "")
+    return match[1] if match else ""
 
 
 def of_function(function: ast.FunctionDef) -> Member:
-    given = function.args
-    return Member(kind_of(function.returns), frozenset(one.arg for one in [*given.args, *given.kwonlyargs]))
+    parameters = function.args
+    return Member(kind_of(function.returns), frozenset(one.arg for one in [*parameters.args, *parameters.kwonlyargs]))
 
 
 def of_object(method: ast.FunctionDef) -> Iterator[Tuple[str, Member]]:
@@ -60,24 +61,28 @@ def of_object(method: ast.FunctionDef) -> Iterator[Tuple[str, Member]]:
                 yield target.attr, Member(kind_of(getattr(node, "annotation", None)))
 
 
-def members_of(kind: ast.ClassDef) -> Members:
-    """What a class has: fields, methods, and what its methods assign."""
-    found: Members = {}
+def members_of(kind: ast.ClassDef, classes: Dict[str, ast.ClassDef]) -> Members:
+    """What a class has: fields, methods, and what its methods assign; and what it inherits from classes of the package."""
+    members: Members = {}
     for base in kind.bases:
-        known: Any = {"NamedTuple": tuple}.get(kind_of(base), getattr(builtins, kind_of(base), None))
-        found.update((name, Member("")) for name in dir(known) if known)
+        base_class: Any = {"NamedTuple": tuple}.get(kind_of(base), getattr(builtins, kind_of(base), None))
+        members.update((name, Member("")) for name in dir(base_class) if base_class)
+        if kind_of(base) in classes:
+            members.update(members_of(classes[kind_of(base)], classes))
     for node in kind.body:
         if isinstance(node, ast.AnnAssign) and isinstance(node.target, ast.Name):
-            found[node.target.id] = Member(kind_of(node.annotation))
+            members[node.target.id] = Member(kind_of(node.annotation))
         elif isinstance(node, ast.FunctionDef):
-            found.update((name, member) for name, member in of_object(node) if name not in found)
-            found[node.name] = of_function(node)
-    return {name: member for name, member in found.items() if not name.startswith("_") or name == "__init__"}
+            members.update((name, member) for name, member in of_object(node) if name not in members)
+            members[node.name] = of_function(node)
+    return {name: member for name, member in members.items() if not name.startswith("_") or name == "__init__"}
 
 
 def package() -> Dict[str, Members]:
     """What each public class has, by its name; under the package's own name, what the package has."""
     kinds: Dict[str, Members] = {PACKAGE: {}}
+    modules = [ast.parse(path.read_text(encoding="utf-8")) for path in sorted(Path(ROOT, "python", PACKAGE).glob("*.py"))]
+    classes = {node.name: node for module in modules for node in module.body if isinstance(node, ast.ClassDef)}
     # Those for type checkers are of names that are loaded later.
     for import_ in ast.walk(ast.parse(text_of(f"python/{PACKAGE}/__init__.py"))):
         if not isinstance(import_, ast.ImportFrom) or not import_.level:
@@ -87,9 +92,9 @@ def package() -> Dict[str, Members]:
             if isinstance(node, ast.FunctionDef) and node.name in public:
                 kinds[PACKAGE][node.name] = of_function(node)
             elif isinstance(node, ast.ClassDef) and node.name in public:
-                kinds[node.name] = members_of(node)
-                made = kinds[node.name].get("__init__", Member(""))
-                kinds[PACKAGE][node.name] = Member(node.name, made.parameters or frozenset(kinds[node.name]))
+                kinds[node.name] = members_of(node, classes)
+                init = kinds[node.name].get("__init__", Member(""))
+                kinds[PACKAGE][node.name] = Member(node.name, init.parameters or frozenset(kinds[node.name]))
             elif isinstance(node, ast.Assign) and kind_of(node.targets[0]) in public:
                 kinds[PACKAGE][kind_of(node.targets[0])] = Member("str")
     return kinds
@@ -118,18 +123,18 @@ class Page:
             return [Member(kind) for kind in self.kinds if kind == node.id or node.id not in self.kinds and kind != PACKAGE]
         if isinstance(node, ast.Call):
             own = self.kinds[PACKAGE].get(ast.unparse(node.func))
-            found = [own] if own else self.meant(node.func, code)
-            for keyword in node.keywords if found else []:
-                self.hold(f"{keyword.arg}=", code, any(keyword.arg in member.parameters for member in found))
-            return found
+            members = [own] if own else self.meant(node.func, code)
+            for keyword in node.keywords if members else []:
+                self.hold(f"{keyword.arg}=", code, any(keyword.arg in member.parameters for member in members))
+            return members
         if not isinstance(node, ast.Attribute):
             return []
         owners = self.meant(node.value, code)
-        found = [self.kinds[owner.kind][node.attr] for owner in owners if node.attr in self.kinds.get(owner.kind, {})]
+        members = [self.kinds[owner.kind][node.attr] for owner in owners if node.attr in self.kinds.get(owner.kind, {})]
         # What isn't of the package, as a number, may have anything.
-        if found or (owners and all(owner.kind in self.kinds for owner in owners)):
-            self.hold(node.attr, code, bool(found))
-        return found
+        if members or (owners and all(owner.kind in self.kinds for owner in owners)):
+            self.hold(node.attr, code, bool(members))
+        return members
 
     def look(self, code: str) -> None:
         """Holds the names of a piece of code, if it reads as one value of Python with a dot."""
@@ -144,12 +149,12 @@ class Page:
         """Holds a word, or a parameter with its value, that stands by itself."""
         members = [member for kind in self.kinds.values() for member in kind.values()]
         parameters = {name for member in members for name in member.parameters}
-        known = {*OTHERS, *dir(builtins), *parameters}.union(*self.kinds.values())
-        found = re.fullmatch(r"([a-z_]+)=.*", code)
-        if found:
-            self.hold(f"{found[1]}=", code, found[1] in parameters)
+        names = {*OTHERS, *dir(builtins), *parameters}.union(*self.kinds.values())
+        match = re.fullmatch(r"([a-z_]+)=.*", code)
+        if match:
+            self.hold(f"{match[1]}=", code, match[1] in parameters)
         elif re.fullmatch(r"[A-Za-z]\w*", code):
-            self.hold(code, code, code in known)
+            self.hold(code, code, code in names)
 
 
 def codes(text: str) -> List[str]:

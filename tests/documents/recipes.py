@@ -3,9 +3,10 @@
 
     recipes.py HISTDESK HISTWATCH
 
-The recipes are the sections of docs/GUIDE.md that have a number; shown.py holds that they show what their commands print.
+The recipes are the sections of docs/GUIDE.md that have a number; sessions.py holds that they show what their commands print.
 Here all rows of each table that a command prints are held against a reckoning over the lines of the trace: of each task what
-happened to it, in order. Each script of examples/recipes stands in the guide. The last line says how many things hold.
+happened to it, in order. Each script of examples/recipes stands in the guide, and runs over every example without a refusal,
+whatever its CPUs and tasks. The last line says how many things hold.
 """
 
 import os
@@ -18,10 +19,12 @@ from collections import Counter, defaultdict, namedtuple
 sys.dont_write_bytecode = True
 
 from pages import ROOT, text_of
-from shown import Count, Place, blocks, lacking, steps
+from sessions import Count, Place, blocks, lacking, steps
 
 GUIDE = "docs/GUIDE.md"
 BEFORE, AFTER = "recipes-before.trace", "recipes.trace"
+# Recordings of other machines, CPUs and tasks too.
+TRACES = [BEFORE, AFTER, "wakeups.trace", "who-wakes.trace", "full-table.trace", "two-wakings.trace"]
 
 # ---- what the recipes print
 
@@ -36,13 +39,13 @@ def recipes(text):
 
 def tables(output):
     """Of each table that was printed its rows: the parts of the key as text, and the numbers."""
-    found = []
+    result = []
     for part in output.split("# event histogram\n")[1:]:
         rows = re.findall(r"^\{ (.*) \} hitcount: +([0-9]+)(?:  \w+: +([0-9]+))?$", part, re.MULTILINE)
         keys = (tuple(re.split(r" *, (?=\w+: )", key)) for key, _, _ in rows)
         texts = (tuple(piece.partition(": ")[2].strip() for piece in key) for key in keys)
-        found.append({key: tuple(int(number) for number in row[1:] if number) for key, row in zip(texts, rows)})
-    return found
+        result.append({key: tuple(int(number) for number in row[1:] if number) for key, row in zip(texts, rows)})
+    return result
 
 
 # ---- the reckoning
@@ -55,7 +58,7 @@ WAKE = re.compile(r"comm=(.*) pid=(\d+) prio=")
 SWITCH = re.compile(r"prev_comm=(.*) prev_pid=(\d+) prev_prio=\d+ prev_state=(\S+) ==> next_comm=(.*) next_pid=(\d+) next")
 
 
-def happened(line):
+def things_of(line):
     _, by, cpu, flag, seconds, micros, event, fields = LINE.fullmatch(line).groups()
     at = int(seconds + micros), cpu
     if event != "sched_switch":
@@ -65,10 +68,10 @@ def happened(line):
     return [Happened(*at, "out", old, old_pid, state, by, flag), Happened(*at, "in", new, new_pid, "", by, flag)]
 
 
-def read(name):
-    """All that happened, in order of time, and at one time of CPUs; the idle task left out."""
+def things_in(name):
+    """All that things_of, in order of time, and at one time of CPUs; the idle task left out."""
     with open(os.path.join(ROOT, "examples", name), encoding="latin-1") as file:
-        things = [thing for line in file if line[0] != "#" for thing in happened(line.rstrip("\n"))]
+        things = [thing for line in file if line[0] != "#" for thing in things_of(line.rstrip("\n"))]
     return [thing for thing in sorted(things, key=lambda thing: thing[:2]) if thing.pid != "0"]
 
 
@@ -97,7 +100,7 @@ def summed(pairs, key):
     return table
 
 
-def counted(keys):
+def counts_of(keys):
     return {key: (count,) for key, count in Counter(keys).items()}
 
 
@@ -135,8 +138,8 @@ def stamps_by(things, save, read_at, key):
 
 def runs_by_name(things):
     """A switch saves before it reads: its `in` stands before its `out`."""
-    turned = sorted(things, key=lambda thing: (thing.stamp, thing.cpu, thing.what))
-    return stamps_by(turned, lambda thing: thing.what == "in", lambda thing: thing.what == "out", lambda thing: thing.name)
+    in_order = sorted(things, key=lambda thing: (thing.stamp, thing.cpu, thing.what))
+    return stamps_by(in_order, lambda thing: thing.what == "in", lambda thing: thing.what == "out", lambda thing: thing.name)
 
 
 def careless_waits(things, cpu=None):
@@ -149,32 +152,34 @@ def careless_waits(things, cpu=None):
 
 
 def powers(pairs):
-    return counted((f"~ 2^{(two.stamp - one.stamp - 1).bit_length() if two.stamp > one.stamp else 0}",) for one, two in pairs)
+    return counts_of((f"~ 2^{(two.stamp - one.stamp - 1).bit_length() if two.stamp > one.stamp else 0}",) for one, two in pairs)
 
 
 def wakings(things, key, flags=None):
-    return counted(key(thing) for thing in things if thing.what == "woken" and (flags is None or thing.flag in flags))
+    return counts_of(key(thing) for thing in things if thing.what == "woken" and (flags is None or thing.flag in flags))
 
 
 def takers(things):
     """Who was preempted, and by whom: the two halves of a switch."""
     turns = zip(things, things[1:])
-    return counted((one.name, two.name) for one, two in turns if one.what == "out" and one.state[0] == "R" and two.what == "in")
+    return counts_of(
+        (one.name, two.name) for one, two in turns if one.what == "out" and one.state[0] == "R" and two.what == "in"
+    )
 
 
-def reckoned():
+def expected_tables():
     """Of each recipe, and of each of its commands that prints tables, the tables."""
-    all_of = read(AFTER)
+    all_of = things_in(AFTER)
     on_one = [(one, two) for one, two in waits(all_of) if two.cpu == "001"]
     waker = lambda thing: (thing.by, thing.name)
-    cyclic = [powers(pair for pair in waits(read(name)) if pair[1].name == "cyclictest") for name in (BEFORE, AFTER)]
+    cyclic = [powers(pair for pair in waits(things_in(name)) if pair[1].name == "cyclictest") for name in (BEFORE, AFTER)]
     soft = [pair for pair in waits(all_of) if pair[1].name == "ksoftirqd/3"]
     soft_runs = [pair for pair in runs(all_of) if pair[1].name == "ksoftirqd/3"]
     name = lambda _, two: (two.name,)
     pid = lambda _, two: (two.pid,)
     cleared = [(one, two) for one, two in neighbours(all_of, "woken", "out", ("in", "out", "woken")) if two.state[0] == "R"]
     of_group = lambda pairs: [pair for pair in pairs if pair[1].pid in ("24650", "24652", "24654")]
-    waits_and_cleared = lambda some: [summed(some(waits(all_of)), task), counted(task(*pair) for pair in some(cleared))]
+    waits_and_cleared = lambda some: [summed(some(waits(all_of)), task), counts_of(task(*pair) for pair in some(cleared))]
     return {
         "1": [[summed(runs(all_of), pid)], [summed(runs_by_name(all_of), name)]],
         "2": [[summed(sleeps(all_of, "S"), task), summed(sleeps(all_of, "D"), task)]],
@@ -194,17 +199,20 @@ def reckoned():
 
 def main():
     histdesk, histwatch = map(os.path.realpath, sys.argv[1:3])
-    wanted, count, text = reckoned(), Count(), text_of(GUIDE)
+    expected, count, text = expected_tables(), Count(), text_of(GUIDE)
     with tempfile.TemporaryDirectory() as folder:
         place = Place(folder, histdesk, histwatch)
         for number, commands in recipes(text):
             outputs = [place.printed("bash", "-c", command)[0] for command in commands if not lacking("console", command)]
-            found = [tables(output) for output in outputs if tables(output)]
-            if number in wanted:
-                count.hold(found == wanted.pop(number), f"recipe {number}: other rows than reckoned: {found}")
-    count.hold(not wanted, f"{GUIDE} lacks recipe {', '.join(wanted)}")
-    for name in os.listdir(os.path.join(ROOT, "examples", "recipes")):
-        count.hold(f"examples/recipes/{name}" in text, f"{GUIDE} lacks examples/recipes/{name}")
+            rows = [tables(output) for output in outputs if tables(output)]
+            if number in expected:
+                count.hold(rows == expected.pop(number), f"recipe {number}: other rows than expected: {rows}")
+        for name in os.listdir(os.path.join(ROOT, "examples", "recipes")):
+            count.hold(f"examples/recipes/{name}" in text, f"{GUIDE} lacks examples/recipes/{name}")
+            for trace in TRACES:
+                output, status = place.printed("./histdesk", f"examples/recipes/{name}", f"examples/{trace}")
+                count.hold(status == 0 and output.startswith("loaded "), f"{name} over {trace}: status {status}, {output}")
+    count.hold(not expected, f"{GUIDE} lacks recipe {', '.join(expected)}")
     print("\n".join([*count.wrong, f"{count.things - len(count.wrong)} of {count.things} recipes hold"]))
     return 1 if count.wrong else 0
 

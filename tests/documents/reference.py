@@ -6,7 +6,7 @@
 From the sources: the number, the name and the words of each fault and each refusal, what the program says on standard
 error, each limit, each field, and the words of the kernel's language that are left out. From the program: its answers to
 the examples of lines, patterns, filters and triggers; without HISTDESK, the launcher is asked. Sessions in console blocks
-are shown.py's. The last line says how many things hold.
+are sessions.py's. The last line says how many things hold.
 """
 
 import os
@@ -21,7 +21,7 @@ HISTDESK = os.path.realpath(sys.argv[1] if len(sys.argv) > 1 else os.path.join(R
 FAULTS = {
     "Line faults": "ft_event/src/fault.rt",
     "Filter faults": "ft_filter/src/fault.rt",
-    "Trigger faults": "ft_head/src/fault.rt",
+    "Trigger faults": "ft_hist/src/fault.rt",
     "Refusals": "ft_base/src/refused.rt",
 }
 # Where each limit of the table stands in the sources: a constant's name, or the text around it.
@@ -86,11 +86,11 @@ def rows(name):
     return [[cell.strip() for cell in line.strip("|").split("|")] for line in table.split("\n")[2:-1]]
 
 
-def compared(name, told, wanted):
+def compare(name, rows, expected):
     """How many things a table has to say, and what it says otherwise."""
-    wrong = [f"{name} lacks {thing}" for thing in wanted if thing not in told]
-    wrong += [f"{name} says {thing}" for thing in told if thing not in wanted]
-    return len(wanted), wrong + [f"{name} says {thing} twice" for thing in set(told) if told.count(thing) > 1]
+    wrong = [f"{name} lacks {thing}" for thing in expected if thing not in rows]
+    wrong += [f"{name} says {thing}" for thing in rows if thing not in expected]
+    return len(expected), wrong + [f"{name} says {thing} twice" for thing in set(rows) if rows.count(thing) > 1]
 
 
 # ---- what the sources say
@@ -101,51 +101,51 @@ def fault_table(name):
     text = source(FAULTS[name])
     words = {of: words for words, of in re.findall(r'#\[error\("([^"]*)"\)\]\s+(\w+)', text)}
     numbers = re.findall(r"\w+::(\w+)(?:\([_, ]+\))? => (\d+),", text)
-    wanted = [(number, f"`{of}`", re.sub(r"\{\d\}", "@", words[of])) for of, number in numbers]
-    told = [(cells[0], cells[1], re.sub(r"\b(?:WORDS|ID|C|L)\b", "@", cells[2])) for cells in rows(name)]
-    return compared(name, told, wanted)
+    expected = [(number, f"`{of}`", re.sub(r"\{\d\}", "@", words[of])) for of, number in numbers]
+    table = [(cells[0], cells[1], re.sub(r"\b(?:WORDS|ID|C|L)\b", "@", cells[2])) for cells in rows(name)]
+    return compare(name, table, expected)
 
 
 def standard_error():
     words = re.findall(r'#\[error\("([^"]*)"\)\]', source("ft_desk/src/program.rt"))
-    wanted = [f"`histdesk: {said}`".replace("{0}", "PATH") for said in words]
-    return compared("The programs", [cells[0] for cells in rows("The programs")], wanted)
+    expected = [f"`histdesk: {message}`".replace("{0}", "PATH") for message in words]
+    return compare("The programs", [cells[0] for cells in rows("The programs")], expected)
 
 
 def value(path, form):
     """A limit's value in a file."""
-    found = re.search(form if "(" in form else rf"const {form}: \w+ = ([\w:]+);", source(path))[1]
-    return MAXIMA[found] if found in MAXIMA else int(found.replace("_", ""))
+    text = re.search(form if "(" in form else rf"const {form}: \w+ = ([\w:]+);", source(path))[1]
+    return MAXIMA[text] if text in MAXIMA else int(text.replace("_", ""))
 
 
 def limits():
-    told = []
+    table = []
     for what, limit, _ in rows("Limits"):
         if "^" not in limit:
-            told += zip(what.split("; "), (int(number.replace(",", "")) for number in limit.split("; ")))
-    return compared("Limits", told, [(what, value(*place)) for what, place in LIMITS.items()])
+            table += zip(what.split("; "), (int(number.replace(",", "")) for number in limit.split("; ")))
+    return compare("Limits", table, [(what, value(*place)) for what, place in LIMITS.items()])
 
 
 def fields():
     """The fields by kind and event, each as a pair of names."""
-    found = re.findall(r'=> (number|text)\(b"(\w+)", Owner::(\w+)\)', source("ft_fields/src/field.rt"))
-    wanted = [(event, f"{kind} {name}") for event, owners in OWNERS.items() for kind, name, owner in found if owner in owners]
-    told = []
+    owned = re.findall(r'=> (number|text)\(b"(\w+)", Owner::(\w+)\)', source("ft_fields/src/field.rt"))
+    expected = [(event, f"{kind} {name}") for event, owners in OWNERS.items() for kind, name, owner in owned if owner in owners]
+    table = []
     for event, numbers, texts in rows("Fields"):
         event = re.sub(", which .*", "", event)
-        told += [(event, f"number {name}") for name in re.findall(r"`(\w+)`", numbers)]
-        told += [(event, f"text {name}") for name in re.findall(r"`(\w+)`", texts)]
-    return compared("Fields", told, wanted)
+        table += [(event, f"number {name}") for name in re.findall(r"`(\w+)`", numbers)]
+        table += [(event, f"text {name}") for name in re.findall(r"`(\w+)`", texts)]
+    return compare("Fields", table, expected)
 
 
 def left_out():
     """The words that are left out stand in the rules of faults and in the list."""
-    found = {word for path in ("draft", "lists") for word in LEFT_OUT.findall(source(f"ft_head/src/{path}.rt"))} - TAKEN
+    words = {word for path in ("draft", "lists") for word in LEFT_OUT.findall(source(f"ft_head/src/{path}.rt"))} - TAKEN
     names = ["Trigger faults", "Left out"]
-    listed = {name: re.findall(r"`\.?([^`]+)`", section(name)) for name in names}
-    listed["Left out"] += [f"{word}(" for word in listed["Left out"]]
-    wrong = [f"{name} lacks {word}" for name in names for word in sorted(found) if word not in listed[name]]
-    return len(found) * len(names), wrong
+    lists = {name: re.findall(r"`\.?([^`]+)`", section(name)) for name in names}
+    lists["Left out"] += [f"{word}(" for word in lists["Left out"]]
+    wrong = [f"{name} lacks {word}" for name in names for word in sorted(words) if word not in lists[name]]
+    return len(words) * len(names), wrong
 
 
 # ---- what the program answers
@@ -160,29 +160,29 @@ def answers(*commands):
 
 def canonical(lines):
     """The canonical text that hist has printed."""
-    told = [line[len("# trigger info: ") : -len(" [active]")] for line in lines if line.startswith("# trigger info: ")]
-    return told[0] if told else lines[-1]
+    texts = [line[len("# trigger info: ") : -len(" [active]")] for line in lines if line.startswith("# trigger info: ")]
+    return texts[0] if texts else lines[-1]
 
 
 def examples(kind):
     """The examples of a block, each with its answer: on the same line, or on one of its own, after four spaces."""
     block = re.search(rf"^```{kind}\n(.*?)^```$", REFERENCE, re.DOTALL | re.MULTILINE)[1]
-    lines, found = block.split("\n")[:-1], []
+    lines, pairs = block.split("\n")[:-1], []
     for line, after in zip(lines, [*lines[1:], ""]):
         if after.startswith("    "):
-            found.append((line, after[4:]))
+            pairs.append((line, after[4:]))
         elif not line.startswith("    "):
-            found.append(re.fullmatch(r"(.*\S) {2,}(\S.*)", line).groups())
-    return found
+            pairs.append(re.fullmatch(r"(.*\S) {2,}(\S.*)", line).groups())
+    return pairs
 
 
 def of_line(line):
-    told = answers(f"insert {line}")[0]
-    if told == "refused 6":
+    answer = answers(f"insert {line}")[0]
+    if answer == "refused 6":
         return "skipped"
-    if told.startswith("refused 3"):
-        return told.replace("refused 3: line 1 ", "")
-    return answers(f"insert {line}", f"list {told.split()[1].split(':')[0]}")[1].partition(" ")[2]
+    if answer.startswith("refused 3"):
+        return answer.replace("refused 3: line 1 ", "")
+    return answers(f"insert {line}", f"list {answer.split()[1].split(':')[0]}")[1].partition(" ")[2]
 
 
 def of_pattern(pattern, answer):
@@ -196,61 +196,62 @@ def of_pattern(pattern, answer):
 
 
 def of_filter(text):
-    told = answers("attach sched_waking hist:keys=pid", f"filter 1 if {text.replace('(nothing)', '')}", "hist 1")
-    return told[1].replace("refused 9: filter ", "") if told[1].startswith("refused") else canonical(told).partition(" if ")[2]
+    output = answers("attach sched_waking hist:keys=pid", f"filter 1 if {text.replace('(nothing)', '')}", "hist 1")
+    refusal = output[1] if output[1].startswith("refused") else None
+    return refusal.replace("refused 9: filter ", "") if refusal else canonical(output).partition(" if ")[2]
 
 
 def of_trigger(text):
     saver = ["attach sched_waking hist:keys=pid:ts0=common_timestamp.usecs"] if "$ts0" in text else []
-    told = answers(*saver, f"attach {text}", f"hist {len(saver) + 1}")
-    refused = [line.replace("refused 8: fault ", "") for line in told if line.startswith("refused")]
-    return refused[0] if refused else canonical(told)
+    output = answers(*saver, f"attach {text}", f"hist {len(saver) + 1}")
+    refusals = [line.replace("refused 8: fault ", "") for line in output if line.startswith("refused")]
+    return refusals[0] if refusals else canonical(output)
 
 
 def of_part(part):
     return of_trigger(f"sched_switch hist:keys=next_pid:lat=common_timestamp.usecs-$ts0:{part}")
 
 
-def answered(kind, ask):
+def wrong_answers(kind, ask):
     """The examples of a block that are answered otherwise."""
     # What is said of a fault after a colon is for the reader.
-    wanted = {example: re.sub(r"^((?:fault )?\d+(?: at \d+)?): .*", r"\1", answer) for example, answer in examples(kind)}
-    told = {example: ask(example) for example in wanted}
-    wrong = [f"{kind}: {of} gives {told[of]}, not {answer}" for of, answer in wanted.items() if told[of] != answer]
-    return len(wanted), wrong
+    expected = {example: re.sub(r"^((?:fault )?\d+(?: at \d+)?): .*", r"\1", answer) for example, answer in examples(kind)}
+    replies = {example: ask(example) for example in expected}
+    wrong = [f"{kind}: {of} gives {replies[of]}, not {answer}" for of, answer in expected.items() if replies[of] != answer]
+    return len(expected), wrong
 
 
 def patterns():
-    found = [(pattern, answer, of_pattern(pattern, answer)) for pattern, answer in examples("patterns")]
-    return len(found), [f"patterns: {of} {told}" for of, answer, told in found if told != answer]
+    triples = [(pattern, answer, of_pattern(pattern, answer)) for pattern, answer in examples("patterns")]
+    return len(triples), [f"patterns: {of} {reply}" for of, answer, reply in triples if reply != answer]
 
 
-def parsed():
+def row_pattern():
     """The pattern for rows reads the parts of one whose task has a name like the rest of a row."""
     pattern, name = re.search(r"^```row\n(.*)$", REFERENCE, re.MULTILINE)[1], "w } hitcount: 7  prio: 8"
     line = f"insert a-1 [0] 1.000000: sched_waking: comm={name} pid=9 prio=5 target_cpu=0"
     row = next(line for line in answers(line, "attach sched_waking hist:keys=comm,pid:vals=prio", "hist 1") if line[:1] == "{")
-    read = re.fullmatch(pattern, f"+ 1 {row}")
-    wanted = ("+", "1", f"comm: {name:50}, pid:          9", "1", "  prio:          5")
-    return 1, [] if read and read.groups() == wanted else [f"row: {row} is read as {read and read.groups()}"]
+    match = re.fullmatch(pattern, f"+ 1 {row}")
+    expected = ("+", "1", f"comm: {name:50}, pid:          9", "1", "  prio:          5")
+    return 1, [] if match and match.groups() == expected else [f"row: {row} is read as {match and match.groups()}"]
 
 
 def deepest():
     """As many open levels as the table allows are a filter, and no more."""
     most = value(*LIMITS["open `(` and `!` in a filter"])
     texts = [text for count in (most, most + 1) for text in ("(" * count + "pid==1" + ")" * count, "!" * count + "pid==1")]
-    told = ["7" == of_filter(text) for text in texts]
-    return len(texts), [] if told == [False, False, True, True] else [f"levels: {told}"]
+    results = ["7" == of_filter(text) for text in texts]
+    return len(texts), [] if results == [False, False, True, True] else [f"levels: {results}"]
 
 
 def main():
-    told = [fault_table(name) for name in FAULTS]
-    told += [standard_error(), limits(), fields(), left_out(), patterns(), deepest(), parsed()]
-    asked = {"lines": of_line, "filters": of_filter, "canonical": of_filter, "triggers": of_trigger, "parts": of_part}
-    told += [answered(kind, ask) for kind, ask in asked.items()]
-    count, wrong = sum(count for count, _ in told), [line for _, lines in told for line in lines]
+    results = [fault_table(name) for name in FAULTS]
+    results += [standard_error(), limits(), fields(), left_out(), patterns(), deepest(), row_pattern()]
+    questions = {"lines": of_line, "filters": of_filter, "canonical": of_filter, "triggers": of_trigger, "parts": of_part}
+    results += [wrong_answers(kind, ask) for kind, ask in questions.items()]
+    count, wrong = sum(count for count, _ in results), [line for _, lines in results for line in lines]
     print("\n".join([*wrong, f"{count - len(wrong)} of {count} things hold"]))
-    return 1 if wrong or not all(count for count, _ in told) else 0
+    return 1 if wrong or not all(count for count, _ in results) else 0
 
 
 if __name__ == "__main__":

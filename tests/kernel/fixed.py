@@ -8,15 +8,27 @@ difference, and lists it. `known` is one of
     rows             both take it, and the rows differ
     order            the rows are the same, and stand in another order
     both refuse      neither takes it: no difference
+
+A difference that newer kernels don't have says so (`until`), and what is wanted of those (`then`): one of the above, or ""
+for no difference.
 """
 
 JOB, TO, FROM = ' if comm ~ "job*"', ' if next_comm ~ "job*"', ' if prev_comm ~ "job*"'
 WAKING, WAKEUP, NEW, SWITCH = "sched_waking", "sched_wakeup", "sched_wakeup_new", "sched_switch"
 
+
+def of_length(count, keys):
+    """A trigger with so many bytes."""
+    text = f"hist:keys={keys}{JOB}{' && pid > 0' * 300}"
+    return text + " " * (count - len(text) - len("&& pid > 1")) + "&& pid > 1"
+
+
 ALIKE = [
     [(WAKING, "hist:keys=comm" + JOB)],
     [(WAKING, "hist:keys=pid:vals=prio,target_cpu:sort=prio.descending,pid" + JOB)],
     [(WAKING, "hist:keys=prio.log2:sort=prio" + JOB)],
+    # The most that the kernel takes, with a line break after it.
+    [(WAKING, of_length(4094, "pid,comm,prio"))],
     [(WAKING, "hist:keys=pid.buckets=32:vals=hitcount,prio:sort=pid.descending" + JOB)],
     [(WAKING, "hist:keys=comm,prio,pid:sort=comm,pid.descending" + JOB)],
     [(WAKING, 'hist:keys=common_pid.hex,common_cpu if comm ~ "job k*" && (pid & 1 || prio != 120)')],
@@ -29,10 +41,9 @@ ALIKE = [
     [(SWITCH, "hist:keys=next_prio.buckets=10:vals=next_pid,prev_pid:sort=next_pid.descending" + TO)],
     [(SWITCH, "hist:keys=prev_prio,next_prio,common_cpu:sort=prev_prio,next_prio.descending" + FROM)],
     [(SWITCH, "hist:keys=next_comm:vals=prev_prio if next_comm ~ 'job [!a-m]*' && prev_comm != 'job boss'")],
-    # A priority of -1: sums modulo 2^64, rows in signed order, 64 bits in .log2.
+    # A priority of -1: sums modulo 2^64, rows in signed order.
     [(WAKING, 'hist:keys=prio:vals=prio:sort=hitcount.descending if comm == "dline" || comm ~ "job*"')],
     [(WAKING, 'hist:keys=prio.hex,comm:sort=prio,comm if prio < 0 && comm == "dline" || comm ~ "job*"')],
-    [(WAKING, 'hist:keys=prio.log2,pid if comm == "dline"')],
     # The sum of the stamps that a saver saves.
     [(WAKEUP, "hist:keys=prio.buckets=3:vals=$at,pid:at=common_timestamp.usecs:sort=prio" + JOB)],
     # Latencies: from the waking to the switch, from it to the wakeup, and off the CPU. One event may set two variables.
@@ -80,6 +91,9 @@ KNOWN = [
     ("kernel refuses", "a size in octal has no 8", WAKING, "hist:keys=comm,pid:size=0128" + JOB),
     ("kernel refuses", "an equal trigger is attached", WAKING, "hist:keys=comm" + JOB),
     ("kernel refuses", "a trigger differs from another in its size alone", WAKING, "hist:keys=comm:size=256" + JOB),
+    ("kernel refuses", "a text of 256 bytes in a filter", WAKING, f'hist:keys=pid if comm != "{"x" * 256}"'),
+    ("kernel refuses", "a trigger of 4,096 bytes with its line break", WAKING, of_length(4095, "pid,comm")),
+    ("kernel refuses", "a text for prev_state", SWITCH, 'hist:keys=next_pid if prev_state == "S"'),
     ("desk refuses", "a field is a key twice", WAKING, "hist:keys=pid,pid" + JOB),
     ("desk refuses", "a field is a value twice", WAKING, "hist:keys=comm:vals=prio,prio" + JOB),
     ("desk refuses", "a number in octal", WAKING, "hist:keys=prio" + JOB + " && pid > 0144"),
@@ -91,12 +105,27 @@ KNOWN = [
     ("desk refuses", "two parts of one kind", WAKING, "hist:keys=pid:keys=prio" + JOB),
     ("rows", "a glob of one star in front asks for the end of 16 bytes", WAKING, 'hist:keys=comm if comm ~ "*b"'),
     ("rows", "a glob with a digit in front is compared as it stands", WAKING, 'hist:keys=comm if comm ~ "7*"'),
-    ("rows", "a class with `!` takes the byte 0 after the name", WAKING, 'hist:keys=comm if comm ~ "job kid 1[!x]"'),
     ("rows", "a number is cut to the 32 bits of the field", WAKING, "hist:keys=comm" + JOB + " && pid < 4294967296"),
     ("rows", "the end of the bucket of -1 is modulo 2^64", WAKING, 'hist:keys=prio.buckets=10 if comm == "dline"'),
     ("rows", "prev_state is a number", SWITCH, "hist:keys=prev_state" + FROM),
     ("rows", "the size of buckets in octal", WAKING, "hist:keys=pid.buckets=010,prio" + JOB),
     ("order", "a name that is a key and a value sorts by the value", WAKING, "hist:keys=prio:vals=prio:sort=prio" + JOB),
+]
+
+# What newer kernels do as the desk does: the first release of each series that does, how older ones differ, why, what is
+# wanted of newer ones, and the trigger.
+LOG2 = 'hist:keys=prio.log2,pid if comm == "dline"'
+MENDED = [
+    (["6.1.191", "6.12.115"], "rows", "`.log2` of -1 shifts out of bounds", "", WAKING, LOG2),
+    (["6.1.191", "6.12.115"], "desk refuses", "a filter ends in &&", "both refuse", WAKING, "hist:keys=pid if pid == 1 &&"),
+    (
+        ["6.12.0"],
+        "rows",
+        "a class with `!` takes the byte 0 after the name",
+        "",
+        WAKING,
+        'hist:keys=comm if comm ~ "job kid 1[!x]"',
+    ),
 ]
 
 # The kernel finds no variable of the trigger itself that is made by an expression.
@@ -133,7 +162,6 @@ FAULTS = [
     (WAKING, "hist:keys=pid if (pid == 1"),
     (WAKING, "hist:keys=pid if pid == 1 pid == 2"),
     (WAKING, "hist:keys=pid if next_pid == 1"),
-    (WAKING, "hist:keys=pid if pid == 1 &&"),
     (WAKING, "hist:keys=pid if"),
     (WAKING, "hist:keys=pid:" + JOB),
 ]
@@ -145,6 +173,8 @@ def fixed(cpus):
         yield [dict(zip(("event", "text", "saver"), case)) for case in group]
     for known, why, event, text in KNOWN + (KNOWN_ON_MORE if cpus > 1 else []):
         yield [{"event": event, "text": text, "known": known, "why": why}]
+    for until, known, why, then, event, text in MENDED:
+        yield [{"event": event, "text": text, "known": known, "why": why, "until": until, "then": then}]
     yield READER
     for event, text in FAULTS:
         yield [{"event": event, "text": text, "known": "both refuse", "why": ""}]

@@ -86,6 +86,17 @@ def read_table(lines, keys):
     return Table(head, rows, tuple(totals))
 
 
+def with_ends(case):
+    """The case with the buckets of negative numbers in the kernel's tables as the desk has them: the last one ends at the
+    greatest number, and doesn't begin again at 0."""
+
+    def ended(found):
+        return f"~ {found[1]}-{MASK}" if int(found[2]) < int(found[1]) else found[0]
+
+    parts = {name: case[name] for name in ("block", "summed") if name in case}
+    return case | {name: [re.sub(r"~ (\d+)-(\d+)", ended, line) for line in lines] for name, lines in parts.items()}
+
+
 def blocks(text):
     """The parts of a `hist` file, one for each trigger, in the order in which they were attached."""
     return [part.split("\n") for part in text.split("# event histogram\n")[1:]]

@@ -98,7 +98,7 @@ done
 if command -v c++ >/dev/null; then
     compiles "header, C++" c++ -xc++ -std=c++17 "${strict[@]}" -fsyntax-only "$include/histdesk.h"
 else
-    echo "not tried: the header in C++, since there is no c++"
+    skip "the header in C++, since there is no c++"
 fi
 declared=$(sed -n 's/^[a-z0-9_]* \(histdesk_[a-z_]*\)(.*/\1/p' "$include/histdesk.h" | sort)
 is_told "exported names" "$declared" "$(names --defined-only)"
@@ -155,7 +155,7 @@ if command -v valgrind >/dev/null; then
         row "$tests/rows/$one" "${checked[@]}" "$folder/script" --numbers
     done
 else
-    echo "not tried: buffers under valgrind, which is not installed"
+    skip "buffers under valgrind, which is not installed"
 fi
 
 # ---- The example.
@@ -163,9 +163,8 @@ fi
 program waits "$examples/c/waits.c"
 gives waits 0 "" "$folder/waits" "$examples/wakeups.trace"
 prints waits "$examples/c/waits.expected"
-gives waits_torn 1 "waits: $examples/torn.trace: line 15: no stamp SECONDS.MICROSECONDS: stands where one is due, \
-or the flags before it have over 16 bytes" "$folder/waits" "$examples/torn.trace"
+gives waits_torn 1 "waits: $examples/torn.trace: line 15: expected a timestamp SECONDS.MICROSECONDS: here, or the \
+flags exceed 16 bytes" "$folder/waits" "$examples/torn.trace"
 gives waits_gone 1 "$folder/gone: No such file or directory" "$folder/waits" "$folder/gone"
 
-echo "$passed passed, $failed failed"
-((failed == 0))
+finish

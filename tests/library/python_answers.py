@@ -1,5 +1,4 @@
-"""The Python package's edits, answers and refusals on small traces, with values that were written down by hand; run by
-python_package.py."""
+"""Holds the Python package's edits, answers and refusals on small traces, by values that were written down by hand."""
 
 import gc
 import gzip
@@ -13,21 +12,17 @@ import tempfile
 import threading
 import unittest
 
+import numpy
+
 import histdesk
 from histdesk import Bucket, Changed, Event, Latency, Log2, Place, Refused, Totals
 
-try:
-    import numpy
-except ImportError:
-    numpy = None
 try:
     import pandas
 except ImportError:
     pandas = None
 
-with_numpy = unittest.skipUnless(numpy, "numpy is missing")
 with_pandas = unittest.skipUnless(pandas, "pandas is missing")
-without_numpy = unittest.skipIf(numpy, "numpy is there, and this is what is answered without it")
 
 TRACE = b"""\
 # tracer: nop
@@ -51,6 +46,11 @@ WAKING_7 = Event(1000200, 1, 2, "sched_waking", "sim", 1, "x", 7, -1, 1)
 SWITCH_7 = Event(1000230, 0, 3, "sched_switch", "sim", 1, "x", 7, -1, None, "w", 42, 120, "R+")
 MERGED = [OTHER, WAKING_42, SWITCH_42, WAKING_7, SWITCH_7]
 WAITS = [Latency(1000100, 1, 1, 1000150, 0, 1, 50), Latency(1000200, 1, 2, 1000230, 0, 3, 30)]
+
+
+def at_micros(micros):
+    """A time for `read` and the like, of a timestamp in microseconds; None for none."""
+    return None if micros is None else histdesk.Stamp(micros)
 
 
 def desk_of(trace=TRACE):
@@ -232,7 +232,6 @@ class Edits(unittest.TestCase):
             self.desk.strike_events([Place(0, 1, 1), Place(0, 1, "2")])
         self.assertEqual(list(self.desk.events()), [WAKING_42, WAKING_7])
 
-    @with_numpy
     def test_strikes_of_arrays(self):
         every_second = self.desk.matching("sched_switch", "next_pid > 0")[::2]
         self.assertEqual(self.desk.strike_events(every_second).struck, 1)
@@ -386,12 +385,6 @@ Totals:
         self.desk.unload(1)
         self.assertEqual(len(self.reader.latencies()), 0)
 
-    @without_numpy
-    def test_latencies_without_numpy(self):
-        self.assertEqual(self.reader.latencies(), WAITS)
-        self.assertIs(type(self.reader.latencies()[0]), Latency)
-
-    @with_numpy
     def test_latencies_in_numpy(self):
         latencies = self.reader.latencies()
         self.assertIsInstance(latencies, numpy.recarray)
@@ -508,11 +501,6 @@ class Held(unittest.TestCase):
         self.assertEqual(len(self.desk.matching("sched_wakeup", "pid > 0")), 0)
         self.assertEqual(list(self.desk.events_matching("sched_waking", b"pid < 10")), [WAKING_7])
 
-    @without_numpy
-    def test_matching_without_numpy(self):
-        self.assertEqual(self.desk.matching("sched_waking", "pid < 10"), [Place(1000200, 1, 2)])
-
-    @with_numpy
     def test_in_numpy(self):
         places = self.desk.matching("sched_waking", "pid < 10")
         self.assertEqual((places.dtype.itemsize, places.dtype.names), (16, Place._fields))
@@ -528,11 +516,6 @@ class Held(unittest.TestCase):
         self.assertEqual(events[1:3].array.pid.tolist(), [42, 42])
         self.assertEqual(events[::-4].array.pid.tolist(), [7, 0])
 
-    @without_numpy
-    def test_array_without_numpy(self):
-        with self.assertRaises(ImportError):
-            self.desk.events().array
-
 
 @with_pandas
 class Frames(unittest.TestCase):
@@ -540,7 +523,7 @@ class Frames(unittest.TestCase):
         self.desk, self.saver, self.reader = with_waits()
 
     def test_rows(self):
-        frame = self.reader.to_pandas("rows")
+        frame = self.reader.to_pandas()
         self.assertEqual(frame.to_dict("list"), {"next_pid": [7, 42], "hitcount": [1, 1], "lat": [30, 50]})
         self.assertEqual([str(kind) for kind in frame.dtypes], ["int64", "int64", "uint64"])
         self.assertEqual(self.saver.to_pandas().to_dict("list"), {"pid": [7, 42], "hitcount": [1, 1]})
@@ -552,21 +535,19 @@ class Frames(unittest.TestCase):
         self.assertEqual([str(kind) for kind in frame.dtypes], ["object", "int64", "uint64", "int64"])
 
     def test_latencies(self):
-        frame = self.reader.to_pandas()
+        frame = self.reader.latencies_to_pandas()
         self.assertEqual(list(frame.columns), list(Latency._fields))
         self.assertEqual([tuple(row) for row in frame.itertuples(index=False)], [tuple(wait) for wait in WAITS])
-        self.assertEqual({str(kind) for kind in frame.dtypes}, {"int64"})
+        self.assertEqual({str(kind) for kind in frame.dtypes}, {"int64", "category"})
 
     def test_nothing(self):
         self.desk.unload(0)
         self.desk.unload(1)
-        self.assertEqual(self.reader.to_pandas("rows").shape, (0, 3))
-        self.assertEqual(self.reader.to_pandas("latencies").shape, (0, 7))
+        self.assertEqual(self.reader.to_pandas().shape, (0, 3))
+        self.assertEqual(self.reader.latencies_to_pandas().shape, (0, 7))
         self.assertEqual(self.desk.to_pandas().shape, (0, 14))
-        with self.assertRaises(ValueError):
-            self.reader.to_pandas("row")
         with self.assertRaises(Refused) as caught:
-            self.saver.to_pandas("latencies")
+            self.saver.latencies_to_pandas()
         self.assertEqual(caught.exception.number, 17)
 
     def test_events(self):
@@ -574,8 +555,9 @@ class Frames(unittest.TestCase):
         self.assertEqual(list(frame.columns), list(Event._fields))
         self.assertEqual(frame.name.tolist(), [event.name for event in MERGED])
         self.assertEqual(frame.task.tolist(), [event.task for event in MERGED])
-        self.assertEqual(frame.comm.tolist(), [event.comm for event in MERGED])
-        self.assertEqual(frame.prev_state.tolist(), [event.prev_state for event in MERGED])
+        for column in ("comm", "prev_state"):
+            texts = frame[column].astype(object)
+            self.assertEqual(texts.where(texts.notna(), None).tolist(), [getattr(event, column) for event in MERGED])
         self.assertEqual(frame.pid.tolist()[1:], [42, 42, 7, 7])
         self.assertEqual(frame.pid.isna().tolist(), [True, False, False, False, False])
         self.assertEqual(frame.target_cpu.isna().tolist(), [True, False, True, False, True])
@@ -681,16 +663,16 @@ class Refusals(unittest.TestCase):
     def test_words(self):
         desk = desk_of()
         refused = self.refused(lambda: desk.strike(0, 9), "refused 6")
-        self.assertEqual(str(refused), "that line holds no event, or none is there")
+        self.assertEqual(str(refused), "there is no event on that line")
         self.assertIn("CPU 2", str(self.refused(lambda: desk.list(2), "refused 5: cpu 2", cpu=2)))
 
     def test_words_of_texts(self):
         words = {
             "refused 1": "out of memory",
-            "refused 3: line 18446744073709551615 fault 6": "line 18446744073709551615: a name has more than 31 bytes",
-            "refused 4: cpu 4294967295": "events of CPU 4294967295 are held already",
-            "refused 8: fault 10 at 14": "the trigger can't be read: the kernel has this form, and the desk has not",
-            "refused 8: fault 11 filter 7": "the trigger can't be read: its filter: more than 32 of ( and ! are open",
+            "refused 3: line 18446744073709551615 fault 6": "line 18446744073709551615: a name is longer than 31 bytes",
+            "refused 4: cpu 4294967295": "events of CPU 4294967295 are already held",
+            "refused 8: fault 10 at 14": "the trigger can't be read: kernel syntax that histdesk does not support",
+            "refused 8: fault 11 filter 7": "the trigger can't be read: its filter: more than 32 nested ( and !",
             "refused 9: filter 3 at 0": "the filter can't be read: the event has no such field",
             "refused 11: trigger 64": "trigger 64 reads the variable that this one saves",
             "refused 17": "the trigger reads no variable, so it measures no latencies",
@@ -702,7 +684,7 @@ class Refusals(unittest.TestCase):
         numbers = ["", "refused", "refused 0", "refused 18", "refused 06", "refused 4294967302", "refused 9: filter 2"]
         parts = ["refused 5", "refused 6: cpu 0", "refused 5: cpu 4294967296", "refused 3: line 1 fault 8"]
         places = ["refused 8: fault 3 at 0", "refused 8: fault 11", "refused 9: filter 7 at 0", "refused 9: at 0 filter 2"]
-        others = ["refused 6 ", "refused 6\n", "Refused 6", "loaded 6", "that line holds no event", "refused 6: \udcff"]
+        others = ["refused 6 ", "refused 6\n", "Refused 6", "loaded 6", "there is no event on that line", "refused 6: \udcff"]
         for text in [*numbers, *parts, *places, *others]:
             with self.assertRaisesRegex(ValueError, "no refusal has the text '"):
                 histdesk.refusal_words(text)

@@ -3,7 +3,7 @@
 
     python_converted.py [TEST]...
 
-Programs stand in for perf and trace-cmd, and print a text that is known. The last line says how many of the tests hold."""
+Programs stand in for perf and trace-cmd, and print a text that is known."""
 
 import csv
 import os
@@ -22,7 +22,6 @@ sys.path[:0] = [os.path.realpath(os.path.join(HERE, "..", "..", "python")), os.p
 import histdesk
 import plain_waits
 import recordings
-from python_answers import with_numpy
 from python_runner import main
 
 # How a recording begins, the program that prints its text, and how that has a line.
@@ -41,7 +40,6 @@ def printed(text, form):
     return "\n".join(["cpus=4"] * ("trace-cmd" in form) + lines) + "\n"
 
 
-@with_numpy
 class Tools(unittest.TestCase):
     def setUp(self):
         folder = tempfile.TemporaryDirectory()
@@ -85,6 +83,9 @@ class Tools(unittest.TestCase):
             ("export", "waits"),
             ("export", "events"),
             ("diff", "--without", "sched_waking if pid == 3"),
+            ("summary",),
+            ("summary", "--by", "cpu", "--json"),
+            ("summary", "--from", start, "--until", end, "--csv"),
         ]
         for program, path in self.recordings.items():
             for tool, *words in asked:
@@ -120,7 +121,7 @@ class Tools(unittest.TestCase):
                 ran = self.ran(tool, path)
                 self.assertEqual(ran.returncode, 1, ran.stderr)
                 self.assertIn(b"what is this", ran.stderr)
-                self.assertIn(f"{tool}: {path} was converted only in part".encode(), ran.stderr)
+                self.assertIn(f"{tool}: only a part of {path} was converted".encode(), ran.stderr)
                 self.assertTrue(ran.stdout)
 
     def test_standard_input(self):
@@ -153,4 +154,4 @@ class Tools(unittest.TestCase):
 
 
 if __name__ == "__main__":
-    main()
+    sys.exit(main())

@@ -5,7 +5,7 @@ that several tasks have, tasks that change theirs, and lost events.
 
     python_counts.py [TEST]...
 
-The last line says how many of the tests hold."""
+"""
 
 import collections
 import contextlib
@@ -28,14 +28,12 @@ sys.path[:0] = [PYTHON, os.path.join(HERE, "..", "model")]
 import histdesk
 import plain_waits
 import recordings
-from python_answers import with_numpy, without_numpy
 from python_runner import main
 from recordings import switch, text_of, waking
 
-if histdesk._layout.numpy():
-    import numpy
+import numpy
 
-    from histdesk import _counted, _counts, _kept, _numbers, _pieces, _stream, _tally, _waits
+from histdesk import _counting, _counts, _wait_records, _numbering, _text, _stream, _tally, _waits
 
 BYS = ("task", "name", "cpu", "prio", "kind")
 SEEDS = range(12)
@@ -70,8 +68,13 @@ def plain_rows(waits, by, with_doubtful):
 def cut(most):
     """Waits are taken, counted and put aside so many at once, and pairs are joined after that many."""
     with contextlib.ExitStack() as stack:
-        changes = [(_stream, "CHUNK", most), (_waits, "COUNTED", most), (_tally, "LEAST", most), (_kept, "ASIDE", 48 * most)]
-        for module, name, value in [*changes, (_pieces, "PIECE", 40 * most)]:
+        changes = [
+            (_stream, "CHUNK", most),
+            (_waits, "BATCH", most),
+            (_tally, "LEAST", most),
+            (_wait_records, "ASIDE", 48 * most),
+        ]
+        for module, name, value in [*changes, (_text, "PIECE", 40 * most)]:
             stack.enter_context(mock.patch.object(module, name, value))
         yield
 
@@ -82,7 +85,6 @@ def quietly_found(text):
         return histdesk.waits(text)
 
 
-@with_numpy
 class Plain(unittest.TestCase):
     """Against the plain count."""
 
@@ -135,8 +137,8 @@ class Plain(unittest.TestCase):
                 for by in BYS:
                     with_doubtful = chance.random() < 0.5
                     with cut(chance.choice([7, 64, 1 << 14])):
-                        found = _counted.counted(text, _counted.Choice(by, with_doubtful, **choice))
-                    self.assertIsInstance(found, _counted.Counted)
+                        found = _counting.count_waits(text, _counting.Choice(by, with_doubtful, **choice))
+                    self.assertIsInstance(found, _counting.CountedWaits)
                     self.check(found.counts(by, with_doubtful), some, by, with_doubtful)
                     chosen = kept.only(**choice)
                     self.assertEqual(found.table(by, with_doubtful), chosen.table(by, with_doubtful))
@@ -147,21 +149,20 @@ class Plain(unittest.TestCase):
     def test_last_names(self):
         """A task whose waits are all doubtful has the name that it had last."""
         for seed in SEEDS:
-            found = _counted.counted(crowded(seed), _counted.Choice("task"))
+            found = _counting.count_waits(crowded(seed), _counting.Choice("task"))
             last = {wait.pid: wait.name for wait in plain_waits.waits_of(crowded(seed))}
             for row in found.table("task"):
                 if not row.count:
                     self.assertEqual(row.task, last[row.pid])
 
 
-@with_numpy
 class Counted(unittest.TestCase):
     """Waits that are counted while a text is read."""
 
     def test_other_words(self):
         with self.assertRaisesRegex(ValueError, "'comm'"):
-            _counted.counted(b"", _counted.Choice("comm"))
-        found = _counted.counted(recordings.kinds().text, _counted.Choice("task"))
+            _counting.count_waits(b"", _counting.Choice("comm"))
+        found = _counting.count_waits(recordings.kinds().text, _counting.Choice("task"))
         for by, with_doubtful in (("kind", False), ("task", True)):
             with self.assertRaises(ValueError):
                 found.counts(by, with_doubtful)
@@ -169,33 +170,32 @@ class Counted(unittest.TestCase):
     def test_nothing(self):
         for text in (b"", text_of([waking(0, 5, 7)])):
             for by in BYS:
-                found = _counted.counted(text, _counted.Choice(by))
+                found = _counting.count_waits(text, _counting.Choice(by))
                 self.assertEqual((len(found), found.table(by), found.doubtful, found.likely), (0, [], 0, 0))
 
     def test_order(self):
         """Of a text that isn't in the order of time a desk holds the events."""
         lines = [switch(0, 30, "a-1", "w-7"), waking(0, 20, 7), waking(0, 5, 8), switch(1, 9, "a-1", "v-8")]
-        choice = _counted.Choice("task", cpus=[1])
-        found = _counted.counted(text_of(lines), choice)
+        choice = _counting.Choice("task", cpus=[1])
+        found = _counting.count_waits(text_of(lines), choice)
         self.assertEqual([(row.pid, row.max) for row in found.table("task")], [(8, 4)])
 
     def test_full_disk(self):
         """What can't be put aside names the folder for temporary files."""
-        aside = _kept.Aside(16)
+        aside = _wait_records.Aside(16)
         aside._file = mock.Mock()
         aside._file.write.side_effect = OSError(errno.ENOSPC, "No space left on device")
-        with mock.patch.object(_counted, "put_aside", lambda: aside), self.assertRaises(OSError) as raised:
-            _counted.counted(crowded(1), _counted.Choice("task"))
+        with mock.patch.object(_counting, "put_aside", lambda: aside), self.assertRaises(OSError) as raised:
+            _counting.count_waits(crowded(1), _counting.Choice("task"))
         self.assertEqual((raised.exception.errno, raised.exception.filename), (errno.ENOSPC, tempfile.gettempdir()))
 
     def test_nothing_is_left(self):
         """What is put aside is in a file without a name."""
         with tempfile.TemporaryDirectory() as folder, mock.patch.object(tempfile, "tempdir", folder), cut(7):
-            _counted.counted(crowded(1), _counted.Choice("task"))
+            _counting.count_waits(crowded(1), _counting.Choice("task"))
             self.assertEqual(os.listdir(folder), [])
 
 
-@with_numpy
 class Pairs(unittest.TestCase):
     """Pairs of a key's number and microseconds."""
 
@@ -204,9 +204,9 @@ class Pairs(unittest.TestCase):
         for one, other, times in zip(key, micros, count):
             wanted[one, other] += times
         arrays = [numpy.array(column, "int64") for column in (key, micros, count)]
-        columns = [column.tolist() for column in _counts.summed(*arrays)]
+        columns = [column.tolist() for column in _counts.sum_pairs(*arrays)]
         self.assertEqual(list(zip(*columns)), [(*pair, times) for pair, times in sorted(wanted.items())])
-        columns = [column.tolist() for column in _counts.counted(*arrays[:2])]
+        columns = [column.tolist() for column in _counts.count_pairs(*arrays[:2])]
         plain = collections.Counter(zip(key, micros))
         self.assertEqual(list(zip(*columns)), [(*pair, times) for pair, times in sorted(plain.items())])
 
@@ -227,12 +227,11 @@ class Pairs(unittest.TestCase):
                 self.check([key, 0, key, 1, key], [0, micros, micros, micros, micros], [1, 1, 2, 3, 4])
 
 
-@with_numpy
 class Numbers(unittest.TestCase):
     """Numbers for rows of words."""
 
     def check(self, rows, words):
-        numbers, known = _numbers.Numbers(words), {}
+        numbers, known = _numbering.Numbers(words), {}
         for start in range(0, len(rows), 100):
             part = rows[start : start + 100]
             wanted = [known.setdefault(tuple(row), len(known)) for row in part]
@@ -256,25 +255,21 @@ class Numbers(unittest.TestCase):
             self.check([[5] * words, [0] * words, [5] * words], words)
 
     def test_more_than_the_table_has(self):
-        with mock.patch.object(_numbers, "LEAST_BITS", 4), mock.patch.object(_numbers, "SPARE", 2):
+        with mock.patch.object(_numbering, "LEAST_BITS", 4), mock.patch.object(_numbering, "SPARE", 2):
             chance = random.Random(9)
             self.check([[chance.randrange(300)] for _ in range(3000)], 1)
 
     def test_one_hash(self):
         """Different rows of which the hash says the same."""
-        one, other = _numbers.FACTORS[:2]
+        one, other = _numbering.FACTORS[:2]
         rows = [[(7 + other * step) % 2**64, (9 - one * step) % 2**64, 1, 2] for step in range(40)]
-        self.assertEqual(len({sum(word * factor for word, factor in zip(row, _numbers.FACTORS)) % 2**64 for row in rows}), 1)
+        self.assertEqual(
+            len({sum(word * factor for word, factor in zip(row, _numbering.FACTORS)) % 2**64 for row in rows}), 1
+        )
         self.check(random.Random(3).choices(rows, k=900), 4)
         # And rows of one word which share a place of the table.
-        inverse = pow(_numbers.FACTORS[0], -1, 2**64)
+        inverse = pow(_numbering.FACTORS[0], -1, 2**64)
         self.check([[inverse * step % 2**64] for step in range(50)] * 4, 1)
-
-
-class WithoutNumpy(unittest.TestCase):
-    @without_numpy
-    def test_the_package_is_there(self):
-        self.assertRaises(ImportError, histdesk.waits, b"")
 
 
 if __name__ == "__main__":

@@ -4,8 +4,7 @@ and tools/diff.
 
     python_diff.py [TEST]...
 
-The library is found as the package finds it. It all needs numpy; where that is missing a line says that nothing was tried. The
-last line says how many tests hold.
+The library is found as the package finds it.
 """
 
 import csv
@@ -32,12 +31,8 @@ import copies
 import histdesk
 import plain_waits
 import recordings
-from python_runner import Runner
+from python_runner import main
 
-try:
-    import numpy
-except ImportError:
-    numpy = None
 try:
     import pandas
 except ImportError:
@@ -46,6 +41,8 @@ except ImportError:
 # So many events are held by a desk.
 DESK = 1048576
 FIGURES = ("count", "mean", "p50", "p90", "p99", "max", "doubtful")
+# The figures of which parts of each recording are compared.
+SPREADS = ("per_second", "mean", "p99", "max", "waited")
 # Filters, and the lines that they mean.
 FILTERS = {
     "sched_waking if pid < 110": rb"sched_waking: .* pid=10[0-9] ",
@@ -248,7 +245,7 @@ class Without(Case):
         known = recordings.simulated(14, 200)
         path = self.put("a", known.text)
         half = known.waits[len(known.waits) // 2].end.stamp
-        found = diff(histdesk.read(path, start=half), without="sched_wakeup_new")
+        found = diff(histdesk.read(path, start=histdesk.Stamp(half)), without="sched_wakeup_new")
         # Lines are counted from the first event that is taken.
         counts = {}
         for event in plain_waits.events_of(known.text):
@@ -395,10 +392,18 @@ class Tool(Case):
     def test_csv_and_json(self):
         paths = [self.put(f"{seed}.trace", recordings.simulated(seed, 200).text) for seed in (1, 2)]
         rows = diff(*paths).table("task", above=100)
-        told = [[*row.key, *(figure for pair in zip(row.before, row.after) for figure in pair)] for row in rows]
-        names = ["task", "pid", "kind"] + [
-            f"{name}_{side}" for name in histdesk.Figures._fields for side in ("before", "after")
+        parts = diff(*paths).parts("task")
+        told = [
+            [
+                *row.key,
+                *(figure for pair in zip(row.before, row.after) for figure in pair),
+                *(side.width for name in SPREADS for side in parts[row.key].figure(name)[:2]),
+            ]
+            for row in rows
         ]
+        names = ["task", "pid", "kind"]
+        names += [f"{name}_{side}" for name in histdesk.Figures._fields for side in ("before", "after")]
+        names += [f"{name}_spread_{side}" for name in SPREADS for side in ("before", "after")]
         words = (*paths, "--by", "task", "--above", "100")
         lines = list(csv.reader(io.StringIO(self.run_tool(*words, "--csv")[0])))
         self.assertEqual(lines, [names, *([str("" if cell is None else cell) for cell in row] for row in told)])
@@ -409,7 +414,7 @@ class Tool(Case):
 
     def test_refused(self):
         good, bad = self.put("good", recordings.kinds().text), self.put("bad", recordings.kinds().text + b"hello\n")
-        for words in [(good,), (good, good, "--without", "sched_switch")]:
+        for words in [(good,), (good, "--without", "sched_switch", good)]:
             self.assertIn("another TRACE or --without", self.run_tool(*words, status=2)[1])
         for words in [(good, bad), (bad, good), (bad, "--without", "sched_switch")]:
             self.assertRegex(self.run_tool(*words, status=2)[1], f"^diff: {bad}: line [0-9]+")
@@ -427,19 +432,6 @@ class Tool(Case):
         self.assertRegex(errors, f"^diff: {path}: events were lost: .*CPU 2")
         self.assertIn("doubtful waits are left out, 3 before and 3 after", told)
         self.assertIn("2 -> 1", told)
-
-
-def main():
-    if numpy is None:
-        print("not tried: numpy is missing")
-        print("0 of 0 tests hold")
-        return 0
-    ran = unittest.main(exit=False, testRunner=Runner).result
-    for reason in sorted({reason for _, reason in ran.skipped}):
-        print(f"not tried: {reason}")
-    wrong = len(ran.failures) + len(ran.errors)
-    print(f"{ran.good} of {ran.good + wrong} tests hold")
-    return 1 if wrong else 0
 
 
 if __name__ == "__main__":

@@ -1,6 +1,6 @@
 #!/usr/bin/env python3
 """python_export.py: what tools/export writes is read back by csv, json and pandas, and is what the trace holds. The expected
-values are written by hand, or are those that the trace was made of. The last line says how many of the tests hold.
+values are written by hand, or are those that the trace was made of.
 
     python_export.py [TEST]...
 """
@@ -27,8 +27,8 @@ sys.path[:0] = [PYTHON, os.path.join(HERE, "..", "model")]
 
 import histdesk
 import plain_waits
-from histdesk import _aside, _stream
-from python_answers import with_numpy, with_pandas
+from histdesk import _waits_in_parts, _stream
+from python_answers import with_pandas
 from python_runner import main
 from recordings import all_known, text_of
 
@@ -202,7 +202,6 @@ class Events(Tool):
         self.assertEqual(frame.stamp.tolist(), [1000050, 1000100, 1000150, 1000190])
         self.assertEqual((str(frame.line.dtype), frame.pid.tolist()[1:]), ("int64", [42.0, 42.0, 1.0]))
 
-    @with_numpy
     def test_part(self):
         """Lines are those of the whole trace."""
         rows = self.objects(SMALL, "events", "--from", "1.00015")
@@ -213,7 +212,7 @@ class Events(Tool):
     def test_lenient(self):
         status, out, told = self.ran(SMALL + b"torn\n", "events")
         self.assertEqual((status, out), (2, b""))
-        self.assertIn("line 6: no TASK-PID [CPU]", told)
+        self.assertIn("line 6: expected TASK-PID [CPU]", told)
         status, out, told = self.ran(SMALL + b"torn\n", "events", "--lenient")
         self.assertEqual((status, out.count(b"\n"), told.count("\n")), (0, 5, 1))
         self.assertIn("1 line can't be read and is left out: 6", told)
@@ -326,13 +325,11 @@ class Latencies(Tool):
         self.assertEqual((status, [line.split(b",")[-1] for line in out.splitlines()]), (0, [b"doubtful", b"false", b"true"]))
         self.assertIn("CPU 2 lost 4", told)
 
-    @with_numpy
     def test_part(self):
         rows = self.rows(SMALL, "latencies", *SAVER, *READER, "--events", "sched_waking,sched_switch")
         self.assertEqual(rows[1][3:9], ["1000100", "0", "1", "1000150", "1", "2"])
 
 
-@with_numpy
 class Waits(Tool):
     def test_known(self):
         for name, known in all_known().items():
@@ -380,13 +377,13 @@ class Waits(Tool):
         whole = histdesk.waits(known.text)
         for most in (1, 2, 3):
             with mock.patch.object(_stream, "CHUNK", most):
-                parts = [*_aside.parts_of(_aside.waits_in_parts(known.text))]
+                parts = [*_waits_in_parts.parts_of(_waits_in_parts.waits_in_parts(known.text))]
                 self.assertEqual([len(part) for part in parts], [min(most, 4 - at) for at in range(0, 4, most)])
                 rows = [row.tolist() for part in parts for row in part.array]
                 self.assertEqual(rows, [row.tolist() for row in whole.array])
                 self.assertEqual([name for part in parts for name in part.names], [wait.name for wait in known.waits])
-        with mock.patch.object(_aside, "PART", 3):
-            self.assertEqual([len(part) for part in _aside.parts_of(whole)], [3, 1])
+        with mock.patch.object(_waits_in_parts, "PART", 3):
+            self.assertEqual([len(part) for part in _waits_in_parts.parts_of(whole)], [3, 1])
 
     def test_any_order(self):
         """Of a text that isn't in the order of time a desk holds the events."""
@@ -410,11 +407,11 @@ class Words(Tool):
 
     def test_words(self):
         self.assertIn("invalid choice: 'nothing'", self.refused("nothing"))
-        self.assertEqual(self.refused("rows"), "export: rows wants EVENT and TRIGGER after it; --help says more\n")
+        self.assertEqual(self.refused("rows"), "export: rows needs EVENT and TRIGGER after it; --help says more\n")
         self.assertEqual(
-            self.refused("rows", "sched_waking"), "export: rows wants EVENT and TRIGGER after it; --help says more\n"
+            self.refused("rows", "sched_waking"), "export: rows needs EVENT and TRIGGER after it; --help says more\n"
         )
-        self.assertEqual(self.refused("events", "a", "b"), "export: events wants nothing after it; --help says more\n")
+        self.assertEqual(self.refused("events", "a", "b"), "export: events takes nothing after it; --help says more\n")
         self.assertIn("not allowed with argument", self.refused("events", "--csv", "--json"))
 
     def test_triggers(self):

@@ -3,7 +3,7 @@
 
     python_jobs.py [TEST]...
 
-Texts are cut anywhere that an engine may join, and elsewhere. The last line says how many of the tests hold."""
+Texts are cut anywhere that an engine may join, and elsewhere."""
 
 import os
 import random
@@ -25,8 +25,19 @@ sys.path[:0] = [PYTHON, os.path.join(HERE, "..", "model")]
 import histdesk
 import plain_waits
 import recordings
-from histdesk import LossWarning, Refused, _aside, _counted, _kept, _parallel, _pieces, _stream, _stretch, _waits
-from python_answers import with_numpy
+from histdesk import (
+    LossWarning,
+    Refused,
+    _waits_in_parts,
+    _counting,
+    _wait_records,
+    _parallel,
+    _text,
+    _stream,
+    _time_range,
+    _waits,
+)
+from python_answers import at_micros
 from python_runner import main
 from python_waits import in_time, noise, told
 from recordings import switch, text_of, waking
@@ -41,7 +52,7 @@ def waits_of(text, jobs, **words):
 
 def cut_at(*bytes_of_seams):
     """Has texts cut there."""
-    return mock.patch.object(_stretch.Halves, "seams", lambda self, count: list(bytes_of_seams))
+    return mock.patch.object(_time_range.Halves, "seams", lambda self, count: list(bytes_of_seams))
 
 
 def starts_of(text):
@@ -77,7 +88,6 @@ class Counting:
             patch.stop()
 
 
-@with_numpy
 class Joined(unittest.TestCase):
     def same(self, found, alone, seed):
         """What was read in parts is what one stream has read."""
@@ -93,8 +103,10 @@ class Joined(unittest.TestCase):
             for seed in range(60):
                 chance, text = random.Random(seed), in_time(noise(seed))
                 seams = sorted(chance.sample(starts_of(text), chance.randrange(1, 12)))
-                with cut_at(*seams), mock.patch.object(_pieces, "PIECE", chance.choice([1 << 22, 999, 64])):
-                    with mock.patch.object(_stream, "CHUNK", 16), mock.patch.object(_kept, "PART", chance.choice([7, 1 << 14])):
+                with cut_at(*seams), mock.patch.object(_text, "PIECE", chance.choice([1 << 22, 999, 64])):
+                    with mock.patch.object(_stream, "CHUNK", 16), mock.patch.object(
+                        _wait_records, "PART", chance.choice([7, 1 << 14])
+                    ):
                         found = waits_of(text, 3)
                 self.assertEqual(told(found), plain_waits.waits_of(text), seed)
                 self.same(found, waits_of(text, 1), seed)
@@ -144,7 +156,7 @@ class Joined(unittest.TestCase):
         """Checkpoints of all parts are those of the text, and slices are read by them."""
         for seed in range(5):
             text = recordings.simulated(seed).text
-            with mock.patch.object(_pieces, "PIECE", 4096):
+            with mock.patch.object(_text, "PIECE", 4096):
                 found, alone = waits_of(text, 4), waits_of(text, 1)
             checkpoints = found.source.checkpoints()
             self.assertGreater(len(checkpoints), 5)
@@ -152,7 +164,7 @@ class Joined(unittest.TestCase):
             for checkpoint in checkpoints:
                 self.assertEqual(checkpoint, plain_checkpoint(text, checkpoint.at))
             middle = (alone.held.first + alone.held.last) // 2
-            slices = [one.source.between(middle, middle + 500) for one in (found, alone)]
+            slices = [one.source.between(at_micros(middle), at_micros(middle + 500)) for one in (found, alone)]
             self.assertEqual(*(held_by(one) for one in slices))
 
     def test_counted(self):
@@ -160,13 +172,15 @@ class Joined(unittest.TestCase):
         for seed in range(20):
             text = recordings.simulated(seed, holes=seed % 3).text
             for by in ("task", "name", "cpu", "prio", "kind"):
-                choice = _counted.Choice(by, seed % 2 == 0)
-                one, many = (_counted.counted(text, choice, _waits.ReadOptions(jobs=jobs)) for jobs in (1, 5))
+                choice = _counting.Choice(by, seed % 2 == 0)
+                one, many = (_counting.count_waits(text, choice, _waits.ReadOptions(jobs=jobs)) for jobs in (1, 5))
                 self.assertEqual(many.table(by, seed % 2 == 0), one.table(by, seed % 2 == 0))
                 self.assertEqual((many.lines(seed % 2 == 0), len(many)), (one.lines(seed % 2 == 0), len(one)))
-            one, many = (_aside.waits_in_parts(text, _waits.ReadOptions(jobs=jobs)) for jobs in (1, 5))
+            one, many = (_waits_in_parts.waits_in_parts(text, _waits.ReadOptions(jobs=jobs)) for jobs in (1, 5))
             for _ in range(2):
-                self.assertEqual(*([wait for part in _aside.parts_of(each) for wait in told(part)] for each in (many, one)))
+                self.assertEqual(
+                    *([wait for part in _waits_in_parts.parts_of(each) for wait in told(part)] for each in (many, one))
+                )
 
 
 def held_by(recording):
@@ -187,7 +201,6 @@ def plain_checkpoint(text, at):
     return _stream.Checkpoint(at, last, events)
 
 
-@with_numpy
 class Refusals(unittest.TestCase):
     def test_bad_lines(self):
         """The first line that can't be read is named by its number in the whole text, whichever part has it."""
@@ -221,7 +234,7 @@ class Refusals(unittest.TestCase):
         for jobs in (0, -1, 513):
             with self.assertRaisesRegex(ValueError, "in 1 to 512 parts at once"):
                 histdesk.waits(b"", jobs=jobs)
-        text = _pieces.text_again(b"x" * 100)
+        text = _text.text_again(b"x" * 100)
         with mock.patch.object(_parallel, "LARGE", 99), mock.patch.object(os, "sched_getaffinity", lambda _: range(30)):
             found = [_parallel.jobs_for(*words) for words in ((text, None), (text, 2), (None, 2))]
         self.assertEqual(found, [16, 2, 1])
@@ -233,19 +246,18 @@ class Refusals(unittest.TestCase):
         with tempfile.NamedTemporaryFile() as file:
             file.write(text)
             file.flush()
-            pieces = _pieces.FileText.pieces
+            pieces = _text.FileText.pieces
 
             def failing(self, at=0, end=None):
                 if at:
                     raise OSError("gone")
                 return pieces(self, at, end)
 
-            with mock.patch.object(_pieces.FileText, "pieces", failing), self.assertRaisesRegex(OSError, "gone"):
+            with mock.patch.object(_text.FileText, "pieces", failing), self.assertRaisesRegex(OSError, "gone"):
                 waits_of(file.name, 3)
             self.assertEqual(told(waits_of(file.name, 3)), plain_waits.waits_of(text))
 
 
-@with_numpy
 class Tools(unittest.TestCase):
     def ran(self, tool, *words):
         command = [sys.executable, "-B", os.path.join(TOOLS, tool), *words]
@@ -265,8 +277,8 @@ class Tools(unittest.TestCase):
         for word in ("0", "x", "-1", "513"):
             ran = self.ran("waits", f"--jobs={word}", os.devnull)
             self.assertEqual((ran.returncode, ran.stdout), (2, b""))
-            self.assertIn(b"it must be a number from 1 to 512, not ", ran.stderr)
+            self.assertIn(b" is not a number from 1 to 512", ran.stderr)
 
 
 if __name__ == "__main__":
-    main()
+    sys.exit(main())

@@ -5,7 +5,7 @@ here. The texts are random and hostile ones, with lines of every form in any ord
 
     python_lines.py [TEST]...
 
-The last line says how many of the tests hold."""
+"""
 
 import ctypes
 import os
@@ -22,8 +22,9 @@ PYTHON = os.path.realpath(os.path.join(HERE, "..", "..", "python"))
 sys.path[:0] = [PYTHON, os.path.join(HERE, "..", "model")]
 
 import hostile_texts
-from histdesk import _layout
-from histdesk._library import library
+from histdesk import _schema
+from histdesk.native import layout
+from histdesk.native.library import library
 from model_line import EVENTS, LineFault, read_line
 from python_runner import main
 
@@ -78,10 +79,10 @@ def kind_of(line):
     try:
         event = read_line(line)
     except LineFault as fault:
-        return 0, 0, _layout.LINE_BAD, fault.args[0]
+        return 0, 0, layout.LINE_BAD, fault.args[0]
     if event is None:
-        return 0, 0, _layout.LINE_SKIPPED, 0
-    return event["stamp"], event["cpu"], EVENTS.index(event["name"]) if event["name"] in EVENTS else _layout.OTHER, 0
+        return 0, 0, layout.LINE_SKIPPED, 0
+    return event["stamp"], event["cpu"], EVENTS.index(event["name"]) if event["name"] in EVENTS else _schema.OTHER, 0
 
 
 def wanted_lines(text):
@@ -189,7 +190,7 @@ class Desk(unittest.TestCase):
 
     @classmethod
     def setUpClass(cls):
-        cls.desk = _layout.Handle()
+        cls.desk = layout.Handle()
         assert library.histdesk_new(ctypes.byref(cls.desk)) == 0
 
     @classmethod
@@ -206,7 +207,7 @@ class Desk(unittest.TestCase):
 
     def losses(self, text):
         """The holes that a text reports, and what its header counts, as the library tells them."""
-        own, read = text.encode("latin-1"), _layout.LossesRead()
+        own, read = text.encode("latin-1"), layout.LossesRead()
         self.assertEqual(library.histdesk_losses(ctypes.byref(self.desk), own, len(own), ctypes.byref(read)), 0)
         room = (TextHole * (read.holes + 1))()
         self.assertEqual(library.histdesk_losses_copy(ctypes.byref(self.desk), 0, room, len(room)), read.holes)

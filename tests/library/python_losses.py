@@ -1,6 +1,6 @@
 #!/usr/bin/env python3
 """python_losses.py: what loading and reading a trace tell of lost events, parts of traces, and lines that are left out. The
-expected values are written by hand. The last line says how many of the tests hold."""
+expected values are written by hand."""
 
 import gzip
 import io
@@ -23,12 +23,12 @@ PYTHON = os.path.realpath(os.path.join(HERE, "..", "..", "python"))
 sys.path.insert(0, PYTHON)
 
 import histdesk
-from histdesk import Hole, Lane, LossWarning, Part, _lines, _recording
-from python_answers import numpy, with_numpy
+from histdesk import Hole, Lane, LossWarning, Part, _event_lines, _lines, _recording, _schema
+from python_answers import at_micros, numpy
 from python_runner import main
 
 if numpy:
-    from histdesk import _part
+    from histdesk import _selection
 
 WAKING = "sim-1 [{cpu:03}] d.h.. {stamp}: sched_waking: comm=w pid={pid} prio=120 target_cpu=000\n"
 SWITCH = (
@@ -194,9 +194,8 @@ class Parts(unittest.TestCase):
                 file.write(MIDDLE)
             self.assertEqual(quiet(histdesk.read, path)[0].path, path)
 
-    @with_numpy
     def test_time(self):
-        recording = self.part(LATE, start=5000001, until=7000000)
+        recording = self.part(LATE, start=at_micros(5000001), until=at_micros(7000000))
         self.assertEqual(recording.taken, Part(3, 5000001, 6500000, None))
         desk = recording.desk()
         self.assertEqual(
@@ -208,7 +207,6 @@ class Parts(unittest.TestCase):
         # CPU 2 begins in that time, and CPU 1 just when it begins.
         self.assertEqual(recording.holes, (Hole(2, None, 6250000),))
 
-    @with_numpy
     def test_cpus_and_events(self):
         text = (
             waking(0, "1.000000")
@@ -226,25 +224,24 @@ class Parts(unittest.TestCase):
         with self.assertRaisesRegex(ValueError, "a trace has no event sched_exit"):
             self.part(text, events=["sched_exit"])
 
-    @with_numpy
     def test_lines_keep_their_numbers(self):
         text = waking(0, "1.000000") * 3 + "torn\n" + waking(0, "2.000000")
         with self.assertRaises(histdesk.Refused) as caught:
-            self.part(text, start=1000000).desk()
+            self.part(text, start=at_micros(1000000)).desk()
         self.assertEqual((caught.exception.line, caught.exception.fault), (4, 1))
         # It stands where nothing is taken.
-        self.assertEqual(histdesk.Desk().load(self.part(text, start=2000000)), 1)
+        self.assertEqual(histdesk.Desk().load(self.part(text, start=at_micros(2000000))), 1)
 
-    @with_numpy
     def test_more_than_a_desk_holds(self):
         # The desk's limit is tried elsewhere; here one holds ten events. Two events have each stamp.
         text = "".join(waking(0, f"1.{at // 2:06}") for at in range(15))
-        with mock.patch.object(_part, "LIMIT", 10), mock.patch.object(_recording, "LIMIT", 10):
+        with mock.patch.object(_selection, "LIMIT", 10), mock.patch.object(_recording, "LIMIT", 10):
             recording = self.part(text)
             self.assertEqual(recording.taken, Part(10, 1000000, 1000004, 1000005))
-            self.assertEqual(self.part(text, start=1000005).taken, Part(5, 1000005, 1000007, None))
+            self.assertEqual(self.part(text, start=at_micros(1000005)).taken, Part(5, 1000005, 1000007, None))
             # Of eleven events the last two have one stamp, and stay together.
-            self.assertEqual(self.part(text, start=1000001, until=1000007).taken, Part(10, 1000001, 1000005, 1000006))
+            part = self.part(text, start=at_micros(1000001), until=at_micros(1000007))
+            self.assertEqual(part.taken, Part(10, 1000001, 1000005, 1000006))
             with self.assertRaisesRegex(ValueError, "have one stamp"):
                 self.part(waking(0, "1.000000") * 11)
         self.assertEqual(histdesk.Desk().load(recording), 10)
@@ -296,18 +293,16 @@ class Lines(unittest.TestCase):
 
     def told(self, text):
         lines = _lines.lines_in(text.encode())
-        names = [histdesk._layout.EVENT_NAMES[name] for name in lines.names]
+        names = [_schema.EVENT_NAMES[name] for name in lines.names]
         events = zip(lines.cpus.tolist(), lines.stamps.tolist(), names, lines.bad.tolist())
         return lines.ends.tolist(), [BAD if bad else None if event[0] < 0 else tuple(event) for *event, bad in events]
 
-    @with_numpy
     def test_forms(self):
         for end in ("\n", ""):
             for line, event in LINES.items():
                 if line + end:
                     self.assertEqual(self.told(line + end), ([len(line + end)], [event]), line)
 
-    @with_numpy
     def test_whole_texts(self):
         lines, generator = list(LINES), random.Random(1)
         for room in (1, 100, 1 << 20):
@@ -326,22 +321,22 @@ class Lines(unittest.TestCase):
                 bad = _lines.bad_lines("".join(line + "\n" for line in text).encode())
             self.assertEqual(bad, [number for number, line in enumerate(text, 1) if LINES[line] == BAD])
         for line, event in LINES.items():
-            self.assertEqual(_lines.holds_event(line.encode()), event not in (None, BAD))
+            self.assertEqual(_event_lines.holds_event(line.encode()), event not in (None, BAD))
 
 
 TOOL = """
 import sys
-from histdesk import _command
+from histdesk.cli import arguments, process, traces
 def work():
-    words = _command.parser("tool", "A tool.")
-    words.add_argument("trace")
-    _command.add_part(words)
-    chosen = words.parse_args()
-    print(_command.recording(chosen, chosen.trace, "tool").desk().load(b""), flush=True)
+    parser = arguments.parser("tool", "A tool.")
+    parser.add_argument("trace")
+    arguments.add_choice(parser)
+    chosen = parser.parse_args()
+    print(traces.recording(chosen, chosen.trace, "tool").desk().load(b""), flush=True)
     for _ in range(100000 if chosen.trace.endswith("long") else 0):
         print("x" * 100)
     return 0
-_command.run("tool", work)
+sys.exit(process.run("tool", work))
 """
 PERF = b"            perf    42 [001]     6.012345: sched:sched_waking: comm=w pid=43 prio=120 target_cpu=001\n"
 
@@ -391,13 +386,15 @@ class Tools(unittest.TestCase):
         self.assertIn("; 1 line left out that can't be read", repr(histdesk.read(path, lenient=True)))
 
     def test_refused(self):
-        path = self.file("my.trace", b"torn\n")
-        status, out, told = self.run_tool(path)
-        self.assertEqual((status, out), (2, ""))
-        self.assertEqual(
-            told.split("\n")[0],
-            f"tool: {path}: line 1: no TASK-PID [CPU] and a space begin the line; --lenient leaves such lines out",
-        )
+        words = "expected TASK-PID [CPU] and a space at the start of the line"
+        for text, hint in (
+            (b"torn\n" + waking(0, "1.000000").encode(), "--lenient leaves such lines out"),
+            (b"torn\n", "it is no trace: none of its first lines is an event"),
+        ):
+            path = self.file("my.trace", text)
+            status, out, message = self.run_tool(path)
+            self.assertEqual((status, out), (2, ""))
+            self.assertEqual(message.split("\n")[0], f"tool: {path}: line 1: {words}; {hint}")
 
     def test_other_files(self):
         for text, told, turner in [
@@ -409,11 +406,13 @@ class Tools(unittest.TestCase):
             (b"version = 6\ncpus=4\n", "what trace-cmd report printed", "from-trace-cmd"),
         ]:
             path = self.file("other text", text + b"\0" * 100)
-            told = f"is {told}; tools/{turner}"
             for words in [], ["--lenient"]:
-                self.assertEqual(
-                    self.run_tool(*words, path), (2, "", f"tool: {path} {told} '{path}' >my.trace makes a trace of it\n")
-                )
+                # Its converter says what is wrong with it.
+                status, out, error = self.run_tool(*words, path)
+                self.assertEqual((status, out), (2, ""))
+                self.assertTrue(error.startswith(f"{turner}: "), error)
+                self.assertEqual(error.split("\n")[-2], f"tool: {path} could not be converted; the lines above say why")
+            told = f"is {told}; tools/{turner}"
             told = (
                 f"{told} >my.trace makes a trace of it" if "printed" in told else f"{told.split(';')[0]}; name its file instead"
             )
@@ -437,8 +436,8 @@ class Tools(unittest.TestCase):
     def test_words(self):
         for words, told in [
             ([], "the following arguments are required: trace"),
-            (["--from", "1.5s", "x"], "argument --from: 1.5s is no stamp, such as 6012.000100"),
-            (["--cpu", "1,x", "x"], "argument --cpu: 1,x names no CPUs, such as 0,2,4-7"),
+            (["--from", "1.5s", "x"], "argument --from: 1.5s is not a timestamp such as 6012.000100"),
+            (["--cpu", "1,x", "x"], "argument --cpu: 1,x is not a list of CPUs such as 0,2,4-7"),
             (["--events", "exit", "x"], "argument --events: there is no event exit; the events are *"),
             (["--frob", "x"], "unrecognized arguments: --frob"),
         ]:
@@ -446,7 +445,6 @@ class Tools(unittest.TestCase):
             self.assertEqual((status, out), (2, ""))
             self.assertTrue(error.startswith("tool: " + told.rstrip("*")) and error.endswith("; --help says more\n"), error)
 
-    @with_numpy
     def test_parts(self):
         path = self.file("my.trace", LATE.encode())
         status, out, told = self.run_tool("--from", "5.000001", "--until", "6.3", "--cpu", "1-2", "--events", "waking", path)

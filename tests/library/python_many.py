@@ -39,7 +39,6 @@ import recordings
 from python_runner import main
 
 # Neither is imported here, since each worker reads this file anew.
-with_numpy = unittest.skipUnless(importlib.util.find_spec("numpy"), "numpy is missing")
 with_dask = unittest.skipUnless(importlib.util.find_spec("distributed"), "distributed is missing")
 
 COUNT = 200
@@ -239,15 +238,12 @@ class Alike(Case):
 class OnThisMachine(Alike):
     """Asked by this process, or by others."""
 
-    @with_numpy
     def test_one_by_one(self):
         self.holds(many(self.paths, histdesk.AskWaits("name"), processes=0))
 
-    @with_numpy
     def test_by_two_processes(self):
         self.holds(many(self.paths, histdesk.AskWaits("name"), processes=2))
 
-    @with_numpy
     def test_by_four_processes_one_of_which_is_killed(self):
         question = KillsReading(histdesk.AskWaits("name"), self.paths[77], self.folder)
         self.holds(many(self.paths, question, processes=4))
@@ -288,6 +284,18 @@ class Questions(Case):
             self.assertEqual(many(paths[::-1], Events(), processes=processes).answer, expected)
             self.assertEqual(many(paths[::-1], events_in, processes=processes).answer, dict(zip(paths, sizes)))
 
+    def test_one_kind_and_one_cpu(self):
+        path = self.put("kinds.trace", recordings.kinds().text)
+        with warnings.catch_warnings():
+            warnings.simplefilter("ignore", histdesk.LossWarning)
+            waits = histdesk.waits(path)
+        woken, there = (sum(holds(wait) for wait in waits if not wait.doubtful) for holds in (
+            lambda wait: wait.kind == "woken", lambda wait: wait.end.cpu == 0))  # fmt: skip
+        self.assertEqual(many([path], histdesk.AskWaits(kinds="woken"), processes=0).answer.count, woken)
+        self.assertEqual(many([path], histdesk.AskWaits(cpus=0), processes=0).answer.count, there)
+        with self.assertRaises(TypeError):
+            histdesk.AskWaits(cpus="1")
+
     def test_function_that_cannot_be_handed_on(self):
         paths = self.some(1)
         self.assertEqual(many(paths, lambda recording: recording.path, processes=0).answer, {paths[0]: paths[0]})
@@ -299,7 +307,7 @@ class Questions(Case):
         self.assertRegex(failed.why, "a desk can't be copied or pickled")
 
     def test_no_question(self):
-        with self.assertRaisesRegex(TypeError, "a question"):
+        with self.assertRaisesRegex(TypeError, "a question must"):
             many(self.some(1), "waits")
         with self.assertRaises(TypeError):
             many(self.some(1), Events(), beginning=3)
@@ -347,15 +355,13 @@ class Questions(Case):
         self.assertEqual(repr(rows).split("\n")[2].split()[-2:], [str(rows[0].pid), str(rows[0].hitcount)])
         self.assertIn(f"<td>{rows[0].pid}</td>", rows._repr_html_())
 
-    @with_numpy
     def test_choice_of_a_part(self):
         known = recordings.simulated(3, 200)
         path, (_, half) = self.put("a", known.text), known.waits[len(known.waits) // 2][4:6]
-        found = many([path], events_in, processes=0, until=half.stamp, events=["sched_switch"])
+        found = many([path], events_in, processes=0, until=histdesk.Stamp(half.stamp), events=["sched_switch"])
         switches = [event.place.stamp for event in plain_waits.events_of(known.text) if event.event == "sched_switch"]
         self.assertEqual(found.answer, {path: sum(stamp < half.stamp for stamp in switches)})
 
-    @with_numpy
     def test_some_waits(self):
         known = recordings.kinds()
         path = self.put("a", known.text)
@@ -387,7 +393,6 @@ class Long(Case):
                 found[wait.name, wait.kind].append(wait.micros)
         return found
 
-    @with_numpy
     def test_waits(self):
         found = many([self.long, self.short], histdesk.AskWaits("name"), processes=1)
         wanted = self.waits()
@@ -405,14 +410,13 @@ class Long(Case):
         )
         self.assertFalse(any("part" in remark for remark in found.remarks))
 
-    @with_numpy
     def test_words_of_read(self):
         """A stretch of time, however long; and lines that can't be read."""
         with open(self.long, "ab") as file:
             file.write(b"this is no line of a trace\n")
         stamps, after = self.copies.stamps, self.copies.after
         start, until = min(stamps) + after, max(stamps) + (self.count - 2) * after + 1
-        words = {"start": start, "until": until, "lenient": True, "processes": 0}
+        words = {"start": histdesk.Stamp(start), "until": histdesk.Stamp(until), "lenient": True, "processes": 0}
         counts = many([self.long], histdesk.AskWaits("kind"), **words).answer
         waits = self.copies.waits(plain_waits.waits_of, self.count - 2)
         self.assertEqual((counts.count, counts.whole().total), (len(waits), sum(wait.micros for wait in waits)))
@@ -421,12 +425,11 @@ class Long(Case):
         (failed,) = many([self.long], histdesk.AskWaits("kind"), processes=0).failed
         self.assertRegex(failed.why, f"^line {self.count * len(self.copies.lines) + 1}: ")
 
-    @with_numpy
     def test_rows_are_those_of_a_desk(self):
         found = many([self.long], histdesk.AskRows("sched_waking", "hist:keys=common_cpu"), processes=0)
         (asked,) = found.asked
         self.assertEqual(asked.taken.events, DESK)
-        self.assertTrue(any("the first part was taken alone" in remark for remark in found.remarks))
+        self.assertTrue(any("only the first part of 1 recording was read" in remark for remark in found.remarks))
 
 
 # ---- recordings that can't be asked
@@ -576,7 +579,6 @@ class Processes(Case):
 
 
 @with_dask
-@with_numpy
 class ByDask(Alike):
     """Asked by two workers of a Dask cluster on this machine."""
 

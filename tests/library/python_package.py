@@ -1,11 +1,10 @@
 #!/usr/bin/env python3
-"""Holds the Python package: each public call on small traces, by values written down by hand (python_answers.py), how a desk
+"""Holds the Python package: each public call on small traces, by values written down by hand (also in python_answers.py), how a desk
 ends, threads, texts that aren't UTF-8, out of memory, how things are shown, and where the library is looked for.
 
     python_package.py [TEST]...
 
-The library is found as the package finds it. What needs numpy or pandas is skipped where they are missing; lines at the end say
-how many tests of what were skipped, and the last one how many hold.
+The library is found as the package finds it. What needs pandas is skipped if that is missing.
 """
 
 import copy
@@ -31,12 +30,14 @@ PYTHON = os.path.realpath(os.path.join(HERE, "..", "..", "python"))
 sys.path.insert(0, PYTHON)
 
 import histdesk
-import python_answers
-from histdesk import _layout, _library
-from python_answers import LINE, MAKER, MERGED, TRACE, WAITS, desk_of, with_numpy, with_pandas, with_waits
+from histdesk import _schema
+from histdesk.native import arrays, layout
+from histdesk.native import library as native
+from python_answers import LINE, MAKER, MERGED, TRACE, WAITS, desk_of, with_pandas, with_waits
 from python_runner import main
 
 HEADER = os.path.realpath(os.path.join(HERE, "..", "..", "include", "histdesk.h"))
+FIELDS = os.path.realpath(os.path.join(HERE, "..", "..", "crates", "ft_fields"))
 
 
 def python(program, **environment):
@@ -359,7 +360,7 @@ print(desk.strike(0, 3))
 class Library(unittest.TestCase):
     """Where the library is looked for."""
 
-    PROGRAM = "import histdesk; print(histdesk._library.library._name)"
+    PROGRAM = "from histdesk.native.library import library; print(library._name)"
 
     def setUp(self):
         folder = tempfile.TemporaryDirectory()
@@ -369,9 +370,9 @@ class Library(unittest.TestCase):
     def put(self, package, library):
         """A copy of the package in a folder, and the library in another one. Answers the library's path."""
         shutil.copytree(os.path.join(PYTHON, "histdesk"), os.path.join(self.folder, package, "histdesk"))
-        place = os.path.join(self.folder, library, _library.NAME)
+        place = os.path.join(self.folder, library, native.NAME)
         os.makedirs(os.path.dirname(place), exist_ok=True)
-        shutil.copy(os.path.realpath(_library.library._name), place)
+        shutil.copy(os.path.realpath(native.library._name), place)
         return place
 
     def test_installed(self):
@@ -385,7 +386,7 @@ class Library(unittest.TestCase):
         place = self.put("python", "elsewhere")
         packages = os.path.join(self.folder, "python")
         told = python(self.PROGRAM, PYTHONPATH=packages, HISTDESK_LIBRARY="", LD_LIBRARY_PATH=os.path.dirname(place))
-        self.assertEqual(told, _library.NAME + "\n")
+        self.assertEqual(told, native.NAME + "\n")
 
     def test_named(self):
         place = self.put("python", "named")
@@ -397,7 +398,7 @@ class Library(unittest.TestCase):
         told = python("import histdesk; histdesk.Desk()", HISTDESK_LIBRARY=none)
         self.assertIn("ImportError: histdesk needs the library libhistdesk.so.0, which can't be loaded", told)
         self.assertIn(self.folder, told)
-        self.assertIn("tools/install", told)
+        self.assertIn("build/install", told)
 
     def test_missing_everywhere(self):
         """It says where it was looked for, in lines."""
@@ -415,28 +416,94 @@ class Library(unittest.TestCase):
         self.assertIn("has no call histdesk_new: it is of another version than this package", told)
 
 
+class WithoutNumpy(unittest.TestCase):
+    """What a Python without numpy reports."""
+
+    REASON = f"{sys.executable} has no numpy, which is needed here: apt-get install python3-numpy "
+    TOOLS = os.path.realpath(os.path.join(PYTHON, "..", "tools"))
+
+    def setUp(self):
+        folder = tempfile.TemporaryDirectory()
+        self.addCleanup(folder.cleanup)
+        with open(os.path.join(folder.name, "numpy.py"), "w", encoding="ascii") as file:
+            file.write("raise ModuleNotFoundError('none here', name='numpy')\n")
+        self.path = f"{folder.name}:{PYTHON}"
+
+    def run_tool(self, name, *arguments):
+        return subprocess.run(
+            [sys.executable, "-B", os.path.join(self.TOOLS, name), *arguments],
+            input=b"",
+            capture_output=True,
+            env={**os.environ, "PYTHONPATH": self.path},
+            check=False,
+        )
+
+    def test_package(self):
+        self.assertEqual(
+            python("import histdesk; print(histdesk.__version__)", PYTHONPATH=self.path), histdesk.__version__ + "\n"
+        )
+        for name in ("Desk", "waits", "read", "why", "diff"):
+            told = python(f"import histdesk; histdesk.{name}", PYTHONPATH=self.path)
+            self.assertIn(f"\nModuleNotFoundError: {self.REASON}", told)
+            told = python(f"from histdesk import {name}", PYTHONPATH=self.path)
+            self.assertIn(f"\nModuleNotFoundError: {self.REASON}", told)
+
+    @unittest.skipUnless(os.path.isdir(TOOLS), "the tools are missing")
+    def test_tools_that_need_it(self):
+        trace = os.path.join(self.TOOLS, "..", "examples", "wakeups.trace")
+        arguments = {
+            "waits": [trace],
+            "why": [trace],
+            "export": [trace, "waits"],
+            "desk": [trace],
+            "view": ["--no-browser", trace],
+        }
+        arguments["diff"] = [trace, "--without", "sched_waking"]
+        for name, words in arguments.items():
+            ran = self.run_tool(name, *words)
+            self.assertEqual((ran.returncode, ran.stdout, ran.stderr.count(b"\n")), (2, b"", 1), name)
+            self.assertTrue(ran.stderr.decode().startswith(f"{name}: {self.REASON}"), ran.stderr)
+
+    @unittest.skipUnless(os.path.isdir(TOOLS), "the tools are missing")
+    def test_tools_that_do_not(self):
+        tools = sorted(name for name in os.listdir(self.TOOLS) if name not in ("record", "words", "README.md"))
+        self.assertEqual(len(tools), 11)
+        for name in tools:
+            ran = self.run_tool(name, "--help")
+            self.assertEqual((ran.returncode, ran.stderr), (0, b""), name)
+        printed = b"    w    18 [000]  3752.816376632:     sched:sched_waking: comm=perf pid=25692 prio=120 target_cpu=000\n"
+        ran = subprocess.run(
+            [sys.executable, "-B", os.path.join(self.TOOLS, "from-perf")],
+            input=printed,
+            capture_output=True,
+            env={**os.environ, "PYTHONPATH": self.path},
+            check=False,
+        )
+        self.assertEqual((ran.returncode, ran.stdout.count(b"sched_waking: comm=perf pid=25692")), (0, 1), ran.stderr)
+
+
 @unittest.skipUnless(os.path.exists(HEADER), "include/histdesk.h is missing")
 class Header(unittest.TestCase):
     """The package knows the library as histdesk.h has it."""
 
     # What the package calls each struct, and how it reads it.
     STRUCTS = {
-        "line": _layout.Line,
-        "totals": _layout.Totals,
-        "report": _layout.Report,
-        "refusal": _layout.Refusal,
-        "waits_read": _layout.WaitsRead,
-        "hole": _layout.Hole,
-        "losses_read": _layout.LossesRead,
-        "left_out": _layout.LeftOut,
-        "task_sum": _layout.TaskSum,
-        "cpu_sum": _layout.CpuSum,
-        "place": _layout.PLACE,
-        "row": _layout.ROW,
-        "latency": _layout.LATENCY,
-        "event": _layout.EVENT,
-        "trigger": _layout.TRIGGER,
-        "changed": _layout.CHANGED,
+        "line": layout.Line,
+        "totals": layout.Totals,
+        "report": layout.Report,
+        "refusal": layout.Refusal,
+        "waits_read": layout.WaitsRead,
+        "hole": layout.Hole,
+        "losses_read": layout.LossesRead,
+        "left_out": layout.LeftOut,
+        "task_sum": layout.TaskSum,
+        "cpu_sum": layout.CpuSum,
+        "place": layout.PLACE,
+        "row": layout.ROW,
+        "latency": layout.LATENCY,
+        "event": layout.EVENT,
+        "trigger": layout.TRIGGER,
+        "changed": layout.CHANGED,
     }
 
     def setUp(self):
@@ -445,11 +512,11 @@ class Header(unittest.TestCase):
 
     def test_calls(self):
         declared = set(re.findall(r"^\w+ (histdesk_\w+)\(", self.text, re.MULTILINE))
-        self.assertEqual(declared, {*_library.CALLS, *_library.REFUSAL_CALLS})
+        self.assertEqual(declared, {*native.CALLS, *native.REFUSAL_CALLS})
 
     def test_numbers_of_arguments(self):
         for name, arguments in re.findall(r"^\w+ (histdesk_\w+)\((.*?)\);", self.text, re.MULTILINE):
-            self.assertEqual(len(getattr(_library.library, name).argtypes), len(arguments.split(",")), name)
+            self.assertEqual(len(getattr(native.library, name).argtypes), len(arguments.split(",")), name)
 
     def test_sizes(self):
         sizes = dict(re.findall(r"sizeof\(histdesk_(\w+)\) == ([0-9]+)", self.text))
@@ -462,23 +529,21 @@ class Header(unittest.TestCase):
             struct = self.STRUCTS.get(name)
             if isinstance(struct, type):
                 self.assertEqual(getattr(struct, field).offset, int(offset), (name, field))
-            elif name == "event" and field in _layout.TEXTS_AT:
-                self.assertEqual(_layout.TEXTS_AT[field], int(offset), field)
+            elif name == "event" and field in layout.TEXTS_AT:
+                self.assertEqual(layout.TEXTS_AT[field], int(offset), field)
 
-    @with_numpy
     def test_offsets_in_numpy(self):
-        fields = _layout.event_type().fields
+        fields = arrays.EVENT_TYPE.fields
         found = re.findall(r"AT_\(histdesk_event, (\w+), ([0-9]+)\)", self.text)
         self.assertEqual([fields[field][1] for field, _ in found], [int(offset) for _, offset in found])
-        self.assertEqual(_layout.event_type().itemsize, _layout.EVENT.size)
-        self.assertEqual(_layout.latency_type().itemsize, _layout.LATENCY.size)
-        self.assertEqual(_layout.place_type().itemsize, _layout.PLACE.size)
+        self.assertEqual(arrays.EVENT_TYPE.itemsize, layout.EVENT.size)
+        self.assertEqual(arrays.LATENCY_TYPE.itemsize, layout.LATENCY.size)
+        self.assertEqual(arrays.PLACE_TYPE.itemsize, layout.PLACE.size)
 
-    @with_numpy
     def test_waits_in_numpy(self):
         """A place in a wait begins with its stamp."""
         sizes = dict(re.findall(r"sizeof\(histdesk_(\w+)\) == ([0-9]+)", self.text))
-        for name, kind in [("wait", _layout.wait_type()), ("text_line", _layout.line_type())]:
+        for name, kind in [("wait", arrays.WAIT_TYPE), ("text_line", arrays.LINE_TYPE)]:
             self.assertEqual(kind.itemsize, int(sizes[name]), name)
             for field, offset in re.findall(rf"AT_\(histdesk_{name}, (\w+), ([0-9]+)\)", self.text):
                 told = kind.fields.get(field) or kind.fields[f"{field}_stamp"]
@@ -489,48 +554,149 @@ class Places(unittest.TestCase):
     """The library's copies of events are of the places that were asked for."""
 
     def setUp(self):
-        self.handle, self.count = _layout.Handle(), ctypes.c_uint64()
-        self.assertEqual(_library.library.histdesk_new(self.handle), _layout.OK)
-        self.addCleanup(_library.library.histdesk_free, self.handle)
+        self.handle, self.count = layout.Handle(), ctypes.c_uint64()
+        self.assertEqual(native.library.histdesk_new(self.handle), layout.OK)
+        self.addCleanup(native.library.histdesk_free, self.handle)
 
     def load(self, text):
-        self.assertEqual(_library.library.histdesk_load(self.handle, text, len(text), self.count), _layout.OK)
+        self.assertEqual(native.library.histdesk_load(self.handle, text, len(text), self.count), layout.OK)
 
     def copied(self):
         """The stamp, the number of the name and the PID of the first place's event."""
-        room = ctypes.create_string_buffer(_layout.EVENT.size)
-        self.assertEqual(_library.library.histdesk_events_copy(self.handle, 0, room, 1), 1)
-        stamp, _, _, name, pid = _layout.EVENT.unpack(room.raw)[:5]
+        room = ctypes.create_string_buffer(layout.EVENT.size)
+        self.assertEqual(native.library.histdesk_events_copy(self.handle, 0, room, 1), 1)
+        stamp, _, _, name, pid = layout.EVENT.unpack(room.raw)[:5]
         return stamp, name, pid
 
     def test_another_stamp_is_another_event(self):
         self.load(b"a-1 [000] 1.000100: x:")
-        self.assertEqual(_library.library.histdesk_events(self.handle, self.count), _layout.OK)
-        self.assertEqual(self.copied(), (1000100, _layout.OTHER, 1))
-        self.assertEqual(_library.library.histdesk_unload(self.handle, 0, self.count), _layout.OK)
-        self.assertEqual(self.copied(), (1000100, _layout.NO_EVENT, 0))
+        self.assertEqual(native.library.histdesk_events(self.handle, self.count), layout.OK)
+        self.assertEqual(self.copied(), (1000100, _schema.OTHER, 1))
+        self.assertEqual(native.library.histdesk_unload(self.handle, 0, self.count), layout.OK)
+        self.assertEqual(self.copied(), (1000100, layout.NO_EVENT, 0))
         self.load(b"b-2 [000] 2.000100: x:")
-        self.assertEqual(self.copied(), (1000100, _layout.NO_EVENT, 0))
+        self.assertEqual(self.copied(), (1000100, layout.NO_EVENT, 0))
+
+
+@unittest.skipUnless(os.path.exists(HEADER) and os.path.isdir(FIELDS), "the sources of the engine are missing")
+class Schema(unittest.TestCase):
+    """The table of events and fields is that of the header and of the engine's definitions."""
+
+    def test_header(self):
+        with open(HEADER, encoding="utf-8") as file:
+            text = file.read()
+        enum = text[text.index("HISTDESK_WAKING = 0") : text.index("HISTDESK_NONE = ")]
+        numbers = re.findall(r"HISTDESK_([A-Z_]+) = ([0-9]+),", enum)
+        self.assertEqual([int(number) for _, number in numbers], list(range(len(_schema.EVENTS))))
+        for (constant, number), event in zip(numbers, _schema.EVENTS):
+            self.assertEqual(event.name.removeprefix("sched_").upper(), constant)
+            self.assertEqual(getattr(_schema, constant), int(number))
+
+    def test_names(self):
+        """The names of events, in the engine's code and in its definitions, and which of them lines of a trace have."""
+        own = [event.name for event in _schema.EVENTS if event.name != "other"]
+        variants = ["".join(part.title() for part in name.removeprefix("sched_").split("_")) for name in own]
+        wanted = dict(zip(variants, own))
+        with open(os.path.join(FIELDS, "src", "event.rt"), encoding="utf-8") as file:
+            self.assertEqual(dict(re.findall(r'Name::(\w+) => Some\(b"(\w+)"\)', file.read())), wanted)
+        with open(os.path.join(FIELDS, "specs", "Names.antt"), encoding="utf-8") as file:
+            text = file.read()
+        self.assertEqual(dict(re.findall(r'name_text names\.(\w+) = Some \(codes "(\w+)"\)', text)), wanted)
+        traced = re.findall(r"is_traced names\.(\w+) = true", text)
+        self.assertEqual([wanted[name] for name in traced], list(_schema.TRACED_EVENTS))
+
+    def test_fields(self):
+        """The fields of each event, and which of them hold texts."""
+        with open(os.path.join(FIELDS, "specs", "Fields.antt"), encoding="utf-8") as file:
+            text = file.read()
+        rows = re.findall(r'row_of fields\.\w+ = (\w+) \(codes "(\w+)"\) owners\.(\w+)', text)
+        owners = re.findall(r"owns names\.(\w+) owners\.(\w+) = true", text)
+        self.assertEqual({name for kind, name, _ in rows if kind == "text"}, _schema.TEXT_FIELDS)
+        self.assertEqual({name for _, name, owner in rows if owner == "Every"}, {one.name for one in _schema.COMMON_FIELDS})
+        for event in _schema.EVENTS:
+            variant = "".join(part.title() for part in event.name.removeprefix("sched_").split("_"))
+            wanted = {name for _, name, owner in rows if (variant, owner) in owners}
+            self.assertEqual({field.name for field in event.fields}, wanted, event.name)
+            for field in event.fields:
+                self.assertIn(field.column, (None, *histdesk.Event._fields))
+
+
+# What the docstring of a class says that users don't call, since something else makes its objects.
+MADE = re.compile(r"`[\w.]+` (makes|is) (it|one)\b")
+# The title of a section.
+SECTION = re.compile(r"^(\w+)\n-+$", re.MULTILINE)
+
+
+def sections_of(thing):
+    """The sections of a docstring in numpy's style, by their titles."""
+    parts = SECTION.split(inspect.getdoc(thing) or "")
+    return {"": parts[0], **dict(zip(parts[1::2], parts[2::2]))}
+
+
+def names_in(section):
+    """The names that a section describes: `begin, end` are two."""
+    return {name.strip() for line in re.findall(r"^(\w[\w, ]*)$", section, re.MULTILINE) for name in line.split(",")}
+
+
+def parameters_of(function):
+    """The names of what a function takes, but for the object itself."""
+    kinds = inspect.signature(function).parameters
+    return {name for name in kinds if name not in ("self", "cls") and not name.startswith("_")}
+
+
+def faults_of(name, thing):
+    """What the docstring of a public function or method lacks."""
+    sections, signature = sections_of(thing), inspect.signature(thing)
+    faults = [] if sections[""].strip().partition("\n")[0].rstrip().endswith((".", ":")) else [f"{name}: no summary line"]
+    missing = parameters_of(thing) - names_in(sections.get("Parameters", ""))
+    faults += [f"{name}: parameter {one}" for one in sorted(missing)]
+    returns_something = signature.return_annotation not in (None, "None", "NoReturn")
+    if returns_something and not {"Returns", "Yields"} & {*sections}:
+        faults.append(f"{name}: no section Returns")
+    return faults
+
+
+def class_faults(name, kind):
+    """What the docstrings of a public class and of its public members lack."""
+    sections, faults = sections_of(kind), []
+    if not sections[""].strip():
+        faults.append(f"{name}: no summary")
+    if hasattr(kind, "_fields"):
+        missing = {*kind._fields} - names_in(sections.get("Attributes", ""))
+        faults += [f"{name}: attribute {one}" for one in sorted(missing)]
+    elif not MADE.search(sections[""]):
+        makes = next((vars(kind)[one] for one in ("__init__", "__new__") if one in vars(kind)), None)
+        missing = parameters_of(makes) - names_in(sections.get("Parameters", "")) if makes else ()
+        faults += [f"{name}: parameter {one}" for one in sorted(missing)]
+    for member, value in vars(kind).items():
+        if member.startswith("_"):
+            continue
+        if isinstance(value, property) and not inspect.getdoc(value):
+            faults.append(f"{name}.{member}: no summary")
+        function = value.__func__ if isinstance(value, (classmethod, staticmethod)) else value
+        if inspect.isfunction(function):
+            faults += faults_of(f"{name}.{member}", function)
+    return faults
 
 
 class Documents(unittest.TestCase):
     def test_examples(self):
+        for name in histdesk.__all__:
+            getattr(histdesk, name)
         tried = doctest.testmod(histdesk)
         self.assertEqual(tried.failed, 0)
-        self.assertGreater(tried.attempted, 20)
+        self.assertGreater(tried.attempted, 30)
 
-    def test_each_name_has_words(self):
-        for name in histdesk.__all__:
+    def test_each_name_has_its_sections(self):
+        faults = []
+        for name in sorted(histdesk.__all__):
             thing = getattr(histdesk, name)
-            self.assertTrue(inspect.getdoc(thing), name)
-            public = {member: value for member, value in vars(thing).items() if not member.startswith("_")}
-            for member, value in public.items():
-                if callable(value) or isinstance(value, property):
-                    self.assertTrue(inspect.getdoc(value), f"{name}.{member}")
+            faults += class_faults(name, thing) if isinstance(thing, type) else faults_of(name, thing)
+        self.assertEqual(faults, [])
 
     def test_typed(self):
         self.assertTrue(os.path.exists(os.path.join(PYTHON, "histdesk", "py.typed")))
 
 
 if __name__ == "__main__":
-    sys.exit(main(python_answers))
+    sys.exit(main())

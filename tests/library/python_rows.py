@@ -1,18 +1,17 @@
 #!/usr/bin/env python3
-"""Runs scripts through the Python package, command by command, and prints what the program prints.
+"""Runs scripts through the Python package, command by command, and compares what that gives with what the program prints.
 
-    python_rows.py [ROW]...
+    [HISTDESK_ROWS=FOLDER] python_rows.py [TEST]...
     python_rows.py --script SCRIPT [TRACE]...
 
-A ROW is a folder as those of tests/rows, which are run where none is named: a script, trace1 and on, the program's whole
-output in `expected`, and its status. Of each the output and the status are those of the folder; and the package's other
-answers say the same as the texts:
+A row is a folder of tests/rows, and of FOLDER: a script, trace1 and on, the program's whole output in `expected`, and its
+status. Of each the output and the status are those of the folder; and the package's other answers say the same as the texts:
 
 - the rows, printed as the text of the table has them, are its rows, and the totals are its totals;
 - the latencies are printed line by line from what the package answers; each lies between two held events;
 - the events of a CPU, printed as `list` has them, are its text, and each is what the desk has at its place;
 - of an edit that has a report, each row that came, went or changed is named, and none twice;
-- where pandas is there, its tables are as long as the lists.
+- if pandas is there, its tables are as long as the lists.
 
 With `--script` the output is printed, for comparing it with another program's. The library is found as the package finds it.
 """
@@ -20,6 +19,7 @@ With `--script` the output is printed, for comparing it with another program's. 
 import os
 import re
 import sys
+from pathlib import Path
 
 # Nothing is written beside the sources.
 sys.dont_write_bytecode = True
@@ -28,6 +28,7 @@ HERE = os.path.dirname(os.path.realpath(__file__))
 sys.path.insert(0, os.path.join(HERE, "..", "..", "python"))
 
 import histdesk
+import python_runner
 
 try:
     import pandas
@@ -155,7 +156,7 @@ class Script:
         by_id = [(one.id, one.event) for one in self.desk.triggers() if one == trigger]
         same("the trigger by id", by_id, [(number, trigger.event)])
         if pandas:
-            same("a table in pandas", trigger.to_pandas("rows").shape, (len(rows), len(trigger.names)))
+            same("a table in pandas", trigger.to_pandas().shape, (len(rows), len(trigger.names)))
         return encoded(text)
 
     def totals(self, rest):
@@ -171,7 +172,7 @@ class Script:
         totals = trigger.totals()
         same("counted and dropped latencies", totals.hits + totals.dropped, len(lines))
         if pandas:
-            same("latencies in pandas", len(trigger.to_pandas()), len(lines))
+            same("latencies in pandas", len(trigger.latencies_to_pandas()), len(lines))
         return encoded("\n".join([*lines, f"Latencies: {len(lines)}"]))
 
     def list(self, rest):
@@ -282,39 +283,34 @@ def run(script, traces):
 
 def traces_of(folder):
     """A row's traces, by number."""
-    paths, number = [], 1
-    while os.path.exists(os.path.join(folder, f"trace{number}")):
-        paths.append(os.path.join(folder, f"trace{number}"))
-        number += 1
-    return paths
+    return [str(folder / f"trace{number}") for number in range(1, 1 + len([*folder.glob("trace?")]))]
 
 
-def holds(folder):
-    """Whether a row's output and status are those of its folder; says where it isn't so."""
-    name = os.path.basename(os.path.normpath(folder))
-    with open(os.path.join(folder, "expected"), "rb") as expected, open(os.path.join(folder, "status")) as status:
-        wanted = expected.read(), int(status.read())
-    try:
-        given = run(os.path.join(folder, "script"), traces_of(folder))
-    except Differs as differs:
-        print(f"row {name}: {differs}"[:2000])
-        return False
-    if given != wanted:
-        print(f"row {name}: status {given[1]}, other output" if given[0] != wanted[0] else f"row {name}: status {given[1]}")
-    return given == wanted
+def row_folders():
+    """The folders of rows, by name."""
+    folders = [Path(HERE).parent / "rows", *filter(None, [os.environ.get("HISTDESK_ROWS")])]
+    return sorted(row for folder in folders for row in Path(folder).iterdir())
+
+
+def pytest_generate_tests(metafunc):
+    """Let the test of a row be one for each row."""
+    if "row" in metafunc.fixturenames:
+        metafunc.parametrize("row", row_folders(), ids=lambda row: row.name)
+
+
+def test_row(row):
+    given, status = run(str(row / "script"), traces_of(row))
+    assert given == (row / "expected").read_bytes()
+    assert status == int((row / "status").read_text())
 
 
 def main():
     words = sys.argv[1:]
-    if words[:1] == ["--script"]:
-        printed, status = run(words[1], words[2:])
-        sys.stdout.buffer.write(printed)
-        return status
-    rows = os.path.join(HERE, "..", "rows")
-    folders = words or sorted(os.path.join(rows, name) for name in os.listdir(rows))
-    good = sum(map(holds, folders))
-    print(f"{good} of {len(folders)} rows hold")
-    return 0 if good == len(folders) else 1
+    if words[:1] != ["--script"]:
+        return python_runner.main()
+    printed, status = run(words[1], words[2:])
+    sys.stdout.buffer.write(printed)
+    return status
 
 
 if __name__ == "__main__":

@@ -1,43 +1,21 @@
-"""Runs the tests of a file of the Python package, and says how many hold: what those files have in common."""
+"""Runs the tests of a file of the Python package by pytest, if the file is run by itself."""
 
-import collections
-import signal
+import os
 import sys
-import unittest
 
 
-class Result(unittest.TextTestResult):
-    """Counts what holds."""
+def main():
+    """Run the tests of the program. Arguments are names of tests, `CLASS` or `CLASS.TEST`, or options of pytest.
 
-    good = 0
+    Returns
+    -------
+    int
+        The exit status: 0 if all of them hold.
+    """
+    import pytest
 
-    def addSuccess(self, test):
-        super().addSuccess(test)
-        self.good += 1
-
-
-class Runner(unittest.TextTestRunner):
-    """Runs with that count."""
-
-    resultclass = Result
-
-
-def main(*modules):
-    """Runs the tests of the program and of these modules, which its words may name alike. The lines at the end say how many
-    tests were skipped, and why, and how many hold."""
-    # Who runs this in the background may have interrupts ignored, and programs that are begun here would too.
-    signal.signal(signal.SIGINT, signal.default_int_handler)
-    program = sys.modules["__main__"]
-    for module in modules:
-        for name, thing in vars(module).items():
-            if isinstance(thing, type) and issubclass(thing, unittest.TestCase):
-                setattr(program, name, thing)
-    # The traces tell of lost events on purpose; tests of that warning ask for it.
-    ran = unittest.main(exit=False, testRunner=Runner, warnings="ignore").result
-    for reason, count in sorted(collections.Counter(reason for _, reason in ran.skipped).items()):
-        print(f"{count} skipped: {reason}")
-    wrong = len(ran.failures) + len(ran.errors)
-    if not ran.good + wrong:
-        print("not tried: all of it was skipped")
-    print(f"{ran.good} of {ran.good + wrong} tests hold")
-    return 1 if wrong else 0
+    program = os.path.realpath(sys.argv[0])
+    options = [word for word in sys.argv[1:] if word.startswith("-")]
+    names = [word for word in sys.argv[1:] if not word.startswith("-")]
+    tests = [f"{program}::{name.replace('.', '::')}" for name in names] or [program]
+    return int(pytest.main([*options, "-rs", *tests]))

@@ -1,7 +1,7 @@
 #!/usr/bin/env python3
 """python_slices.py: slices of recordings, by histdesk.read with a stretch of time, by waits of it, and by Waits.source; and
 long files, which are read in parts. The expected values come from a plain filter over the lines of the whole text, and from the
-plain reckoning of plain_waits.py over the lines that it leaves. The last line says how many of the tests hold."""
+plain reckoning of plain_waits.py over the lines that it leaves."""
 
 import csv
 import gzip
@@ -27,8 +27,8 @@ sys.path[:0] = [PYTHON, os.path.join(HERE, "..", "model")]
 import histdesk
 import plain_waits
 import recordings
-from histdesk import LossWarning, Part, Refused, _part, _pieces, _recording, _slices, _stretch
-from python_answers import with_numpy, without_numpy
+from histdesk import LossWarning, Part, Refused, _selection, _text, _recording, _slices, _time_range
+from python_answers import at_micros
 from python_runner import main
 from python_waits import Dripping, in_time, noise, told, tracing
 from recordings import line, switch, text_of, waking
@@ -130,17 +130,16 @@ class Folder(unittest.TestCase):
     def small_parts(self):
         """Reads little at once, so that short texts have many parts."""
         for module, name, value in (
-            (_pieces, "PIECE", 700),
-            (_stretch, "ROOM", 128),
-            (_pieces, "KEPT", 1000),
-            (_pieces, "RESTART", 2000),
+            (_text, "PIECE", 700),
+            (_time_range, "ROOM", 128),
+            (_text, "KEPT", 1000),
+            (_text, "RESTART", 2000),
         ):
             patch = mock.patch.object(module, name, value)
             patch.start()
             self.addCleanup(patch.stop)
 
 
-@with_numpy
 class Stretches(Folder):
     """Stretches of time by `read`, and waits of them."""
 
@@ -151,7 +150,7 @@ class Stretches(Folder):
             events, sources = events_of(text), self.sources(text)
             for start, until in stretches(events, chance, 12):
                 wanted = between(events, start, until)
-                recording = quiet(histdesk.read, chance.choice(sources)(), start=start, until=until)
+                recording = quiet(histdesk.read, chance.choice(sources)(), start=at_micros(start), until=at_micros(until))
                 self.assertEqual(held(recording), counted_anew(wanted) if start is not None else places(wanted))
                 ends = (wanted[0].stamp, wanted[-1].stamp) if wanted else (None, None)
                 self.assertEqual(recording.taken, Part(len(wanted), *ends, None))
@@ -167,7 +166,10 @@ class Stretches(Folder):
             for start, until in stretches(events, chance, 12):
                 wanted = between(events, start, until)
                 want = plain_waits.waits_of(lines_from(text, wanted)) if wanted else []
-                found = quiet(histdesk.waits, quiet(histdesk.read, chance.choice(sources)(), start=start, until=until))
+                found = quiet(
+                    histdesk.waits,
+                    quiet(histdesk.read, chance.choice(sources)(), start=at_micros(start), until=at_micros(until)),
+                )
                 known = {(wait.pid, wait.end): wait for wait in want}
                 self.assertEqual(len(found), len(want))
                 for wait in told(found):
@@ -197,7 +199,7 @@ class Stretches(Folder):
         ]:
             with warnings.catch_warnings(record=True) as warned:
                 warnings.simplefilter("always")
-                recording = histdesk.read(path, start=start, until=until)
+                recording = histdesk.read(path, start=at_micros(start), until=at_micros(until))
                 found = histdesk.waits(recording)
             self.assertEqual((list(recording.holes), list(found.holes)), (holes, holes), (start, until))
             self.assertEqual([str(one.message) for one in warned], [recording.warning] * len(holes))
@@ -208,11 +210,11 @@ class Stretches(Folder):
         for mark, known in [("##### CPU 3 buffer started ####\n", 2), ("", None)]:
             late = [mark + waking(3, 5000000, 9), "# CPU 3: 2 events overwritten"] if known else [waking(3, 5000000, 9)]
             path = self.file(text_of([*lines, *late], in_buffer=4001, lost=2))
-            with mock.patch.object(_stretch, "NEAR", 1000):
-                recording = quiet(histdesk.read, path, start=1000000, until=2000000)
+            with mock.patch.object(_time_range, "NEAR", 1000):
+                recording = quiet(histdesk.read, path, start=at_micros(1000000), until=at_micros(2000000))
                 self.assertEqual(recording.holes, (histdesk.Hole(3, None, 5000000, known),))
                 self.assertIn("2 of 4003 events were overwritten", recording.warning)
-                self.assertEqual(quiet(histdesk.read, path, start=5000000).holes, ())
+                self.assertEqual(quiet(histdesk.read, path, start=at_micros(5000000)).holes, ())
 
     def test_other_choices(self):
         lines = [
@@ -221,11 +223,11 @@ class Stretches(Folder):
         path = self.file(text_of(lines))
         events = between(events_of(text_of(lines)), 30000, 60000)
         others = [event for event in events if event.stamp // 1000 % 5 == 4]
-        recording = histdesk.read(path, start=30000, until=60000, events=["other"])
+        recording = histdesk.read(path, start=at_micros(30000), until=at_micros(60000), events=["other"])
         anew = counted_anew(events)
         self.assertEqual(held(recording), [place for place in anew if place[0] // 1000 % 5 == 4])
         self.assertEqual(recording.taken.events, len(others))
-        recording = histdesk.read(path, start=30000, until=60000, cpus=[1])
+        recording = histdesk.read(path, start=at_micros(30000), until=at_micros(60000), cpus=[1])
         self.assertEqual(held(recording), [place for place in anew if place[1] == 1])
         with self.assertRaisesRegex(ValueError, "all CPUs"):
             histdesk.waits(recording)
@@ -238,9 +240,12 @@ class Stretches(Folder):
         text = text_of(lines)
         numbers = [number for number, content in enumerate(text.split(b"\n"), 1) if b"torn" in content or b"=x" in content]
         path = self.file(text)
-        self.assertEqual(held(histdesk.read(path, start=51000, until=80000)), [(1000 * at, 0, at - 50) for at in range(51, 80)])
+        self.assertEqual(
+            held(histdesk.read(path, start=at_micros(51000), until=at_micros(80000))),
+            [(1000 * at, 0, at - 50) for at in range(51, 80)],
+        )
         for source in (path, self.file(gzip.compress(text), "packed")):
-            recording = histdesk.read(source, start=40000, until=60000)
+            recording = histdesk.read(source, start=at_micros(40000), until=at_micros(60000))
             for call in (recording.desk, lambda: histdesk.waits(recording)):
                 with self.assertRaises(Refused) as caught:
                     call()
@@ -248,7 +253,7 @@ class Stretches(Folder):
                 self.assertIn(f"line {numbers[0]}", str(caught.exception))
                 if hasattr(caught.exception, "__notes__"):
                     self.assertEqual(caught.exception.__notes__, ["torn"])
-            recording = histdesk.read(source, start=40000, until=60000, lenient=True)
+            recording = histdesk.read(source, start=at_micros(40000), until=at_micros(60000), lenient=True)
             self.assertEqual((recording.bad_lines, len(held(recording))), (tuple(numbers[:2]), 20))
             self.assertEqual(histdesk.waits(recording).bad_lines, 2)
         self.assertEqual(histdesk.read(text, lenient=True).bad_lines, tuple(numbers))
@@ -257,7 +262,7 @@ class Stretches(Folder):
         """A slice costs a few reads of some kilobytes, wherever it is."""
         text = text_of([waking(at % 4, 100 * at, 7) for at in range(60000)])
         path = self.file(text)
-        real, read = _pieces.FileText.pieces, []
+        real, read = _text.FileText.pieces, []
         for start in (0, 100, 3000000, 5999000):
 
             def seen(self, at=0, end=None, real=real):
@@ -266,8 +271,8 @@ class Stretches(Folder):
                     yield piece
 
             del read[:]
-            with mock.patch.object(_pieces.FileText, "pieces", seen), mock.patch.object(_stretch, "NEAR", 4096):
-                recording = histdesk.read(path, start=start, until=start + 1000)
+            with mock.patch.object(_text.FileText, "pieces", seen), mock.patch.object(_time_range, "NEAR", 4096):
+                recording = histdesk.read(path, start=at_micros(start), until=at_micros(start + 1000))
             self.assertEqual(recording.taken.events, 10)
             self.assertLess(sum(read), 200000)
 
@@ -276,14 +281,14 @@ class Stretches(Folder):
         text = noise(5)
         events, chance = events_of(text), random.Random(3)
         for start, until in stretches(events, chance, 10):
-            recording = quiet(histdesk.read, self.file(text), start=start, until=until)
+            recording = quiet(histdesk.read, self.file(text), start=at_micros(start), until=at_micros(until))
             self.assertEqual(held(recording), places(between(events, start, until)))
             self.assertIsNone(recording.lines_from)
         # Two events that only the stream sees.
         lines = [waking(0, 1000 * at, 7) for at in range(3000)]
         lines[1500], lines[1501] = lines[1501], switch(0, 1500000, "a-1", "w-7")
         text = text_of(lines)
-        found = histdesk.waits(histdesk.read(self.file(text), start=1400000, until=1600000))
+        found = histdesk.waits(histdesk.read(self.file(text), start=at_micros(1400000), until=at_micros(1600000)))
         self.assertEqual((found.lines_from, found.held.events), (None, 200))
         self.assertEqual([(wait.begin, wait.end) for wait in told(found)], [((1499000, 0, 1500), (1500000, 0, 1502))])
 
@@ -291,12 +296,11 @@ class Stretches(Folder):
         for text in (b"", b"# tracer: nop\n", b"\n\n", text_of([waking(0, 5, 7)])):
             for source in self.sources(text):
                 for start, until in ((100, None), (100, 200), (200, 100), (None, 3)):
-                    recording = histdesk.read(source(), start=start, until=until)
+                    recording = histdesk.read(source(), start=at_micros(start), until=at_micros(until))
                     self.assertEqual((held(recording), recording.taken), ([], Part(0, None, None, None)))
                     self.assertEqual(len(histdesk.waits(recording)), 0)
 
 
-@with_numpy
 class Sources(Folder):
     """`Waits.source`, which reads slices of what the waits are of."""
 
@@ -305,7 +309,7 @@ class Sources(Folder):
         for start, until in stretches(events, chance, 8):
             start, until = start or 0, 1 << 50 if until is None else until
             lead = chance.choice([0, 0, 1, 5, 50])
-            recording = source.between(start, until, lead)
+            recording = source.between(at_micros(start), at_micros(until), lead)
             found, before = held(recording), [event for event in events if event.stamp < start]
             first = found[0][0] if found and lead else start
             self.assertEqual(found, places(between(events, min(first, start), until)))
@@ -324,7 +328,7 @@ class Sources(Folder):
             for make in self.sources(text):
                 found = quiet(histdesk.waits, make())
                 self.check(found.source, events, chance)
-                self.assertEqual(found.source.between(0, 1 << 50).holes, found.holes)
+                self.assertEqual(found.source.between(at_micros(0), at_micros(1 << 50)).holes, found.holes)
 
     def test_of_a_stretch(self):
         """Waits of a stretch of time have a source, too, with the lines of the stretch."""
@@ -335,7 +339,9 @@ class Sources(Folder):
             for start, until in stretches(events, chance, 3):
                 wanted = between(events, start, until)
                 if wanted:
-                    found = quiet(histdesk.waits, quiet(histdesk.read, self.file(text), start=start, until=until))
+                    found = quiet(
+                        histdesk.waits, quiet(histdesk.read, self.file(text), start=at_micros(start), until=at_micros(until))
+                    )
                     anew = {event.cpu: event.line - 1 for event in reversed(wanted)} if start is not None else {}
                     moved = [event._replace(line=event.line - anew.get(event.cpu, 0)) for event in wanted]
                     self.check(found.source, moved, chance)
@@ -354,8 +360,8 @@ class Sources(Folder):
         events = [event for event in events_of(text) if event.number + 1 not in bad]
         found = histdesk.waits(self.file(text), lenient=True)
         self.assertEqual((found.bad_lines, found.held.events), (len(bad), len(events)))
-        self.assertEqual(held(found.source.between(0, 1 << 50)), places(recounted(events)))
-        self.assertEqual(found.source.between(0, 1 << 50).bad_lines, tuple(bad))
+        self.assertEqual(held(found.source.between(at_micros(0), at_micros(1 << 50))), places(recounted(events)))
+        self.assertEqual(found.source.between(at_micros(0), at_micros(1 << 50)).bad_lines, tuple(bad))
 
     def test_pipe(self):
         """The path of a pipe, which can be read once; what came by it is kept, in a file if it is long."""
@@ -363,14 +369,14 @@ class Sources(Folder):
         events = events_of(text)
         for kept in (1 << 24, 100):
             for call in (
-                lambda path: histdesk.waits(path).source.between(0, 1 << 50),
-                lambda path: histdesk.read(path, start=0),
+                lambda path: histdesk.waits(path).source.between(at_micros(0), at_micros(1 << 50)),
+                lambda path: histdesk.read(path, start=at_micros(0)),
                 histdesk.read,
             ):
                 path = os.path.join(self.folder, "pipe")
                 os.mkfifo(path)
                 writer = ["sh", "-c", 'cat "$1" >"$2"', "-", self.file(text), path]
-                with subprocess.Popen(writer), mock.patch.object(_pieces, "KEPT", kept):
+                with subprocess.Popen(writer), mock.patch.object(_text, "KEPT", kept):
                     recording = quiet(call, path)
                 os.unlink(path)
                 self.assertEqual(held_quietly(recording), places(events))
@@ -381,21 +387,21 @@ class Sources(Folder):
         found = histdesk.waits(path)
         # What comes after its end isn't read.
         self.file(text + text[-200:])
-        self.assertEqual(held(found.source.between(0, 1 << 50)), places(events_of(text)))
+        self.assertEqual(held(found.source.between(at_micros(0), at_micros(1 << 50))), places(events_of(text)))
         for changed in (text[:-1], b"#" + text[1:]):
             self.file(changed)
             os.utime(path, (1, 1))
             with self.assertRaisesRegex(ValueError, "my.trace has changed since it was read"):
-                found.source.between(0, 1 << 50)
+                found.source.between(at_micros(0), at_micros(1 << 50))
         os.unlink(path)
         with self.assertRaises(FileNotFoundError):
-            found.source.between(0, 1 << 50)
+            found.source.between(at_micros(0), at_micros(1 << 50))
 
     def test_more_than_a_desk_holds(self):
         text = text_of([waking(0, at, 7) for at in range(100)])
         source = histdesk.waits(text).source
-        with mock.patch.object(_part, "LIMIT", 10):
-            recording = source.between(20, 90, 5)
+        with mock.patch.object(_selection, "LIMIT", 10):
+            recording = source.between(at_micros(20), at_micros(90), 5)
             self.assertEqual((recording.taken, recording.is_part), (Part(10, 15, 24, 25), True))
         self.assertEqual(held(recording), [(at, 0, at + 1) for at in range(15, 25)])
 
@@ -421,14 +427,13 @@ def recounted(events):
     return found
 
 
-@with_numpy
 class Long(Folder):
     """Files that are taken to be too long for the memory."""
 
     def setUp(self):
         super().setUp()
         self.small_parts()
-        patch = mock.patch.object(_pieces, "LONG", 2000)
+        patch = mock.patch.object(_text, "LONG", 2000)
         patch.start()
         self.addCleanup(patch.stop)
 
@@ -458,7 +463,7 @@ class Long(Folder):
         for text in texts():
             path, spare = self.file(text), ("sched_wakeup", "other")
             for choice in ({}, {"spare": spare}, {"events": ["sched_switch", "other"]}, {"cpus": [0, 2], "spare": spare}):
-                with mock.patch.object(_part, "LIMIT", 100), mock.patch.object(_recording, "LIMIT", 100):
+                with mock.patch.object(_selection, "LIMIT", 100), mock.patch.object(_recording, "LIMIT", 100):
                     recording, same = (quiet(histdesk.read, trace, **choice) for trace in (path, text))
                     self.assertEqual((recording.taken, recording.is_part), (same.taken, same.is_part))
                     self.assertEqual(held_quietly(recording), held_quietly(same))
@@ -476,7 +481,7 @@ class Long(Folder):
         text = text_of(lines)
         recording, same = (histdesk.read(trace, lenient=True) for trace in (self.file(text), text))
         self.assertEqual((recording.bad_lines, recording.text), (same.bad_lines, same.text))
-        recording = histdesk.read(self.file(text), start=50000, lenient=True)
+        recording = histdesk.read(self.file(text), start=at_micros(50000), lenient=True)
         self.assertEqual((recording.bad_lines, len(held(recording))), (same.bad_lines[1:], 50))
 
     def test_any_order(self):
@@ -484,7 +489,7 @@ class Long(Folder):
         self.assertEqual(told(quiet(histdesk.waits, histdesk.read(self.file(text)))), plain_waits.waits_of(text))
         late = in_time(text) + text_of([waking(0, 1001, 7)])
         for content in (text, late, gzip.compress(text)):
-            with mock.patch.object(_part, "LIMIT", 100), mock.patch.object(_recording, "LIMIT", 100):
+            with mock.patch.object(_selection, "LIMIT", 100), mock.patch.object(_recording, "LIMIT", 100):
                 recording, same = quiet(histdesk.read, self.file(content)), quiet(histdesk.read, content)
                 self.assertEqual((held_quietly(recording), recording.taken), (held_quietly(same), same.taken))
 
@@ -497,22 +502,10 @@ class Long(Folder):
                 call()
 
 
-class WithoutNumpy(Folder):
-    @without_numpy
-    def test_whole_files_alone(self):
-        text = recordings.kinds().text
-        with mock.patch.object(_pieces, "LONG", 100):
-            recording = histdesk.read(self.file(text))
-        self.assertEqual(held(recording), places(events_of(text)))
-        with self.assertRaisesRegex(ImportError, "python3-numpy"):
-            histdesk.read(self.file(text), start=1)
-
-
 def held_quietly(recording):
     return quiet(held, recording)
 
 
-@with_numpy
 class Tool(Folder):
     """tools/waits over slices, run as users run it."""
 
@@ -527,7 +520,7 @@ class Tool(Folder):
         events = events_of(text)
         start, end = events[len(events) // 3], events[len(events) * 2 // 3]
         words = ["--from", recordings.stamp(start.stamp), "--until", recordings.stamp(end.stamp)]
-        found = histdesk.waits(histdesk.read(text, start=start.stamp, until=end.stamp))
+        found = histdesk.waits(histdesk.read(text, start=at_micros(start.stamp), until=at_micros(end.stamp)))
         want = [(str(row.pid), str(row.end_cpu), str(row.end_line)) for row in found.table()]
         remark = f"lines are counted from {recordings.stamp(start.stamp)} on"
         for path, given in ((self.file(text), None), (self.file(gzip.compress(text), "packed"), None), ("-", text)):
@@ -560,8 +553,8 @@ class Tool(Folder):
             at = chance.randrange(len(events) * 3 // 4)
             start, until = events[at].stamp, events[at + len(events) // 5].stamp
             wanted = between(events, start, until)
-            self.assertEqual(held_quietly(source.between(start, until)), places(wanted))
-            recording = quiet(histdesk.read, path, start=start, until=until)
+            self.assertEqual(held_quietly(source.between(at_micros(start), at_micros(until))), places(wanted))
+            recording = quiet(histdesk.read, path, start=at_micros(start), until=at_micros(until))
             self.assertEqual(held_quietly(recording), counted_anew(wanted))
             want = plain_waits.waits_of(lines_from(text, wanted)) if wanted else []
             found = told(quiet(histdesk.waits, recording))

@@ -4,7 +4,7 @@ events out (model_filter.py).
 
     python_sums.py [TEST]...
 
-The recordings and the filters come by chance, and the text is cut anywhere. The last line says how many of the tests hold."""
+The recordings and the filters come by chance, and the text is cut anywhere."""
 
 import os
 import random
@@ -20,8 +20,8 @@ sys.path[:0] = [os.path.join(HERE, "..", "..", "python"), os.path.join(HERE, "..
 import plain_sums
 import random_texts
 import recordings
-from histdesk import _layout
-from histdesk._library import library
+from histdesk.native import layout
+from histdesk.native.library import library
 from plain_sums import Cpu, Task
 from python_runner import main
 from python_without import Stream, passing
@@ -33,11 +33,11 @@ STATES = ["R", "R+", "S", "S|K", "I", "D", "DK", "T", "Z", "X"]
 def sums(stream, chance):
     """What a stream sums up to, copied into rooms of random sizes."""
     tasks, cpus = [], []
-    for call, layout, kind, into in (
-        (library.histdesk_waits_tasks, _layout.TaskSum, Task, tasks),
-        (library.histdesk_waits_cpus, _layout.CpuSum, Cpu, cpus),
+    for call, struct, kind, into in (
+        (library.histdesk_waits_tasks, layout.TaskSum, Task, tasks),
+        (library.histdesk_waits_cpus, layout.CpuSum, Cpu, cpus),
     ):
-        room = (layout * 9)()
+        room = (struct * 9)()
         while count := call(stream.desk, len(into), room, chance.randrange(1, 10)):
             assert all(one.zero == 0 for one in room[:count])
             into += [kind(*(getattr(one, field) for field in kind._fields)) for one in room[:count]]
@@ -95,6 +95,7 @@ class Sums(unittest.TestCase):
         for field in Task._fields[:-1]:
             self.assertGreater(sum(getattr(one, field) > 0 for one in tasks), 100, field)
         self.assertGreater(sum(0 < one.idle_with_waiters < one.idle for one in cpus), 100)
+        self.assertGreater(sum(0 < one.longest < one.idle_with_waiters for one in cpus), 100)
 
     def test_of_a_simulated_scheduler(self):
         """With each switch there, a CPU runs a task or is idle from its first switch to its last."""

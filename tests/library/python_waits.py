@@ -4,7 +4,7 @@
     python_waits.py [TEST]...
 
 The expected values are known by hand or from a simulated scheduler (recordings.py), or come from a plain reckoning that reads
-the text by itself (plain_waits.py). The last line says how many of the tests hold."""
+the text by itself (plain_waits.py)."""
 
 import csv
 import doctest
@@ -30,11 +30,13 @@ PYTHON = os.path.realpath(os.path.join(HERE, "..", "..", "python"))
 TOOL = os.path.realpath(os.path.join(HERE, "..", "..", "tools", "waits"))
 sys.path[:0] = [PYTHON, os.path.join(HERE, "..", "model")]
 
+import numpy
+
 import histdesk
 import plain_waits
 import recordings
-from histdesk import Counts, LossWarning, Refused, _part, _pieces, _recording, _stream, _waits
-from python_answers import with_numpy, with_pandas, without_numpy
+from histdesk import Counts, LossWarning, Refused, _selection, _text, _recording, _stream, _wait_answer, _waits
+from python_answers import at_micros, with_pandas
 from python_runner import main
 from recordings import Known, Place, Wait, switch, text_of, waking
 
@@ -80,7 +82,6 @@ def noise(seed, count=300):
     return text_of(lines)
 
 
-@with_numpy
 class Waits(unittest.TestCase):
     def test_known_by_hand(self):
         for make in (recordings.hole_at_start, recordings.lost_in_middle, recordings.odd_names, recordings.kinds):
@@ -143,10 +144,16 @@ class Waits(unittest.TestCase):
         self.assertEqual(told(found.only(kinds=["woken", "new"], cpus=[0, 3])), [all_of_them[at] for at in (3, 4, 5, 7)])
         self.assertEqual(told(found[found.array.micros > 29]), [wait for wait in all_of_them if wait.micros > 29])
         self.assertEqual((told(found[2:4]), found.name(7), len(found.only(kinds=[]))), (all_of_them[2:4], "renamed", 0))
-        with self.assertRaises(ValueError):
-            found.only(kinds=["old"])
-        with self.assertRaises(TypeError):
-            found[3]
+        self.assertEqual(told(found.only(kinds="woken", cpus=2)), told(found.only(kinds=["woken"], cpus=[2])))
+        for kinds in (["old"], "old", ["woken", 7]):
+            with self.assertRaisesRegex(ValueError, "is no kind of wait; the kinds are woken, new, preempted"):
+                found.only(kinds=kinds)
+        self.assertEqual([wait.task for wait in found], found.names.tolist())
+        self.assertEqual(
+            [(wait.kind, wait.pid, wait.micros, *wait.begin, *wait.end) for wait in found],
+            [(wait.kind, wait.pid, wait.micros, *wait.begin, *wait.end) for wait in all_of_them],
+        )
+        self.assertEqual((found[3], found[-1]), (list(found)[3], list(found)[-1]))
         with self.assertRaises(IndexError):
             found.name(8)
 
@@ -164,11 +171,10 @@ class Waits(unittest.TestCase):
         self.assertEqual(len(warned), 1)
 
 
-@with_numpy
 class Parts(unittest.TestCase):
     def test_time(self):
         known = recordings.kinds()
-        found = waits_of(histdesk.read(known.text, start=1000300, until=1000500))
+        found = waits_of(histdesk.read(known.text, start=at_micros(1000300), until=at_micros(1000500)))
         # What began before isn't known; lines are counted from the first event on.
         places = [(wait.begin[1:], wait.end[1:]) for wait in told(found)]
         self.assertEqual(places, [((0, 1), (3, 1)), ((0, 4), (3, 3))])
@@ -183,11 +189,11 @@ class Parts(unittest.TestCase):
 
     def test_more_than_a_desk_holds(self):
         known = recordings.kinds()
-        with mock.patch.object(_part, "LIMIT", 20), mock.patch.object(_recording, "LIMIT", 20):
+        with mock.patch.object(_selection, "LIMIT", 20), mock.patch.object(_recording, "LIMIT", 20):
             found = waits_of(known.text)
         # A trace is read as a whole, however many events it has.
         self.assertEqual((found.held.events, told(found)), (26, list(known.waits)))
-        with mock.patch.object(_part, "LIMIT", 20), mock.patch.object(_recording, "LIMIT", 20):
+        with mock.patch.object(_selection, "LIMIT", 20), mock.patch.object(_recording, "LIMIT", 20):
             recording = histdesk.read(known.text, spare=_waits.SPARE)
             found = waits_of(recording)
         # And so is a recording of which a desk holds a part.
@@ -198,7 +204,7 @@ class Parts(unittest.TestCase):
         found = waits_of(histdesk.read(known.text, events=names))
         # The one sched_wakeup is left out, and its line is still counted.
         self.assertEqual((found.held.events, found.remarks(), told(found)), (25, [], list(known.waits)))
-        with mock.patch.object(_part, "LIMIT", 20), mock.patch.object(_recording, "LIMIT", 20):
+        with mock.patch.object(_selection, "LIMIT", 20), mock.patch.object(_recording, "LIMIT", 20):
             found = waits_of(histdesk.read(known.text, events=names))
         self.assertEqual((found.held.events, told(found)), (20, list(known.waits[:7])))
         self.assertEqual(found.remarks(), ["this is a part of the recording; the next one begins at 1.000600"])
@@ -239,7 +245,6 @@ class Dripping(io.BytesIO):
         return super().read(min(size, 37))
 
 
-@with_numpy
 class Streams(unittest.TestCase):
     """Traces in the order of time, which are read in pieces."""
 
@@ -247,7 +252,7 @@ class Streams(unittest.TestCase):
         for seed in range(12):
             text = in_time(noise(seed))
             for piece in (1 << 22, 4096, 100, 31):
-                with mock.patch.object(_pieces, "PIECE", piece), mock.patch.object(_stream, "CHUNK", 16):
+                with mock.patch.object(_text, "PIECE", piece), mock.patch.object(_stream, "CHUNK", 16):
                     self.assertEqual(told(waits_of(text)), plain_waits.waits_of(text), (seed, piece))
 
     def test_sources(self):
@@ -299,7 +304,7 @@ class Streams(unittest.TestCase):
         lines = [waking(0, 5, 7), waking(0, 6, 8), waking(1, 20, 9), switch(0, 30, "x-1", "a-7"), switch(0, 40, "a-7", "c-9")]
         text = text_of(lines, in_buffer=5, lost=4)
         for piece in (1 << 22, 64):
-            with mock.patch.object(_pieces, "PIECE", piece):
+            with mock.patch.object(_text, "PIECE", piece):
                 found = waits_of(text)
             self.assertEqual(found.holes, histdesk.read(text).holes)
             self.assertEqual([(wait.pid, wait.doubtful) for wait in told(found)], [(7, True), (9, False)])
@@ -337,7 +342,6 @@ class Streams(unittest.TestCase):
             self.assertEqual(desk.triggers(), [])
 
 
-@with_numpy
 class Tables(unittest.TestCase):
     def check(self, found, waits, with_doubtful):
         """Holds each table against the plain figures."""
@@ -378,6 +382,43 @@ class Tables(unittest.TestCase):
         rows = waits_of(recordings.hole_at_start().text).table()
         self.assertEqual([row.task for row in rows], ["true", "edge", "victim", "child", "thrown"])
 
+    def test_sorted(self):
+        for name in ("kinds", "hole_at_start", "simulated_0"):
+            found = waits_of(recordings.all_known()[name].text)
+            for by in BYS:
+                usual = found.table(by)
+                for column in _wait_answer.orders_of(by):
+                    rows = found.table(by, sort=column)
+                    values = [row.end_stamp if column == "at" else getattr(row, column) for row in rows]
+                    present = [value for value in values if value is not None]
+                    # Rows without a value come last, and rows of equal values stay in their usual order.
+                    self.assertEqual(values, present + [None] * (len(values) - len(present)), (by, column))
+                    is_up = column in ("task", "name", "cpu", "prio", "kind", "pid", "at")
+                    self.assertEqual(present, sorted(present, reverse=not is_up), (by, column))
+                    places = [usual.index(row) for row in rows]
+                    ties = [pair for pair, same in zip(zip(places, places[1:]), zip(values, values[1:])) if same[0] == same[1]]
+                    self.assertTrue(all(one < other for one, other in ties), (by, column))
+            for column in ("comm", "where", "index", "end_cpu"):
+                with self.assertRaises(ValueError):
+                    found.table(sort=column)
+
+    def test_all_kinds_in_one_row(self):
+        for name in ("kinds", "hole_at_start", "simulated_0", "damaged_1"):
+            text = recordings.all_known()[name].text
+            waits = plain_waits.waits_of(text)
+            groups = {"task": lambda wait: wait.pid, "cpu": lambda wait: wait.end.cpu, "kind": lambda wait: ()}
+            for by, key in groups.items():
+                wanted = {}
+                for wait in waits:
+                    wanted.setdefault(key(wait), []).append(wait)
+                rows = waits_of(text).table(by, kinds_apart=False)
+                found = {{"task": row[1], "cpu": row[0], "kind": ()}[by]: row for row in rows}
+                self.assertEqual((set(found), {row.kind for row in rows}), (set(wanted), {"all"}))
+                for one, row in found.items():
+                    figures = plain_waits.figures_of(wanted[one], False)
+                    known = {field: value for field, value in figures.items() if not field.startswith("greatest_")}
+                    self.assertEqual({field: getattr(row, field) for field in known}, known, (name, by, one))
+
     def test_other_words(self):
         found = waits_of(recordings.kinds().text)
         for call in (found.table, found.counts, found.to_pandas):
@@ -400,7 +441,6 @@ class Tables(unittest.TestCase):
         self.assertEqual(waits_of(b"").to_pandas("task").shape, (0, 14))
 
 
-@with_numpy
 class Counted(unittest.TestCase):
     """Counts that are added up."""
 
@@ -488,7 +528,6 @@ class Counted(unittest.TestCase):
         self.assertEqual(counts.histogram(("nobody", "woken")), [])
 
 
-@with_numpy
 class OnADesk(unittest.TestCase):
     """A desk of the user's is asked, and left as it was."""
 
@@ -545,7 +584,7 @@ class OnADesk(unittest.TestCase):
         self.unchanged()
 
     def test_more_tasks_than_a_table_holds(self):
-        count = _waits.SIZE + 3
+        count = _wait_answer.SIZE + 3
         lines = [waking(0, at, at + 1) for at in range(count)]
         lines += [switch(0, count + pid, "a-0", f"w-{pid}") for pid in (1, count)]
         found = waits_of(text_of(lines))
@@ -553,7 +592,6 @@ class OnADesk(unittest.TestCase):
         self.assertEqual(found.remarks(), plain_waits.missing_told(text_of(lines)))
 
 
-@with_numpy
 class Shown(unittest.TestCase):
     def test_one_is_told(self):
         found = waits_of(recordings.hole_at_start().text)
@@ -571,9 +609,9 @@ class Shown(unittest.TestCase):
         self.assertEqual(text[0], "histdesk.Waits of 12 events from 1.000000 to 2.620761 (1.620761 s) on CPUs 0-2")
         self.assertEqual(text[1], "2 waits: 2 woken, 0 new, 0 preempted; times in microseconds")
         self.assertEqual(text[2].split()[:2], ["3", "doubtful"])
-        self.assertEqual(text[3].split(), "task pid kind count mean p50 p90 p99 max at where doubtful".split())
-        self.assertEqual(text[4].split(), "true 46 woken 1 320761.0 320761 320761 320761 320761 2.620761 2:2 0".split())
-        self.assertEqual(text[6].split(), "victim 42 woken 0 1".split())
+        self.assertEqual(text[3].split(), "task pid kind count total mean p50 p90 p99 max at where doubtful".split())
+        self.assertEqual(text[4].split(), "true 46 woken 1 320761 320761.0 320761 320761 320761 320761 2.620761 2:2 0".split())
+        self.assertEqual(text[6].split(), "victim 42 woken 0 0 1".split())
         self.assertTrue(text[9].startswith("events were lost: "))
         self.assertEqual(len(text), 10)
 
@@ -591,8 +629,8 @@ class Shown(unittest.TestCase):
         self.assertEqual((len(text), text[-2].split()[1], text[-1].split()[0]), (3 + 1 + 20 + 1, "11", ".."))
 
     def test_cpus(self):
-        self.assertEqual(_waits.ranges((0, 1, 2, 3, 6, 8, 9)), "0-3,6,8-9")
-        self.assertEqual(_waits.ranges(()), "")
+        self.assertEqual(_wait_answer.ranges((0, 1, 2, 3, 6, 8, 9)), "0-3,6,8-9")
+        self.assertEqual(_wait_answer.ranges(()), "")
 
     def test_example(self):
         """That of the documentation, which is skipped where numpy isn't there."""
@@ -602,7 +640,6 @@ class Shown(unittest.TestCase):
         self.assertEqual((tried.failed, tried.attempted > 1), (0, True))
 
 
-@with_numpy
 class Tool(unittest.TestCase):
     """tools/waits, run as users run it."""
 
@@ -717,7 +754,7 @@ class Tool(unittest.TestCase):
         self.assertEqual([line.split()[2] for line in lines[5:35]], [str(row.pid) for row in rows[:30]])
         told_of = [
             f"{len(rows) - 30} more are not shown; --top all shows them",
-            f"tools/why {self.path('simulated_1')} {rows[0].end_cpu}:{rows[0].end_line} tells of the greatest",
+            f"tools/why {self.path('simulated_1')} {rows[0].end_cpu}:{rows[0].end_line} explains the longest",
         ]
         self.assertEqual(lines[35:], [*told_of, ""])
 
@@ -736,6 +773,41 @@ class Tool(unittest.TestCase):
         text, _ = self.run_tool(self.path("kinds"), "--from", "1.0003", "--until", "1.0005", "--csv")
         self.assertEqual([row["max"] for row in csv.DictReader(io.StringIO(text))], ["40"])
 
+    def test_sorted(self):
+        text, _ = self.run_tool(self.path("simulated_0"), "--sort", "total", "--kind", "all", "--csv")
+        rows = list(csv.DictReader(io.StringIO(text)))
+        totals = [int(row["total"]) for row in rows]
+        self.assertEqual((totals, {row["kind"] for row in rows}), (sorted(totals, reverse=True), {"all"}))
+        waits = plain_waits.waits_of(self.known["simulated_0"].text)
+        self.assertEqual((len(rows), sum(totals)), (len({wait.pid for wait in waits}), sum(wait.micros for wait in waits)))
+        text, _ = self.run_tool(self.path("kinds"), "--kind", "all", "--by", "kind")
+        self.assertEqual(text.split("\n")[-2].split()[:3], ["all", "8", "155"])
+        text, _ = self.run_tool(self.path("kinds"), "--kind", "all", "--by", "task", "--histogram", "--csv")
+        self.assertEqual(text.split("\n")[0], "task,pid,low,high,count")
+
+    def test_nothing_to_report(self):
+        """A line says why, and the status is 1."""
+        path = self.path("kinds")
+        empty = os.path.join(self.folder.name, "empty.trace")
+        with open(empty, "wb"):
+            pass
+        cases = [
+            ([path, "--cpu", "9"], "no wait ended on CPU 9; its events are on CPUs 0-3"),
+            ([path, "--cpu", "3", "--kind", "woken"], "no wait of kind woken ended on CPU 3"),
+            ([path, "--from", "9999"], "no event is from 9999.000000; its events are from 1.000000 to 1.000803"),
+            ([path, "--until", "1"], "no event is before 1.000000; its events are from 1.000000 to 1.000803"),
+            ([path, "--from", "1.0008", "--until", "1.000801"], "no wait ended in it"),
+            ([empty], "it has no events"),
+        ]
+        for words, why in cases:
+            for form in ([], ["--json"], ["--csv"], ["--histogram"], ["--by", "kind"]):
+                shown, told_of = self.run_tool(*words, *form, status=1)
+                self.assertEqual(told_of.split("\n")[-2:], [f"waits: {words[0]}: {why}", ""], (words, form))
+                if form == ["--json"]:
+                    self.assertEqual(json.loads(shown)["rows"], [])
+        _, told_of = self.run_tool("-", input=b"", status=1)
+        self.assertEqual(told_of, "waits: -: it has no events\n")
+
     def test_standard_input_and_lenient(self):
         text = self.known["kinds"].text + b"a torn li\n"
         _, told_of = self.run_tool("-", input=text, status=2)
@@ -746,6 +818,7 @@ class Tool(unittest.TestCase):
 
     def test_what_goes_wrong_is_a_line(self):
         wrong = [["--by", "comm"], ["--kind", "old"], ["--top", "0"], ["--csv", "--json"], ["--no-such"], []]
+        wrong += [["--sort", "where"], ["--sort", "cpu"], ["--sort", "max", "--histogram"], ["--kind", "all,woken"]]
         for words in wrong:
             path = [self.path("kinds")] if words else []
             shown, told_of = self.run_tool(*path, *words, status=2)
@@ -762,7 +835,7 @@ class Tool(unittest.TestCase):
 
     def test_without_numpy_or_library(self):
         with open(os.path.join(self.folder.name, "numpy.py"), "w", encoding="ascii") as file:
-            file.write("raise ImportError('none here')\n")
+            file.write("raise ModuleNotFoundError('none here', name='numpy')\n")
         environment = {**os.environ, "PYTHONPATH": self.folder.name}
         _, told_of = self.run_tool(self.path("kinds"), status=2, env=environment)
         how = "apt-get install python3-numpy gives it to Debian's own python3, pip install numpy to any"
@@ -783,7 +856,6 @@ def tracing():
     return os.geteuid() == 0 and os.path.isdir("/sys/kernel/tracing/instances")
 
 
-@with_numpy
 @unittest.skipUnless(tracing(), "not root, or no tracefs at /sys/kernel/tracing")
 class ThisMachine(unittest.TestCase):
     """A recording of the machine that runs the test, whose buffer is too small on purpose."""
@@ -825,17 +897,32 @@ for _ in range(5000):
                 self.assertEqual((row["max"], row["count"], row["doubtful"]), (max(sure, default=None), len(sure), doubtful))
 
 
-class WithoutNumpy(unittest.TestCase):
-    @without_numpy
-    def test_one_line(self):
-        for call in (lambda: histdesk.waits(b""), lambda: Counts.empty(("kind",))):
-            with self.assertRaisesRegex(ImportError, "python3-numpy"):
-                call()
+class Selected(unittest.TestCase):
+    """Waits that are selected, in whatever form that is asked for."""
+
+    def setUp(self):
+        self.waits = waits_of(recordings.kinds().text)
+
+    def test_by_numbers_of_numpy(self):
+        at = self.waits.array.micros.argmax()
+        self.assertEqual(self.waits[at].micros, max(wait.micros for wait in self.waits))
+        cpu = self.waits[0].end.cpu
+        self.assertEqual(len(self.waits.only(cpus=numpy.int64(cpu))), sum(wait.end.cpu == cpu for wait in self.waits))
+
+    def test_by_iterators(self):
+        woken = sum(wait.kind == "woken" for wait in self.waits)
+        self.assertEqual(len(self.waits.only(kinds=iter(["woken"]))), woken)
+        with self.assertRaises(TypeError):
+            self.waits.only(cpus="1")
+
+    def test_array_is_read_only(self):
+        with self.assertRaises(ValueError):
+            self.waits.array.sort(order="micros")
 
 
 class Written(unittest.TestCase):
     def test_unescaped(self):
-        from histdesk._written import escaped
+        from histdesk._writers import escaped
 
         chance = random.Random(1)
         for _ in range(2000):

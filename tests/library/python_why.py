@@ -1,7 +1,6 @@
 #!/usr/bin/env python3
-"""python_why.py: what is told of a wait, by the package and by tools/why (why_command.py), and from
-slices of a recording (why_slices.py). The values are written by hand; of
-simulated machines, what ran is reckoned microsecond by microsecond. The last line says how many of the tests hold.
+"""Holds what the package reports about a wait; why_command.py is of tools/why, and why_slices.py of slices of a recording. The
+values are written by hand; of simulated machines, what ran is reckoned microsecond by microsecond.
 
     python_why.py [TEST]...
 """
@@ -22,13 +21,10 @@ PYTHON = os.path.realpath(os.path.join(HERE, "..", "..", "python"))
 sys.path[:0] = [PYTHON, os.path.join(HERE, "..", "model")]
 
 import histdesk
-import why_command
-import why_slices
 from histdesk import Hole, Share, Stretch
-from python_answers import with_numpy
 from python_runner import main
 from recordings import all_known, simulated
-from why_traces import BUSY, BUSY_TOLD, line, switch, trace, waking
+from why_traces import BUSY, BUSY_TEXT, line, switch, trace, waking
 
 
 def desk_of(text):
@@ -46,10 +42,10 @@ def told(text, *words, **named):
 
 
 def lines_of(why):
-    return str(why).split("\n")
+    """The lines of its text, which aren't cut."""
+    return why.text(width=200).split("\n")
 
 
-@with_numpy
 class Told(unittest.TestCase):
     """A wait of which all is known."""
 
@@ -76,7 +72,7 @@ class Told(unittest.TestCase):
 
     def test_busy_as_text(self):
         why = told(trace(*BUSY), 2, 4)
-        self.assertEqual(str(why), BUSY_TOLD)
+        self.assertEqual(str(why), BUSY_TEXT)
         self.assertEqual((repr(why), why.text()), (str(why), str(why)))
         self.assertEqual(why._repr_html_(), "<pre>" + str(why).replace(">", "&gt;") + "</pre>")
 
@@ -104,7 +100,6 @@ class Told(unittest.TestCase):
         self.assertEqual(told(desk, 0, 1).queued, None)
 
 
-@with_numpy
 class Kinds(unittest.TestCase):
     """What began the wait, and where the task was then."""
 
@@ -273,7 +268,6 @@ class Kinds(unittest.TestCase):
         self.assertEqual((told(text, 1, 2).pid, told(text, 1, 2).begin[:3]), (11, (1000005, 1, 1)))
 
 
-@with_numpy
 class Contexts(unittest.TestCase):
     """Where a waking came from, by the kernel's flags."""
 
@@ -311,7 +305,6 @@ class Contexts(unittest.TestCase):
         self.assertEqual(self.context_of("d.h2.", before=others[1:3])[0], "hardirq")
 
 
-@with_numpy
 class Lost(unittest.TestCase):
     """Waits at the edges of the trace, and across events that were lost."""
 
@@ -355,7 +348,9 @@ class Lost(unittest.TestCase):
         why = told(text, 1, 2)
         self.assertTrue(why.doubtful)
         self.assertEqual([(stretch.pid, stretch.micros) for stretch in why.stretches], [(None, 600), (10, 0), (11, 100)])
-        self.assertIn("Doubtful: CPU 1 lost events between the beginning and 1.000700 (line 2 of the text)", str(why))
+        self.assertIn(
+            "Doubtful: CPU 1 lost events between the beginning and 1.000700 (line 2 of the text)", why.text(width=200)
+        )
 
     def test_warning(self):
         """What was lost is told once."""
@@ -431,7 +426,7 @@ class Lost(unittest.TestCase):
         self.assertEqual(
             [(stretch.pid, stretch.micros) for stretch in why.stretches], [(10, 10), (11, 10), (None, 30), (12, 20)]
         )
-        self.assertIn("What ran on CPU 1 for 30 us (43 %) isn't known: a switch there was not recorded.", str(why))
+        self.assertIn("What ran on CPU 1 for 30 us (43 %) isn't known: a switch there was not recorded.", lines_of(why))
 
     def test_still_waits(self):
         """No switch to it follows: it waits to the last event, wherever that is."""
@@ -467,10 +462,9 @@ class Lost(unittest.TestCase):
     def test_no_time(self):
         why = told(trace(waking("a-10", 0, 1000100, "w", 42, 0), switch(0, 1000100, "a-10", "R+", "w-42")), 0, 2)
         self.assertEqual((why.micros, [stretch.micros for stretch in why.stretches]), (0, [0]))
-        self.assertIn("a-10   120   0  0     1  |" + " " * 60 + "|", str(why))
+        self.assertIn("a-10   120   0  0     1  |" + " " * 60 + "|", why.text(width=200))
 
 
-@with_numpy
 class Nothing(unittest.TestCase):
     """Events that belong to no wait."""
 
@@ -488,7 +482,7 @@ class Nothing(unittest.TestCase):
     def test_no_begin(self):
         self.assertEqual(
             self.reason(trace(*BUSY), 2, 1),
-            "nothing before the sched_switch at 2:1 tells what made a-10 runnable: "
+            "nothing before the sched_switch at 2:1 shows what made a-10 runnable: "
             "it was lost or left out, or the trace begins later",
         )
         # Nor of this one, but it begins another wait.
@@ -523,7 +517,7 @@ class Nothing(unittest.TestCase):
             waking("bash-7", 0, 1000100, "w", 42, 1),
             switch(1, 1000300, "a-10", "S", "w-42"),
         )
-        self.assertEqual(self.reason(text, 0, 1), "the sched_waking at 0:1 begins no wait: w-42 is woken anew before it runs")
+        self.assertEqual(self.reason(text, 0, 1), "the sched_waking at 0:1 begins no wait: w-42 is woken again before it runs")
 
     def test_waking_within_a_wait(self):
         """Of a task that was preempted it begins nothing: the wait is that since then."""
@@ -535,7 +529,6 @@ class Nothing(unittest.TestCase):
         self.assertEqual((told(text, 0, 1).begin[:3], told(text, 0, 1).micros), ((1000000, 1, 1), 300))
 
 
-@with_numpy
 class Shown(unittest.TestCase):
     """Names and long texts as they are shown."""
 
@@ -559,7 +552,7 @@ class Shown(unittest.TestCase):
         self.assertEqual(why.shares, [Share("t", pid, 120, 100, 10) for pid in range(10, 14)])
         order = lines_of(why)[lines_of(why).index("What ran on CPU 1, in order:") + 2 :]
         self.assertEqual((len(order), order[10].split()), (21, [".."] * 7))
-        self.assertEqual(len(why.text(all_stretches=True).split("\n")), len(lines_of(why)) + 19)
+        self.assertEqual(len(why.text(all_stretches=True, width=200).split("\n")), len(lines_of(why)) + 19)
         self.assertIn("4 tasks ran on CPU 1 meanwhile, in 40 stretches; t-10 the longest, 100 us (25 %).", lines_of(why))
 
     def test_picture(self):
@@ -623,7 +616,6 @@ def ran(events, cpu, begin, end):
     return micros
 
 
-@with_numpy
 class Reckoned(unittest.TestCase):
     """Simulated machines, whose waits are known, and what ran meanwhile too."""
 
@@ -670,4 +662,4 @@ def told_at_begin(desk, wait):
 
 
 if __name__ == "__main__":
-    sys.exit(main(why_command, why_slices))
+    sys.exit(main())

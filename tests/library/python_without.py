@@ -4,7 +4,7 @@
 
     python_without.py [TEST]...
 
-The recordings and the filters come by chance, and the text is cut anywhere. The last line says how many of the tests hold."""
+The recordings and the filters come by chance, and the text is cut anywhere."""
 
 import ctypes
 import os
@@ -24,14 +24,14 @@ import model_line
 import plain_waits
 import random_texts
 import recordings
-from histdesk import _layout
-from histdesk._library import library
+from histdesk.native import layout
+from histdesk.native.library import library
 from model_trigger import field_of
 from python_runner import main
 from recordings import Place, Wait
 
 ROOM = 64
-WAIT = struct.Struct("=" + 3 * _layout.PLACE_CODE + "2i4I" + _layout.NAME_CODE)
+WAIT = struct.Struct("=" + 3 * layout.PLACE_CODE + "2i4I" + layout.NAME_CODE)
 KINDS = {1: "woken", 2: "new", 3: "preempted"}
 BAD_FILTER = 9
 
@@ -40,7 +40,7 @@ class Stream:
     """A stream of waits of the library, with a desk of its own."""
 
     def __init__(self):
-        self.desk, self.waits = _layout.Handle(), []
+        self.desk, self.waits = layout.Handle(), []
         assert library.histdesk_new(self.desk) == 0 and library.histdesk_waits_new(self.desk, False) == 0
 
     def __enter__(self):
@@ -52,7 +52,7 @@ class Stream:
     def leave_out(self, event, text):
         """Leaves out the events of a name that pass a filter: the number of the filter's fault, or None."""
         code = library.histdesk_waits_without(self.desk, random_texts.EVENTS.index(event), text.encode("latin-1"), len(text))
-        refusal = _layout.Refusal()
+        refusal = layout.Refusal()
         library.histdesk_waits_refused(self.desk, refusal)
         assert code == refusal.number and code in (0, BAD_FILTER)
         return refusal.filter_fault if code else None
@@ -72,9 +72,9 @@ class Stream:
             assert library.histdesk_waits_feed(self.desk, piece, len(piece), count) == 0
             self.take()
             at += len(piece)
-        assert library.histdesk_waits_finish(self.desk, _layout.WaitsRead(), count) == 0
+        assert library.histdesk_waits_finish(self.desk, layout.WaitsRead(), count) == 0
         self.take()
-        room = (_layout.LeftOut * ROOM)()
+        room = (layout.LeftOut * ROOM)()
         filters = library.histdesk_waits_left_out(self.desk, 0, room, ROOM)
         return self.told(), [(counts.events, counts.left_out) for counts in room[:filters]]
 

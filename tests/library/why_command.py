@@ -1,15 +1,15 @@
-"""Tests of tools/why; python_why.py runs them."""
+"""Holds tools/why: its status, what it prints, and what it reports on standard error."""
 
+import gzip
 import os
+import random
 import subprocess
 import sys
 import tempfile
 import unittest
 
-from histdesk import _layout
-from python_answers import with_numpy
 from recordings import all_known
-from why_traces import BUSY, BUSY_TOLD, switch, trace, waking
+from why_traces import BUSY, BUSY_TEXT, switch, trace, waking
 
 TOOL = os.path.join(os.path.dirname(os.path.realpath(__file__)), "..", "..", "tools", "why")
 
@@ -48,29 +48,28 @@ def heads_of(out):
     return [part.split("\n")[0] for part in out.split("-" * 72 + "\n")]
 
 
-@with_numpy
 class Places(Command):
     def test_places(self):
         text = trace(*BUSY)
-        self.assertEqual(self.ran(text, "2:4"), (0, BUSY_TOLD + "\n", ""))
-        self.assertEqual(self.ran(text, "0:1", "--all"), (0, BUSY_TOLD + "\n", ""))
+        self.assertEqual(self.ran(text, "2:4"), (0, BUSY_TEXT + "\n", ""))
+        self.assertEqual(self.ran(text, "0:1", "--all"), (0, BUSY_TEXT + "\n", ""))
         status, out, told = self.ran(text, "2:4", "2:2")
-        self.assertEqual((status, told, heads_of(out)[0]), (0, "", BUSY_TOLD.split("\n")[0]))
+        self.assertEqual((status, told, heads_of(out)[0]), (0, "", BUSY_TEXT.split("\n")[0]))
         self.assertIn("a-10 (prio 120) has waited 400 us", heads_of(out)[1])
 
     def test_no_wait(self):
         self.assertEqual(self.ran(trace(*BUSY), "2:9"), (1, "", "why: no event of CPU 2 is at line 9: its lines are 1 to 4\n"))
         # What can be told is told.
         status, out, told = self.ran(trace(*BUSY), "2:4", "2:9")
-        self.assertEqual((status, out, told.count("\n")), (1, BUSY_TOLD + "\n", 1))
+        self.assertEqual((status, out, told.count("\n")), (1, BUSY_TEXT + "\n", 1))
 
     def test_words(self):
         for word in ("2", "2:", ":4", "2:x", "-2:4", "20000:1"):
             status, out, told = self.ran(trace(*BUSY), word)
             self.assertEqual((status, out, told.count("\n")), (2, "", 1), word)
-        self.assertIn("2 is no place CPU:LINE, such as 2:1042", self.ran(b"", "2")[2])
-        self.assertIn("fast is no kind; the kinds are woken, new, preempted", self.ran(b"", "--kind", "fast")[2])
-        self.assertIn("0 is no number from 1 on", self.ran(b"", "--worst", "0")[2])
+        self.assertIn("2 is not a place CPU:LINE such as 2:1042", self.ran(b"", "2")[2])
+        self.assertIn("there is no kind fast; the kinds are woken, new, preempted", self.ran(b"", "--kind", "fast")[2])
+        self.assertIn("0 is not a number from 1 on", self.ran(b"", "--worst", "0")[2])
 
     def test_no_words(self):
         ran = subprocess.run([sys.executable, "-B", TOOL], stderr=subprocess.PIPE, check=False)
@@ -100,7 +99,7 @@ class Places(Command):
         """Of a trace that isn't in the order of time a desk holds the events; it must be a file."""
         text = trace(*reversed(BUSY))
         status, out, told = self.ran(text)
-        self.assertEqual((status, told, out.split("\n")[0]), (0, "", BUSY_TOLD.split("\n")[0]))
+        self.assertEqual((status, told, out.split("\n")[0]), (0, "", BUSY_TEXT.split("\n")[0]))
         ran = subprocess.run(
             [sys.executable, "-B", TOOL, "-"], input=text, stdout=subprocess.PIPE, stderr=subprocess.PIPE, check=False
         )
@@ -109,12 +108,12 @@ class Places(Command):
 
     def test_standard_input(self):
         ran = subprocess.run([sys.executable, "-B", TOOL, "-"], input=trace(*BUSY), stdout=subprocess.PIPE, check=False)
-        self.assertEqual((ran.returncode, ran.stdout.decode()), (0, BUSY_TOLD + "\n"))
+        self.assertEqual((ran.returncode, ran.stdout.decode()), (0, BUSY_TEXT + "\n"))
 
     def test_lenient(self):
         """Lines that can't be read are left out, and no event before or after them is another one."""
         status, out, told = self.ran(trace("torn", *BUSY, "torn too"), "--lenient")
-        self.assertEqual((status, out), (0, BUSY_TOLD + "\n"))
+        self.assertEqual((status, out), (0, BUSY_TEXT + "\n"))
         self.assertEqual(told, "why: TRACE: 2 lines can't be read and are left out: the first is 1\n")
 
     def test_closed_pipe(self):
@@ -127,10 +126,9 @@ class Places(Command):
             stderr=subprocess.PIPE,
             check=False,
         )
-        self.assertEqual((ran.returncode, ran.stdout.decode(), ran.stderr), (141, BUSY_TOLD.split("\n")[0] + "\n", b""))
+        self.assertEqual((ran.returncode, ran.stdout.decode(), ran.stderr), (141, BUSY_TEXT.split("\n")[0] + "\n", b""))
 
 
-@with_numpy
 class Chosen(Command):
     """Which waits are told where no place is named; their lengths are those that recordings.py writes down."""
 
@@ -175,18 +173,36 @@ class Chosen(Command):
         status, out, told = self.ran(text, "--worst", "9")
         self.assertEqual((status, [head.partition(" ")[0] for head in heads_of(out)]), (0, ["true-46", "edge-45"]))
         self.assertEqual(
-            told.split("\n")[1:], ["why: TRACE: 3 waits may be false and are left out; --doubtful tells them too", ""]
+            told.split("\n")[1:], ["why: TRACE: 3 waits may be false and are left out; --doubtful explains them too", ""]
         )
         status, out, told = self.ran(text, "--doubtful")
         self.assertEqual((status, told.count("\n"), out.split(" ")[0]), (0, 1, "thrown-44"))
-        self.assertEqual(out.split("\n")[1][:47], "Doubtful: CPU 2 lost events between the beginni")
+        self.assertIn("Doubtful: CPU 2 lost events between the beginning and 2.250000", out.replace("\n  ", " "))
 
 
-class WithoutNumpy(Command):
-    def test_one_line(self):
-        if _layout.numpy() is not None:
-            self.skipTest("numpy is there")
-        for words in ([], ["2:4"]):
-            status, out, told = self.ran(trace(*BUSY), *words)
-            self.assertEqual((status, out, told.count("\n")), (2, "", 1))
-            self.assertIn("apt-get install python3-numpy", told)
+class Unreadable(Command):
+    """What is said of a trace that can't be read."""
+
+    def hint(self, text):
+        """What follows the first sign in the message about a trace."""
+        status, out, message = self.ran(text)
+        self.assertEqual((status, out), (2, ""))
+        return message.split("\n")[0].partition("; ")[2]
+
+    def test_line(self):
+        self.assertEqual(self.hint(trace(*BUSY[:3], "torn", *BUSY[3:])), "--lenient leaves such lines out")
+
+    def test_carriage_returns(self):
+        text = trace(*BUSY).replace(b"\n", b"\r\n")
+        hint = "its lines end with carriage returns (CR LF); {} >my.trace removes them"
+        self.assertEqual(self.hint(text), hint.format("tr -d '\\r' <TRACE"))
+        self.assertEqual(self.hint(gzip.compress(text)), hint.format("zcat TRACE | tr -d '\\r'"))
+
+    def test_no_trace(self):
+        chance = random.Random(1)
+        for content in (chance.randbytes(5000), chance.randbytes(100000).replace(b"\n", b""), b"a\nb\n"):
+            self.assertEqual(self.hint(content), "it is no trace: none of its first lines is an event")
+        self.assertEqual(
+            self.hint(b"# tracer: wakeup\n# latency: 5 us\nbash-1 0d..1    1us : y\n"),
+            "it has the header of a trace, but no line that can be read as an event: it may have another layout or clock",
+        )

@@ -1,5 +1,5 @@
-"""Tests of waits that are told from slices of a recording; python_why.py runs them. What is told of a wait hangs on what ran
-before it began, which may be long ago: each answer is held beside that over the whole recording, or is known by hand."""
+"""Holds what is reported about waits from slices of a recording. That depends on what ran before the wait began, which may be
+long ago: each answer is compared with that over the whole recording, or is known by hand."""
 
 import os
 import random
@@ -11,8 +11,7 @@ import warnings
 from unittest import mock
 
 import histdesk
-from histdesk import Share, Stretch, _around, _pieces, _teller
-from python_answers import with_numpy
+from histdesk import Share, Stretch, _surroundings, _text, _explainer
 from why_traces import line, switch, trace, waking
 
 TOOL = os.path.join(os.path.dirname(os.path.realpath(__file__)), "..", "..", "tools", "why")
@@ -47,15 +46,15 @@ def noise(seed, count=120):
 def answer(teller, cpu, at):
     """What is told of a place, or why nothing is."""
     try:
-        return teller.tell_at(cpu, at)
+        return teller.explain_at(cpu, at)
     except LookupError as error:
         return error.args[0]
 
 
 def cut(**sizes):
     """Cuts recordings into small slices: so many bytes between checkpoints, events before a wait, and so on."""
-    patches = [mock.patch.object(_pieces, "PIECE", sizes.pop("PIECE"))]
-    return [*patches, *(mock.patch.object(_around, name, size) for name, size in sizes.items())]
+    patches = [mock.patch.object(_text, "PIECE", sizes.pop("PIECE"))]
+    return [*patches, *(mock.patch.object(_surroundings, name, size) for name, size in sizes.items())]
 
 
 class Cut(unittest.TestCase):
@@ -66,18 +65,17 @@ class Cut(unittest.TestCase):
         for patch in cut(**{"PIECE": 200, "LEAD": 1, "WIDTH": 1, "GROWTH": 2, "PART": 4, **sizes}):
             patch.start()
             self.addCleanup(patch.stop)
-        teller = _teller.teller_of(text)
-        self.assertIsInstance(teller, _teller.SourceTeller)
+        teller = _explainer.explainer_of(text)
+        self.assertIsInstance(teller, _explainer.SourceExplainer)
         return teller
 
     def whole(self, text):
         """What tells of the waits of a text that a desk holds."""
         with warnings.catch_warnings():
             warnings.simplefilter("ignore", histdesk.LossWarning)
-            return _teller.part_teller(histdesk.read(text))
+            return _explainer.part_explainer(histdesk.read(text))
 
 
-@with_numpy
 class Slices(Cut):
     def test_by_chance(self):
         waits = places = 0
@@ -89,8 +87,8 @@ class Slices(Cut):
                 "PART": chance.choice([4, 30]),
             }
             slices, whole = self.slices(text, **sizes), self.whole(text)
-            told = list(slices.tell_each(slices.waits))
-            self.assertEqual(told, list(whole.tell_each(whole.waits)), seed)
+            told = list(slices.explain_each(slices.waits))
+            self.assertEqual(told, list(whole.explain_each(whole.waits)), seed)
             waits += len(told)
             for _ in range(12):
                 place = chance.choice([0, 0, 1, 2, 3, 4, 5]), chance.randrange(45)
@@ -111,7 +109,7 @@ class Slices(Cut):
             *(waking("x-5", 0, 1002100 + 10 * at, "z", 9, 0) for at in range(100)),
             waking("c-12", 3, 1004000, "z", 9, 0),
         )
-        why = self.slices(text).tell_at(1, 2)
+        why = self.slices(text).explain_at(1, 2)
         self.assertEqual(why.stretches, (Stretch(1, 1002000, 1002050, "b", 11, 7, "R", 2),))
         self.assertEqual(why.elsewhere, (Stretch(3, 1002000, 1002050, "c", 12, None),))
 
@@ -123,7 +121,7 @@ class Slices(Cut):
             *(waking("<idle>-0", 1, 1000100 + 10 * at, "z", 9, 0) for at in range(100)),
             switch(0, 1002000, "bash-7", "S", "swapper/0-0", task="<...>-7"),
         )
-        self.assertEqual(self.slices(text).tell_at(1, 1).waker, ("bash", 7, None))
+        self.assertEqual(self.slices(text).explain_at(1, 1).waker, ("bash", 7, None))
 
     def test_name_that_was_told_before(self):
         """The next switch of its CPU tells of another task, so that one is missing; the last one has it."""
@@ -134,7 +132,7 @@ class Slices(Cut):
             switch(1, 1002010, "swapper/1-0", "R", "w-42", task="<idle>-0"),
             switch(0, 1002020, "other-8", "S", "swapper/0-0"),
         )
-        self.assertEqual(self.slices(text).tell_at(1, 101).waker, ("bash", 7, None))
+        self.assertEqual(self.slices(text).explain_at(1, 101).waker, ("bash", 7, None))
 
     def test_no_event_is_left_out_that_has_the_stamp_of_the_first(self):
         """Three switches of one microsecond: the last one of CPU 1 tells what ran there when the wait began."""
@@ -146,7 +144,7 @@ class Slices(Cut):
             switch(1, 1000150, "b-11", "S", "w-42"),
         )
         for lead in (1, 2, 3):
-            self.assertEqual(self.slices(text, LEAD=lead).tell_at(1, 2).shares, [Share("b", 11, 120, 50, 1)])
+            self.assertEqual(self.slices(text, LEAD=lead).explain_at(1, 2).shares, [Share("b", 11, 120, 50, 1)])
 
     def test_still_waits(self):
         """A task that doesn't run any more waits to the end, from its preemption on; one that is waking it then is none."""
@@ -158,12 +156,11 @@ class Slices(Cut):
             *(waking("<idle>-0", 0, 1002100 + 10 * at, "z", 9, 0) for at in range(50)),
         )
         for place in ((1, 2), (2, 1)):
-            why = self.slices(text).tell_at(*place)
+            why = self.slices(text).explain_at(*place)
             self.assertEqual((why.kind, why.begin[:3], why.end, why.until), ("preempted", (1000010, 1, 2), None, 1002590))
             self.assertEqual(why.stretches, (Stretch(1, 1000010, 1002590, "a", 10, 120),))
 
 
-@with_numpy
 class Long(Cut):
     """Waits of more events than a desk holds."""
 
@@ -183,14 +180,14 @@ class Long(Cut):
 
     def test_events_that_matter(self):
         """It is told as from the whole: what ran, and which tasks became runnable later."""
-        whole = self.whole(self.text()).tell_at(1, 12)
+        whole = self.whole(self.text()).explain_at(1, 12)
         self.assertEqual((whole.micros, len(whole.stretches), whole.shares[0].task), (2990, 11, "a"))
         for limit in (20, 40, 100):
-            with mock.patch.object(_around, "LIMIT", limit):
+            with mock.patch.object(_surroundings, "LIMIT", limit):
                 slices = self.slices(self.text())
-                scene = slices.scene(next(map(_teller.wait_of, slices.waits[slices.waits.array.pid == 42].array)))
+                scene = slices.scene(next(map(_explainer.wait_of, slices.waits[slices.waits.array.pid == 42].array)))
                 self.assertLess(len(scene.events), 60)
-                self.assertEqual(slices.tell_at(1, 12), whole)
+                self.assertEqual(slices.explain_at(1, 12), whole)
 
     def test_by_chance(self):
         """Of any wait it is told the same as from the whole, except for what ran on CPUs of which that isn't told."""
@@ -198,13 +195,13 @@ class Long(Cut):
         for seed in range(6):
             text = noise(seed, 200)
             whole = self.whole(text)
-            with mock.patch.object(_around, "LIMIT", 3 + 5 * (seed % 3)):
+            with mock.patch.object(_surroundings, "LIMIT", 3 + 5 * (seed % 3)):
                 slices = self.slices(text, PIECE=300)
-                for why, same in zip(slices.tell_each(slices.waits), whole.tell_each(whole.waits)):
-                    if why.untold:
+                for why, same in zip(slices.explain_each(slices.waits), whole.explain_each(whole.waits)):
+                    if why.unknown_cpus:
                         untold += 1
                         # Of names that the kernel hasn't kept, the switches of those CPUs may have told.
-                        names = "waker", "stretches", "elsewhere", "untold"
+                        names = "waker", "stretches", "elsewhere", "unknown_cpus"
                         why, same = (one._replace(**dict.fromkeys(names)) for one in (why, same))
                     self.assertEqual(why, same, seed)
                     waits += 1
@@ -212,15 +209,14 @@ class Long(Cut):
 
     def test_too_many(self):
         """If its CPUs alone have more events than a desk holds, what ran there isn't told, and that is said."""
-        with mock.patch.object(_around, "LIMIT", 5):
-            why = self.slices(self.text()).tell_at(1, 12)
+        with mock.patch.object(_surroundings, "LIMIT", 5):
+            why = self.slices(self.text()).explain_at(1, 12)
         self.assertEqual((why.micros, why.queued[:3], why.waker.task), (2990, (1000012, 2, 2), "x"))
-        self.assertEqual((why.untold, why.stretches), ((1,), (Stretch(1, 1000010, 1003000, None, None, None),)))
+        self.assertEqual((why.unknown_cpus, why.stretches), ((1,), (Stretch(1, 1000010, 1003000, None, None, None),)))
         told = "What ran on CPU 1 for 2990 us (100 %) isn't known: the wait has more events of it than a desk holds."
-        self.assertIn(told, str(why).split("\n"))
+        self.assertIn(told, why.text(width=200).split("\n"))
 
 
-@with_numpy
 class MoreThanADesk(unittest.TestCase):
     """A recording of 1.1 million events: the greatest wait lasts from its first second to its last one, and the next one lies
     past the first million."""
@@ -252,18 +248,20 @@ class MoreThanADesk(unittest.TestCase):
     def test_worst(self):
         long, near = self.told("--worst", "2")
         self.assertEqual(
-            long[:4],
+            long[:5],
             [
-                "w-42 (prio 120) waited 11959800 us for CPU 3, from 0.000200 to 11.960000, after it was woken.",
+                "w-42 (prio 120) waited 11959800 us for CPU 3, from 0.000200 to 11.960000, after",
+                "  it was woken.",
                 "c-3 ran on CPU 3 all the while, and then slept (S).",
                 "",
                 "  0.000200  2:1  an interrupt on CPU 2, where x-5 ran, woke it",
             ],
         )
         self.assertEqual(
-            near[:5],
+            near[:6],
             [
-                "v-41 (prio 120) waited 400 us for CPU 1, from 11.950000 to 11.950400, after it was woken.",
+                "v-41 (prio 120) waited 400 us for CPU 1, from 11.950000 to 11.950400, after it",
+                "  was woken.",
                 "a-1 ran on CPU 1 all the while, and then slept (S).",
                 "",
                 "  11.950000  2:3       a softirq on CPU 2, where x-5 ran, woke it",

@@ -39,8 +39,9 @@ BUSY = (
 )
 
 
-BUSY_TOLD = """\
-w-42 (prio 120) waited 400 us for CPU 2, from 1.000100 to 1.000500, after it was woken.
+BUSY_TEXT = """\
+w-42 (prio 120) waited 400 us for CPU 2, from 1.000100 to 1.000500, after it was
+  woken.
 3 tasks ran on CPU 2 meanwhile, in 3 stretches; c-12 the longest, 200 us (50 %).
 Tasks that became runnable later than it had 200 us (50 %) of that time.
 Tasks of real time (prio below 100) had 100 us (25 %) of it.
@@ -50,13 +51,13 @@ Tasks of real time (prio below 100) had 100 us (25 %) of it.
   1.000500  2:4  it ran on CPU 2, after c-12, which exited (X)
 
 CPU 2, where it ran:
-  task  prio   us   %  runs  1.000100                                              1.000500
-  c-12   120  200  50     1  |                              ##############################|
-  a-10   120  100  25     1  |###############                                             |
-  b-11    98  100  25     1  |               ###############                              |
+  task  prio   us   %  runs  1.000100                                   1.000500
+  c-12   120  200  50     1  |                        #########################|
+  a-10   120  100  25     1  |############-                                    |
+  b-11    98  100  25     1  |            #############                        |
 
 What ran on CPU 2, in order:
-  from       us  task  prio  then                became runnable  switch
-  1.000100  100  a-10   120  was preempted (R+)                   2:2
-  1.000200  100  b-11    98  slept (S)           before it        2:3
-  1.000300  200  c-12   120  exited (X)          160 us after it  2:4"""
+  from       us  task  prio  then            runnable   switch
+  1.000100  100  a-10   120  preempted (R+)             2:2
+  1.000200  100  b-11    98  slept (S)       before it  2:3
+  1.000300  200  c-12   120  exited (X)      +160 us    2:4"""

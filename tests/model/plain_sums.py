@@ -24,6 +24,8 @@ class Cpu(NamedTuple):
 
     idle: int
     idle_with_waiters: int
+    longest: int
+    longest_from: int
     cpu: int
 
 
@@ -77,6 +79,15 @@ def ended_as(state: str) -> str:
     return figures.get(state[:1], "")
 
 
+def longest_of(idle: List[Tuple[Run, int]]) -> Tuple[int, int]:
+    """The most time with waiters that one idle run has, and when the first such run began; zeros if none has any."""
+    found = (0, 0)
+    for run, waited in reversed(idle):
+        if waited and waited >= found[0]:
+            found = (waited, run.begin)
+    return found
+
+
 def sums_of(text: bytes, without: Callable[[str], bool] = lambda line: False) -> Tuple[List[Task], List[Cpu]]:
     """What a trace sums up to by task and by CPU; lines that are left out wake, create and switch nothing."""
     events = sorted(events_of(text, without))
@@ -96,6 +107,7 @@ def sums_of(text: bytes, without: Callable[[str], bool] = lambda line: False) ->
     tasks = [Task(*(figures[pid][field] for field in Task._fields[:-1]), pid) for pid in sorted(figures)]
     cpus = []
     for cpu in sorted({event.place.cpu for event in switches}):
-        own = [(run.end - run.begin, waited) for run, waited in idle if run.cpu == cpu]
-        cpus.append(Cpu(sum(micros for micros, _ in own), sum(waited for _, waited in own), cpu))
+        own = [(run, waited) for run, waited in idle if run.cpu == cpu]
+        sums = sum(run.end - run.begin for run, _ in own), sum(waited for _, waited in own)
+        cpus.append(Cpu(*sums, *longest_of(own), cpu))
     return tasks, cpus

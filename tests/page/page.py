@@ -2,232 +2,27 @@
 """Holds the page of tools/view in a real browser: what it shows beside what the Python package and the program say of the same
 traces, what each key and click does, at two sizes, light and dark, and as a saved file.
 
-    page.py [PROGRAM] [TEST]...
+    [HISTDESK=PROGRAM] page.py [TEST]...
 
-PROGRAM, histdesk, runs the scripts that the page shows. It needs chromium, chromedriver and selenium, and numpy; where one is
-missing a line says that nothing was tried. The last line says how many tests hold.
+PROGRAM is histdesk, and runs the scripts that the page shows. All is skipped if chromium, chromedriver or selenium is missing.
 """
 
 import collections
 import os
+import pathlib
 import re
-import shutil
 import subprocess
 import sys
 import tempfile
-import time
 import unittest
-import warnings
 
-# Nothing is written beside the sources.
-sys.dont_write_bytecode = True
-
-TESTS = os.path.dirname(os.path.dirname(os.path.realpath(__file__)))
-ROOT = os.path.dirname(TESTS)
-PAGES = os.path.join(ROOT, "python", "histdesk", "page")
-VIEW = os.path.join(ROOT, "tools", "view")
-sys.path[:0] = [os.path.join(ROOT, "python"), os.path.join(TESTS, "library"), os.path.join(TESTS, "model")]
+from browser import OTHER, PAGES, TRACE, VIEW, Page, Server, bounds, figures_of, quietly, shown
 
 import histdesk
 import python_runner
 import recordings
 
-TRACE, OTHER = (os.path.join(ROOT, "examples", name) for name in ("recipes.trace", "recipes-before.trace"))
-FIGURES = ("count", "mean", "p50", "p90", "p99", "p99.9", "max", "doubtful")
-SIZES = ((1280, 720), (3840, 2160))
-# The program comes before the names of tests.
-PROGRAM = None
-if __name__ == "__main__" and len(sys.argv) > 1 and os.path.sep in sys.argv[1]:
-    PROGRAM = sys.argv.pop(1)
-# So long a page may take to answer, in seconds, on a machine that has other work.
-PATIENCE = 30
-# A page has at most so many lines of JavaScript.
-LINES = 1200
-
-
-def missing():
-    """What isn't there and is needed; None where all is."""
-    for module in ("numpy", "selenium"):
-        try:
-            __import__(module)
-        except ImportError:
-            return module
-    return next((name for name in ("chromium", "chromedriver") if not shutil.which(name)), None)
-
-
-class Server:
-    """tools/view, and the address that it prints."""
-
-    def __init__(self, *words):
-        command = [sys.executable, VIEW, "--no-browser", *words]
-        self.process = subprocess.Popen(command, stdout=subprocess.PIPE, stderr=subprocess.DEVNULL, text=True)
-        self.address = self.process.stdout.readline().split()[0]
-
-    def end(self):
-        self.process.terminate()
-        self.process.wait()
-        self.process.stdout.close()
-
-
-def browser():
-    """A browser without a window."""
-    from selenium import webdriver
-    from selenium.webdriver.chrome.service import Service
-
-    options = webdriver.ChromeOptions()
-    options.binary_location = shutil.which("chromium")
-    for word in ("--headless=new", "--no-sandbox", "--disable-gpu", "--disable-dev-shm-usage"):
-        options.add_argument(word)
-    options.set_capability("goog:loggingPrefs", {"browser": "ALL"})
-    return webdriver.Chrome(options=options, service=Service(shutil.which("chromedriver")))
-
-
-def quietly(call, *words, **named):
-    """Calls without warnings of losses."""
-    with warnings.catch_warnings():
-        warnings.simplefilter("ignore", histdesk.LossWarning)
-        return call(*words, **named)
-
-
-def shown(value):
-    """A figure as the page shows it."""
-    return "-" if value is None else f"{value:,.1f}" if isinstance(value, float) else f"{value:,}"
-
-
-def figures_of(waits, doubtful=False):
-    """The figures of waits, as the page shows them."""
-    counts = waits.counts("kind", doubtful)
-    row = counts.whole()
-    # A page shows the mean of numbers as JavaScript rounds it.
-    told = [row.count, row.mean, row.p50, row.p90, row.p99, counts.percentile("99.9") if row.count else None, row.max]
-    return [*map(shown, told), shown(waits.doubtful)]
-
-
-class Page(unittest.TestCase):
-    """A page in the browser, with what tests do there."""
-
-    words = (TRACE,)
-
-    @classmethod
-    def setUpClass(cls):
-        cls.driver = Page.shared = getattr(Page, "shared", None) or browser()
-        cls.server = Server(*cls.words)
-        cls.waits = quietly(histdesk.waits, cls.words[0])
-
-    @classmethod
-    def tearDownClass(cls):
-        cls.server.end()
-
-    def setUp(self):
-        self.resize(*SIZES[0])
-        self.open(self.server.address)
-
-    def open(self, address):
-        self.driver.get(address)
-        self.until(
-            lambda: self.js(
-                "return document.body.classList.contains('ready') && document.getElementById('figures').tBodies[0].rows.length"
-            )
-        )
-
-    def resize(self, width, height):
-        words = {"width": width, "height": height, "deviceScaleFactor": 1, "mobile": False}
-        self.driver.execute_cdp_cmd("Emulation.setDeviceMetricsOverride", words)
-
-    def js(self, script, *words):
-        return self.driver.execute_script(script, *words)
-
-    def until(self, holds):
-        """Waits until something holds, and gives what it gave."""
-        end = time.monotonic() + PATIENCE
-        while True:
-            found = holds()
-            if found or time.monotonic() > end:
-                self.assertTrue(found)
-                return found
-            time.sleep(0.02)
-
-    def until_equal(self, wanted, ask):
-        """Waits until an answer is the one that is wanted."""
-        end = time.monotonic() + PATIENCE
-        while (found := ask()) != wanted and time.monotonic() < end:
-            time.sleep(0.02)
-        self.assertEqual(found, wanted)
-
-    def find(self, chosen):
-        from selenium.webdriver.common.by import By
-
-        return self.driver.find_element(By.CSS_SELECTOR, chosen)
-
-    def click(self, chosen):
-        """Clicks something that may be drawn anew meanwhile."""
-        from selenium.common.exceptions import StaleElementReferenceException
-
-        def clicked():
-            try:
-                self.find(chosen).click()
-                return True
-            except StaleElementReferenceException:
-                return False
-
-        self.until(clicked)
-
-    def press(self, *keys):
-        from selenium.webdriver.common.action_chains import ActionChains
-
-        ActionChains(self.driver).send_keys(*keys).perform()
-
-    def text(self, chosen):
-        return self.js("return document.querySelector(arguments[0]).textContent", chosen)
-
-    def rows(self, chosen):
-        """The cells of a table's body, as texts."""
-        script = "return [...document.querySelector(arguments[0]).tBodies[0].rows].map((row) => [...row.cells].map((cell) => cell.textContent))"
-        return self.js(script, chosen)
-
-    def figures(self):
-        """The figures of each side."""
-        return [row[1:] for row in self.rows("#figures")]
-
-    def bars(self):
-        """What is said of each bar: its bounds, and how many waits it has."""
-        labels = self.js(
-            "return [...document.querySelectorAll('#bars [role=option]')].map((bar) => bar.getAttribute('aria-label'))"
-        )
-        return [label.split(": ", 1) for label in labels]
-
-    def click_at(self, element, x, y):
-        """Clicks so far right of an element's left edge, and below its top."""
-        from selenium.webdriver.common.action_chains import ActionChains
-
-        size = element.rect
-        across, down = round(x - size["width"] / 2), round(y - size["height"] / 2)
-        ActionChains(self.driver).move_to_element_with_offset(element, across, down).click().perform()
-
-    def click_bar(self, bar):
-        room = self.find(f"#bar-{bar} .room")
-        self.click_at(room, room.rect["width"] / 2, 4)
-
-    def typed(self, chosen, text):
-        box = self.find(chosen)
-        box.clear()
-        box.send_keys(text)
-
-    def choose(self, chosen, value):
-        self.js(
-            "const box = document.querySelector(arguments[0]); box.value = arguments[1]; box.dispatchEvent(new Event('change'))",
-            chosen,
-            value,
-        )
-
-    def listed(self):
-        """The rows of the list that are in sight."""
-        return self.js(
-            "return [...document.querySelectorAll('.tall .row')].map((row) => [...row.children].map((cell) => cell.textContent))"
-        )
-
-    def count_listed(self):
-        return int(self.js("return document.getElementById('worst-rows').getAttribute('aria-rowcount')"))
+PROGRAM = os.environ.get("HISTDESK")
 
 
 class Shown(Page):
@@ -243,7 +38,7 @@ class Shown(Page):
     def test_stacks_add_up(self):
         for by in ("task", "cpu", "prio", "kind"):
             self.choose("#by", by)
-            counts = self.js("return [...state.told[0].stacks]")
+            counts = self.js("return [...state.summaries[0].stacks]")
             self.assertEqual(sum(counts), len(self.waits))
             column = {
                 "task": self.waits.names,
@@ -253,7 +48,7 @@ class Shown(Page):
             }[by]
             most = collections.Counter(map(str, column.tolist())).most_common(1)[0][1]
             first = self.js(
-                "const {groups, told} = state; return told[0].stacks.filter((_, at) => at % groups.count === 0).reduce((a, b) => a + b, 0)"
+                "const {groups, summaries} = state; return summaries[0].stacks.filter((_, at) => at % groups.count === 0).reduce((a, b) => a + b, 0)"
             )
             self.assertEqual(first, most)
 
@@ -276,10 +71,6 @@ class Shown(Page):
         self.until_equal([figures_of(chosen)], self.figures)
         self.assertEqual(self.text("#count"), f"{len(chosen)} of {len(self.waits)} waits")
         self.assertEqual(self.count_listed(), len(chosen))
-        from selenium.webdriver.common.keys import Keys
-
-        self.find("#filter").send_keys(Keys.ESCAPE)
-        self.until_equal([figures_of(self.waits)], self.figures)
 
     def test_a_filter_of_wakings_chooses_what_begins_there(self):
         self.choose("#event", "sched_waking")
@@ -292,16 +83,55 @@ class Shown(Page):
         with histdesk.Desk() as desk, self.assertRaises(histdesk.Refused) as refused:
             desk.matching("sched_switch", text)
         self.typed("#filter", text)
-        self.until_equal(f"{' ' * 9}^ {refused.exception}", lambda: self.text("#filter-told"))
+        # What explain says follows.
+        self.until_equal(f"{' ' * 9}^ {refused.exception}: an operator is expected here", lambda: self.text("#filter-message"))
         self.assertEqual(self.find("#filter").get_attribute("aria-invalid"), "true")
         # What was there stays.
         self.assertEqual(self.figures(), [figures_of(self.waits)])
         self.typed("#trigger", "hist:keys=next_comm:bla")
         with histdesk.Desk() as desk, self.assertRaises(histdesk.Refused) as refused:
             desk.attach("sched_switch", "hist:keys=next_comm:bla")
-        self.until_equal(f"{' ' * 20}^ {refused.exception}", lambda: self.text("#trigger-told"))
+        self.until(lambda: self.text("#trigger-message").startswith(f"{' ' * 20}^ {refused.exception}"))
         self.typed("#filter", "next_pid == 24650")
-        self.until_equal("", lambda: self.text("#filter-told"))
+        self.until_equal("", lambda: self.text("#filter-message"))
+
+    def test_what_was_meant_is_said(self):
+        for text, wanted in (
+            ("next_pid = 7", "= is not an operator; did you mean ==?"),
+            ("next_pid == 7 and next_prio < 5", "did you mean &&?"),
+            ("next_pit == 7", "did you mean next_pid?"),
+        ):
+            self.typed("#filter", text)
+            self.until(lambda: self.text("#filter-message").rstrip("^ ").endswith(wanted))
+        self.typed("#strike-text", "pid = 7")
+        self.find("#strike-any button").click()
+        self.until(lambda: "did you mean ==?" in self.text("#strike-text-message"))
+
+    def test_fields_are_suggested(self):
+        from selenium.webdriver.common.keys import Keys
+
+        fields = lambda: self.js(
+            "return [...document.querySelectorAll('.fields:not([hidden]) li')].map((one) => one.textContent)"
+        )
+        self.press("/", "next_p")
+        self.until_equal(["next_pid", "next_prio"], fields)
+        self.press(Keys.ARROW_DOWN, Keys.ARROW_DOWN, Keys.ENTER, " < 121 && ")
+        self.assertEqual(self.find("#filter").get_attribute("value"), "next_prio < 121 && ")
+        self.assertEqual(fields(), [])
+        self.press(Keys.ARROW_DOWN)
+        self.assertEqual(fields(), histdesk._schema.field_names("sched_switch"))
+        self.press(Keys.ESCAPE)
+        self.assertEqual((fields(), self.js("return document.activeElement.id")), ([], "filter"))
+        # No field stands in a text, or as a value.
+        self.press('next_comm == "next')
+        self.assertEqual(fields(), [])
+        self.press('" || !prev_s')
+        self.until_equal(["prev_state"], fields)
+        self.js("document.querySelector('.fields:not([hidden]) li').click()")
+        self.assertTrue(self.find("#filter").get_attribute("value").endswith("|| !prev_state"))
+        self.choose("#event", "sched_waking")
+        self.typed("#filter", "targ")
+        self.until_equal(["target_cpu"], fields)
 
     def test_a_bar_leads_to_its_waits_and_a_wait_to_what_ran(self):
         bars = self.bars()
@@ -312,26 +142,27 @@ class Shown(Page):
         self.until_equal([str(one) for one in wanted], lambda: [row[0] for row in self.listed()])
         self.click("#worst-1")
         wait = self.waits.array[micros == wanted[1]][0]
-        told = histdesk.why(TRACE, int(wait.end_cpu), int(wait.end_line)).text()
+        why = histdesk.why(TRACE, int(wait.end_cpu), int(wait.end_line))
         words = lambda text: re.sub(r"\s+", " ", text).strip()
-        self.until_equal(
-            words(told),
-            lambda: words(
-                self.js("return [...document.querySelector('#wait-text').children].map((one) => one.textContent).join(' ')")
-            ),
-        )
+        texts = "return [...document.querySelectorAll('#wait-text > :is(p, pre)')].map((one) => one.textContent).join(' ')"
+        self.until_equal(words(" ".join(why.text().split("\n\n")[:2])), lambda: words(self.js(texts)))
+        shares = [
+            [f"{one.task} {one.pid}" if one.pid else "idle", shown(one.prio), shown(one.micros), shown(one.runs)]
+            for one in why.shares
+        ]
+        self.assertEqual([row[:3] + row[4:] for row in self.rows("#wait-text table")], shares)
         self.assertFalse(self.find("#wait-empty").is_displayed())
-        self.assertIn(f"waited {wanted[1]} µs", self.until(lambda: self.text("#view-told")))
+        self.assertIn(f"waited {wanted[1]} µs", self.until(lambda: self.text("#view-title")))
         # It is seen over time, too.
         self.find("#tab-time").click()
-        self.until(lambda: "waits from" in self.text("#view-told"))
+        self.until(lambda: "waits from" in self.text("#view-title"))
 
     def test_rows_are_sorted(self):
         for column, at in (("name", 1), ("end", 6), ("endCpu", 3), ("micros", 0)):
             self.find(f"[data-sort={column}] button").click()
             order = self.until(lambda: self.js("return document.querySelector(arguments[0]).ariaSort", f"[data-sort={column}]"))
             told = self.js(
-                "return Array.from(worst.numbers, (wait) => { const side = state.sides[0]; return arguments[0] === 'end' ? ended(side, wait) : arguments[0] === 'name' ? side.task(wait) : side.value(arguments[0], wait); })",
+                "return Array.from(worst.numbers, (wait) => { const side = state.sides[0]; return arguments[0] === 'end' ? side.end(wait) : arguments[0] === 'name' ? side.task(wait) : side.value(arguments[0], wait); })",
                 column,
             )
             self.assertEqual(told, sorted(told, reverse=order == "descending"))
@@ -339,14 +170,14 @@ class Shown(Page):
 
     def test_a_point_is_a_wait(self):
         x, y = self.js(
-            "const at = worst.numbers[0], side = state.sides[0]; return [overTime.view.x(ended(side, at)), overTime.y(side.value('micros', at))]"
+            "const at = worst.numbers[0], side = state.sides[0]; return [overTime.axis.x(side.end(at)), overTime.y(side.value('micros', at))]"
         )
         self.click_at(self.find("#time-points"), x, y)
-        self.until(lambda: f"waited {self.waits.array.micros.max()} µs" in self.text("#view-told"))
+        self.until(lambda: f"waited {self.waits.array.micros.max()} µs" in self.text("#view-title"))
 
     def test_zoom_and_move(self):
         canvas = self.find("#time-points")
-        span = lambda: self.js("return [overTime.view.low, overTime.view.high]")
+        span = lambda: self.js("return [overTime.axis.low, overTime.axis.high]")
         low, high = span()
         canvas.send_keys("+")
         nearer = span()
@@ -366,79 +197,9 @@ class Shown(Page):
             self.find("#lanes").send_keys("-")
         self.until(
             lambda: self.js(
-                "return lanes.scene.from < arguments[0] && lanes.scene.from <= lanes.scene.begin + lanes.view.low", before
+                "return lanes.scene.from < arguments[0] && lanes.scene.from <= lanes.scene.begin + lanes.axis.low", before
             )
         )
-
-    def test_all_keys_do_something(self):
-        from selenium.webdriver.common.keys import Keys
-
-        documented = self.js("return [...document.querySelectorAll('#help-keys kbd')].map((key) => key.textContent)")[:-1]
-        self.assertEqual({"Esc": "Escape"}.get(documented[0], documented[0]), "/")
-        self.assertEqual({"Escape" if key == "Esc" else key for key in documented}, set(self.js("return Object.keys(KEYS)")))
-        focus = lambda: self.js("return document.activeElement.id")
-        # A title is a button, which Enter presses.
-        self.find("[data-sort=pid] button").send_keys(Keys.ENTER)
-        self.assertEqual(self.js("return worst.key"), "pid")
-        self.find("[data-sort=micros] button").send_keys(Keys.ENTER)
-        for key, wanted in (
-            ("/", "filter"),
-            ("t", "trigger"),
-            ("h", "bars"),
-            ("w", "worst-rows"),
-            ("o", "time-points"),
-            ("r", "tab-table"),
-        ):
-            self.press(Keys.ESCAPE)
-            self.press(key)
-            self.assertEqual(focus(), wanted, key)
-        self.press("h", Keys.ARROW_RIGHT, Keys.ARROW_RIGHT)
-        self.assertEqual(self.js("return state.bar"), 1)
-        self.press(Keys.ENTER, Keys.ARROW_DOWN, Keys.ENTER)
-        self.until(lambda: self.js("return lanes.scene !== null"))
-        self.assertEqual(self.js("return worst.at"), 1)
-        self.press("?")
-        self.assertTrue(self.find("#help").is_displayed())
-        self.press(Keys.ESCAPE)
-        self.assertFalse(self.find("#help").is_displayed())
-        self.press(Keys.ESCAPE)
-        self.assertEqual(self.js("return state.bar"), None)
-
-    def test_who_uses_keys_stays_where_they_are(self):
-        from selenium.webdriver.common.keys import Keys
-
-        focused = lambda: self.js("return document.activeElement.textContent.trim() || document.activeElement.id")
-        name = self.js(
-            "const [, button] = document.querySelectorAll('#legend button'); button.focus(); return button.textContent"
-        )
-        self.press(Keys.ENTER)
-        self.until(lambda: self.js("return state.group === 1"))
-        self.until(lambda: self.js("return document.querySelectorAll('#bars .dim').length"))
-        self.assertEqual(focused(), name)
-        # The button that takes this back goes away by it; the list stays.
-        self.js("document.getElementById('all-bars').focus()")
-        self.press(Keys.ENTER)
-        self.until(lambda: self.js("return state.group === null"))
-        self.assertEqual(self.js("return document.activeElement.id"), "worst-rows")
-        self.js("document.querySelector('#ticks input').click()")
-        self.until(lambda: self.find("#undo").is_enabled())
-        self.js("document.getElementById('undo').focus()")
-        self.press(Keys.ENTER)
-        self.until(lambda: not self.find("#undo").is_enabled())
-        self.assertEqual(self.js("return document.activeElement.id"), "tab-strike")
-
-    def test_all_that_is_used_has_a_name(self):
-        nameless = self.js(
-            """return [...document.querySelectorAll("button, input, select, canvas, [role], [tabindex='0']")].filter((one) =>
-            !(one.textContent.trim() || one.getAttribute("aria-label") || one.getAttribute("aria-labelledby") || one.labels?.length)
-            && !["row", "tooltip", "status", "gridcell"].includes(one.getAttribute("role")) && one.getClientRects().length).map((one) => one.outerHTML.slice(0, 80))"""
-        )
-        self.assertEqual(nameless, [])
-
-
-def bounds(power):
-    """The bounds of a power of two, as the page tells them."""
-    return f"above {power.low - 1:,} to {power.high:,} µs" if power.low > 1 else f"up to {power.high:,} µs"
 
 
 class Triggers(Page):
@@ -457,7 +218,7 @@ class Triggers(Page):
             rows, totals = [[str(cell) for cell in row] for row in trigger.rows()], trigger.totals()
         self.until_equal(rows, lambda: self.rows("#table-rows"))
         self.assertEqual(
-            self.text("#table-told"), f"{totals.entries:,} rows of {totals.hits:,} hits, {totals.dropped:,} dropped"
+            self.text("#table-summary"), f"{totals.entries:,} rows of {totals.hits:,} hits, {totals.dropped:,} dropped"
         )
         self.find("#tab-script").click()
         self.until(lambda: "next_prio < 121" in self.text("#script-text"))
@@ -544,7 +305,7 @@ class Strikes(Page):
     def test_any_filter_strikes_and_a_bad_one_is_refused(self):
         self.typed("#strike-text", "common_pid == 0 &&")
         self.find("#strike-any button").click()
-        self.until(lambda: "^" in self.text("#strike-text-told"))
+        self.until(lambda: "^" in self.text("#strike-text-message"))
         self.assertEqual(self.figures(), [figures_of(self.waits)])
         self.typed("#strike-text", "common_pid == 0 || pid == 24650")
         self.find("#strike-any button").click()
@@ -569,7 +330,7 @@ class Strikes(Page):
         self.find("#strike-any button").click()
         self.assert_struck(text)
         self.find("#ticks input").send_keys("v")
-        self.assertEqual(self.js("return state.shown"), 1)
+        self.assertEqual(self.js("return state.current"), 1)
         fresh = self.js("return Array.from(worst.numbers).findIndex((wait) => wait >= state.sides[1].parts[0].count)")
         self.assertGreaterEqual(fresh, 0)
         self.js("worst.choose(arguments[0], true)", fresh)
@@ -589,18 +350,16 @@ class Strikes(Page):
         self.assertEqual(set(flash), changed)
 
     def test_many_strikes_lose_nothing(self):
-        script = """const done = arguments[arguments.length - 1], ticks = [...document.querySelectorAll("#ticks input")];
-            let seed = 7, left = 10000;
-            const some = () => {
-              for (let at = 0; at < 250; at++, left--) {
-                seed = (seed * 1103515245 + 12345) % 2147483648;
-                ticks[Math.floor(seed / 65536) % ticks.length].click();
-              }
-              if (left > 0) setTimeout(some, 20); else done(state.strikes.map((one) => strikes.key(one)));
-            };
-            some();"""
+        script = """const ticks = [...document.querySelectorAll("#ticks input")];
+            let seed = 7;
+            for (let at = 0; at < 10000; at++) {
+              seed = (seed * 1103515245 + 12345) % 2147483648;
+              ticks[Math.floor(seed / 65536) % ticks.length].click();
+              if (at % 250 === 0) await new Promise((resume) => setTimeout(resume, 20));
+            }
+            return state.strikes.map((one) => strikes.key(one));"""
         self.driver.set_script_timeout(60)
-        struck = self.driver.execute_async_script(script)
+        struck = self.js(script)
         self.assertGreater(len(struck), 3)
         self.assert_struck(*struck)
         self.js("strikes.set([])")
@@ -652,13 +411,13 @@ class Two(Page):
             changes = [row[1 + 2 * (figure == "p99")] for row in wanted]
             self.until_equal(changes, lambda: [row[1 + 2 * (figure == "p99")] for row in self.rows("#rows")])
         self.assertEqual(self.rows("#rows")[0][0], "cyclictest  woken")
-        told = self.text("#side-told")
+        told = self.text("#side-summary")
         self.assertEqual(told, f"{len(wanted)} rows differ")
         # What is struck is struck from the first one; after it the rows come again.
         self.js("document.querySelector('#ticks input').click()")
-        self.until(lambda: "recipes-before.trace struck" in self.text("#side-told"))
+        self.until(lambda: "recipes-before.trace struck" in self.text("#side-summary"))
         self.press("u")
-        self.until_equal(told, lambda: self.text("#side-told"))
+        self.until_equal(told, lambda: self.text("#side-summary"))
 
 
 class Lossy(Page):
@@ -689,8 +448,18 @@ class Lossy(Page):
         self.until_equal(self.waits.doubtful, lambda: [row[-1] for row in self.listed()].count("doubtful"))
         self.find("#doubtful").click()
         self.until_equal([figures_of(self.waits, True)], self.figures)
-        self.find("#warning").click()
-        self.assertIn(self.waits.warning, self.text("#status"))
+
+    def test_losses_are_at_the_top(self):
+        warnings = [*self.waits.warning.split("\n"), *self.waits.remarks()]
+        box = self.find("#warnings")
+        self.assertLess(box.rect["y"], self.find("#line").rect["y"])
+        self.assertIn(warnings[0], self.text("#warnings summary"))
+        items = "return [...document.querySelectorAll('#warnings li')].filter((one) => one.checkVisibility()).map((one) => one.textContent)"
+        self.assertEqual(self.js(items), [])
+        before = self.find("#histogram").rect["y"]
+        self.find("#warnings summary").click()
+        self.assertEqual(self.js(items), warnings)
+        self.assertGreater(self.find("#histogram").rect["y"], before)
 
 
 class Wide(Page):
@@ -718,7 +487,7 @@ class Wide(Page):
         self.press("n")
         self.click("#worst-0")
         self.until(lambda: self.js("return lanes.scene && lanes.boxes.length"))
-        shown = lambda: self.js("return lanes.shown().map(({ cpu }) => cpu)")
+        shown = lambda: self.js("return lanes.lanesInSight().map(({ cpu }) => cpu)")
         first, seen = shown(), set()
         self.assertEqual(first[:2], [0, 5])
         self.assertLess(len(first), self.CPUS)
@@ -727,6 +496,96 @@ class Wide(Page):
             seen.update(shown())
             self.press("n")
         self.assertEqual(seen, set(range(self.CPUS)))
+
+
+class OtherEvents(Page):
+    """An event that the server knows, and the page does not."""
+
+    def test_a_new_event_needs_no_edit_of_the_page(self):
+        from selenium.webdriver.common.keys import Keys
+
+        script = """const server = window.fetch;
+            window.fetch = async (path, ...words) => {
+                const answer = await server(path, ...words);
+                if (path !== "about") return answer;
+                const about = await answer.json();
+                about.schema.events.push({ name: "sched_made_up", task: "made_comm", fields: ["made_comm", "made_pid"] });
+                return new Response(JSON.stringify(about));
+            };"""
+        added = self.driver.execute_cdp_cmd("Page.addScriptToEvaluateOnNewDocument", {"source": script})
+        self.addCleanup(self.driver.execute_cdp_cmd, "Page.removeScriptToEvaluateOnNewDocument", added)
+        self.open(self.server.address)
+        names = [*histdesk._schema.WAIT_EVENTS, "sched_made_up"]
+        options = "return [...document.getElementById(arguments[0]).options].map((one) => one.value)"
+        self.assertEqual(self.js(options, "strike-event"), names)
+        self.assertEqual(sorted(self.js(options, "event")), sorted(names))
+        self.choose("#event", "sched_made_up")
+        self.assertEqual(self.find("#trigger").get_attribute("value"), "hist:keys=made_comm:sort=hitcount.descending")
+        self.press("/", "made", Keys.ARROW_DOWN)
+        fields = self.js("return [...document.querySelectorAll('#filter-fields li')].map((one) => one.textContent)")
+        self.assertEqual(fields, ["made_comm", "made_pid"])
+
+
+class Busy(Page):
+    """A wait during which more runs than are sent."""
+
+    SWITCHES = 9000
+
+    @classmethod
+    def setUpClass(cls):
+        cls.folder = tempfile.TemporaryDirectory()
+        cls.words = (os.path.join(cls.folder.name, "busy.trace"),)
+        # A task waits for CPU 1 while CPU 0 switches between two others, and is idle for half of the time.
+        events = [recordings.switch(0, 1, "<idle>-0", "a-1"), recordings.switch(1, 2, "<idle>-0", "long-9")]
+        events += [recordings.waking(0, 1000, 7, target=1)]
+        tasks = ["a-1", "<idle>-0", "b-2", "<idle>-0"]
+        for at in range(cls.SWITCHES):
+            events.append(recordings.switch(0, 1010 + 10 * at, tasks[at % 4], tasks[(at + 1) % 4]))
+        events += [recordings.switch(1, 1010 + 10 * cls.SWITCHES, "long-9", "w-7")]
+        with open(cls.words[0], "wb") as file:
+            file.write(recordings.text_of(events))
+        super().setUpClass()
+
+    @classmethod
+    def tearDownClass(cls):
+        super().tearDownClass()
+        cls.folder.cleanup()
+
+    def test_all_of_a_wait_is_drawn(self):
+        self.click("#worst-0")
+        self.until(lambda: self.js("return lanes.scene && lanes.boxes.length"))
+        length = 10 + 10 * self.SWITCHES
+        self.until_equal(f"task-7 7 waited {length:,} µs for CPU 1".replace("task-7", "w"), lambda: self.text("#view-title"))
+        self.assertIn("Grey stands for many short runs", self.text("#wait-note"))
+        # From the beginning to the end of the wait something is drawn on each lane, and half as high as time is idle.
+        boxes = """const { axis, scene } = lanes, [from, until] = [axis.x(0), axis.x(scene.end - scene.begin)];
+            return [0, 1].map((cpu) => {
+                const own = lanes.boxes.filter((box) => box.cpu === cpu);
+                return [own[0].from <= from, own.at(-1).until >= until - 0.01, own.length];
+            });"""
+        (*ends, count), (*others, _) = self.js(boxes)
+        self.assertEqual((ends, others), ([True, True], [True, True]))
+        self.assertLess(count, self.SWITCHES / 2)
+        shares = "return lanes.boxes.filter(({ stretch }) => stretch.count > 9).map(({ stretch }) => stretch.busy / (stretch.end - stretch.begin))"
+        self.assertTrue(all(0.4 <= share <= 0.6 for share in self.js(shares)))
+        # Whoever zooms in sees each run.
+        for _ in range(12):
+            self.find("#lanes").send_keys("+")
+        self.until(lambda: not self.js("return lanes.scene.thin"))
+        self.until_equal("", lambda: self.text("#wait-note"))
+        names = self.js("return lanes.boxes.filter((box) => box.cpu === 0).map(({ stretch }) => stretch.task)")
+        self.assertEqual(set(names), {"a", "b", "<idle>"})
+        self.find("#lanes").send_keys("0")
+        self.until(lambda: self.js("return lanes.scene.thin"))
+
+    def test_words_beside_a_wait_are_not_cut(self):
+        self.click("#worst-0")
+        self.until(lambda: self.js("return lanes.scene !== null"))
+        cut = """return [...document.querySelectorAll("#wait-text, #wait-text p, #wait-text pre")]
+            .filter((one) => one.scrollWidth > one.clientWidth + 1).map((one) => one.textContent)"""
+        for width in (390, 1000, 1280, 1400, 1600):
+            self.resize(width, 800)
+            self.assertEqual(self.js(cut), [], width)
 
 
 class Empty(Page):
@@ -752,71 +611,6 @@ class Empty(Page):
         self.until(lambda: self.text("#script-text").startswith("load @1"))
 
 
-class Looks(Page):
-    """How it looks: at two sizes, light and dark, without jumps."""
-
-    def places(self):
-        return self.js(
-            """return [...document.querySelectorAll("header, #line, section, #bars, #legend, #figures, #worst-rows, footer")].map((one) => {
-            const { x, y, width, height } = one.getBoundingClientRect();
-            return [one.id || one.tagName, Math.round(x), Math.round(y), Math.round(width), one.id === "figures" ? 0 : Math.round(height)];
-        })"""
-        )
-
-    def test_all_is_in_sight_and_nothing_jumps(self):
-        for width, height in SIZES:
-            self.resize(width, height)
-            self.open(self.server.address)
-            before = self.places()
-            self.assertTrue(
-                self.js(
-                    "return document.documentElement.scrollWidth <= innerWidth && document.documentElement.scrollHeight <= innerHeight"
-                )
-            )
-            self.assertGreaterEqual(self.js("return rem()"), 13 if width < 2000 else 20)
-            self.typed("#filter", "next_pid = ")
-            self.until(lambda: self.text("#filter-told"))
-            self.click_bar(3)
-            self.click("#worst-0")
-            self.until(lambda: self.js("return lanes.scene !== null"))
-            self.js("document.querySelector('#ticks input').click()")
-            self.until(lambda: len(self.figures()) == 2)
-            self.assertEqual(self.places(), before)
-            with tempfile.NamedTemporaryFile(suffix=".png") as file:
-                self.assertTrue(self.driver.save_screenshot(file.name))
-
-    def test_light_and_dark(self):
-        ground = lambda: self.js("return getComputedStyle(document.body).backgroundColor")
-        told = lambda name: self.driver.execute_cdp_cmd(
-            "Emulation.setEmulatedMedia", {"features": [{"name": "prefers-color-scheme", "value": name}]}
-        )
-        told("light")
-        light = ground()
-        told("dark")
-        dark = ground()
-        self.assertNotEqual(light, dark)
-        self.choose("#theme", "light")
-        self.assertEqual(ground(), light)
-        told("light")
-        self.choose("#theme", "dark")
-        self.assertEqual(ground(), dark)
-        for name in ("light", "dark"):
-            self.choose("#theme", name)
-            for text, wanted in (("text", 7), ("quiet", 4.5), ("wrong", 4.5), ("text-0", 4.5), ("text-1", 4.5)):
-                pair = self.js("styles = {}; return [colour(arguments[0]), colour('panel')]", text)
-                self.assertGreaterEqual(contrast(*pair), wanted, (name, text))
-
-
-def contrast(one, other):
-    """How far two colours stand apart, as WCAG has it."""
-    levels = []
-    for colour in (one, other):
-        parts = [int(colour[at : at + 2], 16) / 255 for at in (1, 3, 5)]
-        parts = [part / 12.92 if part <= 0.03928 else ((part + 0.055) / 1.055) ** 2.4 for part in parts]
-        levels.append(0.2126 * parts[0] + 0.7152 * parts[1] + 0.0722 * parts[2] + 0.05)
-    return max(levels) / min(levels)
-
-
 class Saved(Page):
     """The page as one file."""
 
@@ -833,9 +627,17 @@ class Saved(Page):
             self.assertIn("tools/view", self.find("#filter").get_attribute("placeholder"))
             self.click("#worst-0")
             longest = self.waits.array[self.waits.array.micros.argmax()]
-            told = histdesk.why(TRACE, int(longest.end_cpu), int(longest.end_line)).text().split("\n")[0]
-            self.until_equal(told, lambda: self.js("return document.querySelector('#wait-text p')?.textContent"))
+            text = histdesk.why(TRACE, int(longest.end_cpu), int(longest.end_line)).text(width=1000)
+            self.until_equal(text.split("\n")[0], lambda: self.js("return document.querySelector('#wait-text p')?.textContent"))
             self.assertEqual([line["message"] for line in self.driver.get_log("browser")], [])
+            # Nothing in it may be sent anywhere.
+            asked = """const violated = new Promise((resolve) => {
+                    document.addEventListener("securitypolicyviolation", ({ effectiveDirective }) => resolve(effectiveDirective));
+                });
+                fetch(arguments[0]).catch(() => {});
+                return violated;"""
+            self.assertEqual(self.js(asked, self.server.address), "connect-src")
+            self.driver.get_log("browser")
             self.open(self.server.address)
             self.assertEqual([line["message"] for line in self.driver.get_log("browser")], [])
 
@@ -853,28 +655,35 @@ class Ends(Page):
 class Files(unittest.TestCase):
     """What the page is made of."""
 
-    def test_scripts_are_few_and_ask_nobody_else(self):
-        scripts = [name for name in os.listdir(PAGES) if name.endswith(".js")]
-        texts = {name: open(os.path.join(PAGES, name), encoding="utf-8").read() for name in os.listdir(PAGES)}
-        self.assertLessEqual(sum(texts[name].count("\n") for name in scripts), LINES)
-        self.assertEqual(set(re.findall(r'<script src="([^"]+)"', texts["page.html"])), set(scripts))
+    def test_modules_import_what_they_use(self):
+        exports, imports = {}, {}
+        for path in sorted(pathlib.Path(PAGES).glob("*.js")):
+            name, text = path.name, path.read_text("utf-8")
+            exports[name] = set(re.findall(r"^export (?:async )?(?:const|let|function|class) (\w+)", text, re.MULTILINE))
+            pairs = re.findall(r'^import \{\s*([^}]*?),?\s*\} from "\./([^"]+)";$', text, re.MULTILINE)
+            self.assertEqual(len(pairs), text.count("\nimport "), name)
+            body = re.sub(r"^import [^;]*;$|//.*$", "", text, flags=re.MULTILINE)
+            for words, module in pairs:
+                for word in re.split(r",\s*", words):
+                    imports.setdefault(module, set()).add(word)
+                    self.assertRegex(body, rf"\b{word}\b", f"{name} imports {word}")
+        self.assertEqual({module: words - exports[module] for module, words in imports.items() if words - exports[module]}, {})
+        unused = {module: words - imports.get(module, set()) for module, words in exports.items()}
+        self.assertEqual({module: words for module, words in unused.items() if words}, {})
+
+    def test_modules_are_all_used_and_ask_nobody_else(self):
+        texts = {path.name: path.read_text("utf-8") for path in pathlib.Path(PAGES).iterdir()}
+        modules = {name for name in texts if name.endswith(".js")}
+        self.assertEqual(re.findall(r'<script[^>]* src="([^"]+)"', texts["page.html"]), ["page.js"])
+        used, found = set(), {"page.js"}
+        while found:
+            used |= found
+            found = {name for one in found for name in re.findall(r' from "\./([^"]+)";', texts[one])} - used
+        self.assertEqual(used, modules)
         for name, text in texts.items():
-            self.assertEqual(
-                [found for found in re.findall(r"https?://[^\"' ]*", text) if found != "http://www.w3.org/2000/svg"], [], name
-            )
-
-
-def main():
-    reason = missing()
-    if reason:
-        print(f"not tried: the page, without {reason}")
-        return 0
-    try:
-        return python_runner.main()
-    finally:
-        if hasattr(Page, "shared"):
-            Page.shared.quit()
+            links = [link for link in re.findall(r"https?://[^\"' ]*", text) if link != "http://www.w3.org/2000/svg"]
+            self.assertEqual(links, [], name)
 
 
 if __name__ == "__main__":
-    sys.exit(main())
+    sys.exit(python_runner.main())

@@ -12,7 +12,7 @@ import sys
 # Nothing is written beside the sources.
 sys.dont_write_bytecode = True
 
-from page import ROOT, Page, missing
+from browser import ROOT, Page, missing
 
 SIZE = (1280, 720)
 

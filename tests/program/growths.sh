@@ -22,5 +22,4 @@ if [[ -n $askagain ]]; then
         latencies_by_powers_of_two made_events_come_and_go
 fi
 
-echo "$passed passed, $failed failed"
-((failed == 0))
+finish

@@ -11,5 +11,4 @@ tests=$(dirname -- "$(dirname -- "$(realpath -- "${BASH_SOURCE[0]}")")")
 holds "$tests/program/keys.py" "$program"
 holds "$tests/program/hostile.py" --part 1 "$program" ${plaindesk:+"$plaindesk"}
 
-echo "$passed passed, $failed failed"
-((failed == 0))
+finish

@@ -41,5 +41,4 @@ if [[ -n $askagain ]]; then
     checks "$askagain" "${all[@]}"
 fi
 
-echo "$passed passed, $failed failed"
-((failed == 0))
+finish

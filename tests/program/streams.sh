@@ -44,5 +44,4 @@ types() {
 gives full_disk 2 "histdesk: write failed" bash -c 'exec "$@" >/dev/full' - "$histdesk" "$folder/load"
 types
 
-echo "$passed passed, $failed failed"
-((failed == 0))
+finish

@@ -1,5 +1,5 @@
 #!/usr/bin/env python3
-"""Holds the waits of a recording of this machine against what perf says of the same recording.
+"""Holds the waits and the summary of a recording of this machine against what perf says of the same recording.
 
     beside_perf.py [SECONDS]
 
@@ -7,8 +7,14 @@ By hand, as root, with perf. It records the scheduler's events (of one second wh
 tell of each task how many waits it had and how long the greatest was, and the package of the same events, turned by from-perf.
 perf counts from the sched_wakeup on, takes a task that left in state R+ for one that sleeps, has no wait of a task that was
 woken just before it slept, and has one of 0 us for a task of which it hasn't heard before it runs: for the comparison the text
-is made so, and what is left of the differences is printed. The last line says of how many tasks both numbers are the same."""
+is made so, and what is left of the differences is printed.
 
+`perf sched timehist -s` says how often each task was switched from, and how long it ran. If a switch is missing, perf counts
+the time since the CPU's last switch for the task that the next one leaves, and the summary counts it for none: such tasks are
+compared by the count only. perf's stamps have nanoseconds, so a run may differ by a microsecond. The last lines say of how
+many tasks the numbers are the same."""
+
+import collections
 import os
 import re
 import subprocess
@@ -27,6 +33,8 @@ import plain_waits
 EVENTS = ("sched_waking", "sched_wakeup", "sched_wakeup_new", "sched_switch")
 # A task's name and number, how many waits, their mean and the greatest in milliseconds.
 ROW = re.compile(r" +(.*):([0-9]+) +\|[^|]*\| +([0-9]+) \| avg: *[0-9.]+ ms \| max: *([0-9.]+) ms \|.*")
+# A task's name and number, how often it was switched from, and how long it ran, in milliseconds.
+RUN = re.compile(r" +(.*)\[([0-9]+)(?:/[0-9]+)?\] +-?[0-9]+ +([0-9]+) +([0-9.]+) .*")
 
 
 def told_by(*words):
@@ -63,6 +71,37 @@ def by_us(text):
     return {pid: (rows.get(pid, (0, 0))[0] + (pid in late), rows.get(pid, (0, 0))[1]) for pid in {*rows, *late}}
 
 
+def runs_by_perf(path):
+    """What perf tells of each task: its name, how often it was switched from, and how many microseconds it ran."""
+    rows = map(RUN.fullmatch, told_by("perf", "sched", "timehist", "-s", "-i", path).decode().split("\n"))
+    return {int(row[2]): (row[1].strip(), int(row[3]), round(float(row[4]) * 1000)) for row in rows if row}
+
+
+def left(text):
+    """How often each task was switched from, and the tasks that a CPU left without having gone to them."""
+    running, counts, unknown = {}, collections.Counter(), set()
+    for event in plain_waits.events_of(text):
+        if event.event == "sched_switch":
+            counts[event.before] += 1
+            if running.get(event.place.cpu, event.before) != event.before:
+                unknown.add(event.before)
+            running[event.place.cpu] = event.pid
+    return counts, unknown
+
+
+def hold_runs(path, text):
+    """Compares how often each task was switched from, and how long it ran."""
+    theirs, (counts, unknown) = runs_by_perf(path), left(text)
+    ours = {row.pid: row.run_time for row in histdesk.summary(text).tasks}
+    same = 0
+    for pid, (name, count, micros) in theirs.items():
+        is_same = counts[pid] == count and (pid in unknown or abs(ours[pid] - micros) <= max(count, 2))
+        same += is_same
+        if not is_same:
+            print(f"{name}-{pid}: perf {count} switches, {micros} us; here {counts[pid]}, {ours[pid]} us")
+    print(f"runs: {same} of {len(theirs)} tasks hold, {len(unknown)} of them with a missing switch")
+
+
 def main():
     seconds = sys.argv[1] if len(sys.argv) > 1 else "1"
     with tempfile.TemporaryDirectory() as folder:
@@ -71,6 +110,7 @@ def main():
         told_by("perf", "record", "-q", "-a", "-m", "16M", "-o", path, "-e", names, "sleep", seconds)
         theirs = by_perf(path)
         text = told_by(os.path.join(HERE, "..", "..", "tools", "from-perf"), path)
+        hold_runs(path, text)
     ours = by_us(as_perf_counts(text))
     same = 0
     for pid, (name, count, most) in theirs.items():

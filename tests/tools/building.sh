@@ -1,7 +1,7 @@
 #!/usr/bin/env bash
-# building.sh: what tools/build proves, says and leaves, in a repository of five crates, with programs that stand for the kit's.
+# building.sh: what build/build proves, says and leaves, in a repository of five crates, with programs that stand for the kit's.
 # It prints what went wrong, and a last line with the counts.
-# shellcheck source-path=SCRIPTDIR disable=SC2016,SC2154 # the programs' own $; what counts.sh assigns
+# shellcheck source-path=SCRIPTDIR disable=SC2016,SC2154,SC2317 # the programs' own $; what counts.sh assigns; what others call
 set -uo pipefail
 
 tests=$(dirname -- "$(dirname -- "$(realpath -- "${BASH_SOURCE[0]}")")")
@@ -9,9 +9,9 @@ tests=$(dirname -- "$(dirname -- "$(realpath -- "${BASH_SOURCE[0]}")")")
 . "$tests/tools/common.sh"
 
 root=$folder/repository
-left=$root/crates/histdesk/out/launcher
+left=$root/build/out
 mkdir -p -- "$root"/crates/{ft_low,ft_desk,histdesk,histwatch,ft_c}/src "$folder"/{bin,toolchain/bin}
-cp -r -- "$tests/../tools" "$root"
+tar -C "$tests/.." --exclude=out -cf - build helpers | tar -C "$root" -xf -
 printf '%s\n' 'ft_low:' 'ft_desk: ft_low' 'histdesk: ft_desk' 'histwatch: ft_desk' 'ft_c static: ft_desk' >"$root/crates.txt"
 echo one >"$folder/KIT-ID"
 export STAND_IN=$folder PATH=$folder/bin:$PATH
@@ -28,10 +28,12 @@ cp -- "$folder/bin/rattle-link" "$folder/toolchain/bin/ld.lld"
 script llvm-ar 'touch -- "$2"'
 mv -- "$folder/bin/llvm-ar" "$folder/toolchain/bin"
 
-# builds WHAT STATUS ERROR CRATE..: a build's status and what it says, and that it proved just these.
+# builds WHAT STATUS ERROR CRATE..: a build's status and what it says, and that it proved just these. It builds all, or what is
+# in `asked`.
+asked=()
 builds() {
     : >"$folder/proved"
-    gives "${@:1:3}" "$root/tools/build"
+    gives "${@:1:3}" "$root/build/build" "${asked[@]}"
     sort -- "$folder/proved" >"$folder/out"
     prints "$1, proved" "$(printf '%s\n' "${@:4}")"
 }
@@ -47,19 +49,40 @@ are_ended() {
     return 1
 }
 
-# ends SIGNAL: a build that gets it ends by it, with all that it started, and leaves no folder of its own.
-ends() {
-    local build status
+# eventually WHAT COMMAND..: the command succeeds now or some seconds later.
+eventually() {
+    for ((try = 0; try < 200; try++)); do
+        if "${@:2}"; then
+            pass
+            return
+        fi
+        sleep 0.05
+    done
+    fail "$1: not within seconds"
+}
+
+# Begins a build that doesn't end, and sets `build`.
+begin() {
     : >"$folder/processes"
     set -m
     # Whoever runs this may have it ignore some.
-    env --default-signal "$root/tools/build" 2>/dev/null &
+    env --default-signal "$root/build/build" 2>/dev/null &
     build=$!
     set +m
-    for ((try = 0; try < 500; try++)); do
-        [[ ! -s $folder/processes ]] || break
-        sleep 0.02
-    done
+    eventually "a build begins" test -s "$folder/processes"
+}
+
+# are STATE: whether the build and the prover's processes are in a state that ps shows.
+are() {
+    local processes
+    processes=$build,$(tr -s ' \n' ',' <"$folder/processes")
+    [[ $(ps -o stat= -p "${processes%,}" | cut -c 1 | sort -u) == "$1" ]]
+}
+
+# ends SIGNAL: a build that gets it ends by it, with all that it started, and leaves no folder of its own.
+ends() {
+    local status
+    begin
     kill -s "$1" "$build"
     wait "$build" 2>/dev/null
     status=$?
@@ -74,35 +97,42 @@ building='build: building histdesk, histwatch and the library'
 all=(ft_c ft_desk ft_low histdesk histwatch)
 above=(ft_c ft_desk histdesk histwatch)
 
-builds first 0 "$building, all 5 crates, which takes twenty minutes and more; see $left/log"$'\n*' "${all[@]}"
+# A program needs nothing but the crates below it, and the rest is built when it is asked for.
+asked=(histdesk)
+builds first 0 "build: building histdesk, all 3 crates, which takes about [1-9]* minutes; see $left/log"$'\n*' ft_desk ft_low histdesk
 head -n 2 -- "$folder/proved" >"$folder/out"
 prints "first, the lower ones first" $'ft_low\nft_desk'
 builds nothing 0 ""
+asked=()
+builds "the rest" 0 "$building, 2 of 5 crates; see *" ft_c histwatch
+builds "nothing is left" 0 ""
 # What is compiled of C, where a compiler and the headers are; a fault in it keeps nothing else from being built.
 compiled() {
-    gives "$1" 0 "" ls -- "$root/tools/out/$1"
-    echo int >>"$root/tools/$2"
-    builds "$1, a fault" 0 "build: tools/$2 is not compiled, and the tools do without it:"$'\n*'
-    gives "$1, gone" 2 "*" ls -- "$root/tools/out/$1"
-    cp -- "$tests/../tools/$2" "$root/tools"
+    gives "$1" 0 "" ls -- "$root/helpers/out/$1"
+    echo int >>"$root/helpers/$2"
+    builds "$1, a fault" 0 "build: helpers/$2 is not compiled, and the tools do without it:"$'\n*'
+    gives "$1, gone" 2 "*" ls -- "$root/helpers/out/$1"
+    cp -- "$tests/../helpers/$2" "$root/helpers"
     builds "$1, no fault" 0 ""
 }
 if echo '#include <perf/perf_dlfilter.h>' | cc -E -o /dev/null -x c - 2>/dev/null; then
     compiled perf_filter.so perf_filter.c
 else
-    echo "not tried: perf's filter: no compiler, or no header of perf"
+    skip "perf's filter: no compiler, or no header of perf"
 fi
 if command -v cc >/dev/null && pkg-config libtracecmd 2>/dev/null; then
     compiled trace_cmd_lines trace_cmd_lines.c
 else
-    echo "not tried: the program for trace-cmd: no compiler, or no headers of its libraries"
+    skip "the program for trace-cmd: no compiler, or no headers of its libraries"
 fi
 touch -- "$root/crates/ft_desk/src/lib.rt"
 builds "a source" 0 "$building, 4 of 5 crates; see *" "${above[@]}"
 rm -- "$root/crates/histwatch/out/histwatch"
 builds "no program" 0 "$building, 1 of 5 crates; see *" histwatch
 touch -- "$root/crates.txt"
-builds crates.txt 0 "$building, all 5 crates, which took 0:0? minutes the last time; see *" "${all[@]}"
+builds crates.txt 0 "$building, all 5 crates, which takes about [1-9]* minutes; see *" "${all[@]}"
+touch -- "$root/crates.txt"
+builds "crates.txt again" 0 "$building, all 5 crates, which took 0:0? minutes the last time; see *" "${all[@]}"
 echo two >"$folder/KIT-ID"
 builds "another kit" 0 ""
 touch -- "$root/crates/ft_low/src/lib.rt"
@@ -117,8 +147,57 @@ touch -- "$root/crates/ft_low/src/lib.rt"
 ends TERM
 ends INT
 ends HUP
-rm -- "$folder/slow" "$folder/bin/rt"
-PATH=/usr/bin:/bin gives "no kit" 2 "build: needs the Rattle kit's rt on the PATH to build" "$root/tools/build"
 
-echo "$passed passed, $failed failed"
-((failed == 0))
+# Ctrl-Z holds all.
+begin
+kill -s TSTP "$build"
+eventually "a build is held" are T
+kill -s CONT "$build"
+eventually "a build goes on" are S
+# Another build waits until the prover of a build that was killed has ended, and removes what is left of it.
+"$root/build/build" histdesk 2>"$folder/second" &
+second=$!
+eventually "a second build begins" test -s "$folder/second"
+rm -- "$folder/slow"
+kill -s KILL "$build"
+wait "$build" 2>/dev/null
+eventually "what was killed is left" test -n "$(find "$left" -name 'build.*')"
+xargs kill <"$folder/processes"
+if wait "$second"; then
+    pass
+else
+    fail "a second build: status $?"
+fi
+has "a second build" "$folder/second" 'build: waits for another build to end' 'build: building histdesk, all 3 crates, .*'
+eventually "it is removed" test -z "$(find "$left" -name 'build.*')"
+# The longest chain goes first.
+: >"$folder/proved"
+touch -- "$root/crates.txt"
+gives "one processor" 0 "*" taskset -c "$(taskset -cp $$ | sed 's/.*: \([0-9]*\).*/\1/')" "$root/build/build"
+tr '\n' ' ' <"$folder/proved" >"$folder/out"
+prints "one processor" "ft_low ft_desk ft_c histwatch histdesk "
+rm -- "$folder/bin/rt"
+touch -- "$root/crates.txt"
+PATH=/usr/bin:/bin gives "no kit" 2 "build: needs the Rattle kit's rt on the PATH to build" "$root/build/build"
+
+# What the tests need: a folder of few programs stands for a machine, and a script for its apt-get, which has no cpio.
+mkdir -- "$folder/few"
+ln -s -- "$(type -P bash)" "$(type -P timeout)" "$folder/few"
+script apt-get 'case $* in' '*" -s install cpio") exit 1 ;;' '*" install q"*)' \
+    '/usr/bin/ln -s -- "$0" "${0%/*}/qemu-system-x86_64"' '/usr/bin/ln -s -- "$0" "${0%/*}/busybox" ;;' 'esac'
+mv -- "$folder/bin/apt-get" "$folder/few"
+gives "needs --missing" 1 "" env PATH="$folder/few" "$root/build/needs" --missing by-hand
+prints "needs --missing" "apt-get install qemu-system-x86 busybox-static cpio"
+if ((EUID == 0)); then
+    gives "needs --install" 1 $'needs: installing qemu-system-x86 busybox-static\nneeds: missing: cpio' \
+        env PATH="$folder/few" "$root/build/needs" --install by-hand
+else
+    skip "installing what the tests need: not root"
+fi
+ln -s -- /bin/true "$folder/few/cpio"
+ln -sf -- /bin/true "$folder/few/qemu-system-x86_64"
+ln -sf -- /bin/true "$folder/few/busybox"
+gives "needs --install, nothing" 0 "" env PATH="$folder/few" "$root/build/needs" --install by-hand
+gives "needs for nothing" 2 "needs: all is none of build tests tools bench by-hand; --help says more" "$root/build/needs" all
+
+finish

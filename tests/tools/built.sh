@@ -1,10 +1,11 @@
 # shellcheck shell=bash disable=SC2034 # what its readers use
-# What install.sh and packages.sh test, read by them with their arguments, HISTDESK HISTWATCH LIBRARY: tools/install and
-# tools/package take these programs and this library from BUILT_*.
+# What install.sh and packages.sh test, read by them with their arguments, HISTDESK HISTWATCH LIBRARY: build/install and
+# build/package take these programs and this library from BUILT_*.
 
 tests=$(dirname -- "$(dirname -- "$(realpath -- "${BASH_SOURCE[0]}")")")
 root=$(realpath -- "$tests/..")
 tools=$root/tools
+build=$root/build
 examples=$root/examples
 BUILT_HISTDESK=$(realpath -- "$1")
 BUILT_HISTWATCH=$(realpath -- "$2")

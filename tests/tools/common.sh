@@ -3,16 +3,16 @@
 
 # gives WHAT STATUS ERROR COMMAND..: the command's status, and a pattern of all that it says on standard error.
 gives() {
-    local what=$1 want=$2 error=$3 status told
+    local what=$1 want=$2 error=$3 status errors
     shift 3
     timeout "$limit" "$@" >"$folder/out" 2>"$folder/err"
     status=$?
-    told=$(<"$folder/err")
+    errors=$(<"$folder/err")
     # shellcheck disable=SC2053 # it is a pattern
-    if [[ $status == "$want" && $told == $error ]]; then
+    if [[ $status == "$want" && $errors == $error ]]; then
         pass
     else
-        fail "$what: status $status, $told"
+        fail "$what: status $status, $errors"
     fi
 }
 

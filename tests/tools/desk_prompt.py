@@ -74,6 +74,7 @@ COMPLETED = [
     ("load @", "", ["1", "2"]),
     ("help ", "st", ["strike"]),
     ("waits ", "na", ["name"]),
+    ("why ", "", ["0", "3"]),
     ("insert ", "a", []),
 ]
 
@@ -82,20 +83,20 @@ class Wrong(Exception):
     """Something doesn't hold: what."""
 
 
-def same(what, got, wanted):
-    if got != wanted:
-        raise Wrong(f"{what}: {got!r:.1500}, and not {wanted!r:.1500}")
+def same(what, got, expected):
+    if got != expected:
+        raise Wrong(f"{what}: {got!r:.1500}, and not {expected!r:.1500}")
 
 
-def has(what, got, wanted):
-    if wanted not in got:
-        raise Wrong(f"{what}: {got!r:.1500} has no {wanted!r}")
+def has(what, got, expected):
+    if expected not in got:
+        raise Wrong(f"{what}: {got!r:.1500} has no {expected!r}")
 
 
 # ---- from a pipe
 
 
-def fed(script, *words, folder=None):
+def run_from_pipe(script, *words, folder=None):
     """What desk prints of a script that it is fed, what it says beside that, and its status."""
     data = script if isinstance(script, bytes) else "".join(f"{line}\n" for line in script).encode()
     ran = subprocess.run([*DESK, *words], input=data, capture_output=True, timeout=LIMIT, cwd=folder)
@@ -115,32 +116,32 @@ def content(*parts):
 
 
 def row_from_a_pipe(row, folder):
-    output, said, status = fed(content(row, "script"), *traces_of(row), folder=folder)
+    output, errors, status = run_from_pipe(content(row, "script"), *traces_of(row), folder=folder)
     same("the output", output, content(row, "expected"))
     same("the status", status, int(content(row, "status")))
-    same("explanations", len(re.findall("(?m)^  line [0-9]+: ", said)), len(re.findall(rb"(?m)^refused ", output)))
+    same("explanations", len(re.findall("(?m)^  line [0-9]+: ", errors)), len(re.findall(rb"(?m)^refused ", output)))
 
 
 # ---- on a terminal
 
 
-class Typed:
+class Terminal:
     """A desk on a pseudo-terminal, to which lines are typed."""
 
     def __init__(self, *words, rows=1000, folder=None, **variables):
         self.master, slave = pty.openpty()
         fcntl.ioctl(slave, termios.TIOCSWINSZ, struct.pack("4H", rows, 9000, 0, 0))
         variables = {"TERM": "dumb", "PAGER": "cat", "XDG_STATE_HOME": os.path.join(folder or "/nonexistent"), **variables}
-        self.said = tempfile.TemporaryFile()
-        self.told = 0
+        self.errors = tempfile.TemporaryFile()
+        self.errors_read = 0
         self.process = subprocess.Popen(
-            [*DESK, *words], stdin=slave, stdout=slave, stderr=self.said, cwd=folder, start_new_session=True,
+            [*DESK, *words], stdin=slave, stdout=slave, stderr=self.errors, cwd=folder, start_new_session=True,
             preexec_fn=lambda: fcntl.ioctl(0, termios.TIOCSCTTY, 0), env={**os.environ, **variables},
         )  # fmt: skip
         os.close(slave)
-        self.shown()
+        self.screen()
 
-    def shown(self, until=PROMPT, again=b""):
+    def screen(self, until=PROMPT, again=b""):
         """What the terminal shows up to the next prompt; while it shows nothing, keys are typed again."""
         text, end = b"", time.monotonic() + LIMIT
         while not text.endswith(until):
@@ -152,7 +153,7 @@ class Typed:
             try:
                 text += os.read(self.master, 65536)
             except OSError:
-                raise Wrong(f"it ended: {text[-500:]!r}; {self.beside()}")
+                raise Wrong(f"it ended: {text[-500:]!r}; {self.remarks()}")
         return text.replace(b"\r\n", b"\n")
 
     def types(self, text):
@@ -163,18 +164,18 @@ class Typed:
         """What a line prints on the terminal."""
         self.types(line + ("\n" if isinstance(line, str) else b"\n"))
         # The line is shown as it is typed.
-        return self.shown().partition(b"\n")[2].removesuffix(PROMPT)
+        return self.screen().partition(b"\n")[2].removesuffix(PROMPT)
 
     def interrupted(self):
         """Ctrl-C, and what the terminal shows after it. Of one that comes just before it waits, Python learns by the next."""
         self.types(b"\x03")
-        return self.shown(again=b"\x03")
+        return self.screen(again=b"\x03")
 
-    def beside(self):
-        """What was said beside that, since the last look."""
-        self.said.seek(self.told)
-        text = self.said.read()
-        self.told += len(text)
+    def remarks(self):
+        """Return what standard error got since the last call."""
+        self.errors.seek(self.errors_read)
+        text = self.errors.read()
+        self.errors_read += len(text)
         return text.decode("utf-8", "surrogateescape")
 
     def ends(self, key=b"\x04"):
@@ -182,7 +183,7 @@ class Typed:
         self.types(key)
         status = self.process.wait(LIMIT)
         os.close(self.master)
-        self.said.close()
+        self.errors.close()
         return status
 
 
@@ -194,7 +195,7 @@ def lines_to_type(row):
 
 
 def row_on_a_terminal(row, folder):
-    desk = Typed(*traces_of(row), folder=folder)
+    desk = Terminal(*traces_of(row), folder=folder)
     output = b"".join(desk.asks(line) for line in lines_to_type(row))
     same("the output", output, content(row, "expected"))
     same("the status", desk.ends(), 0)
@@ -204,82 +205,85 @@ def row_on_a_terminal(row, folder):
 
 
 def loads_by_path(folder):
-    """A trace is taken in by its path, packed or not, gets a number, and what it holds is said."""
+    """A trace is loaded by its path, packed or not, and gets a number; standard error says what it holds."""
     with gzip.open(os.path.join(folder, "my own.trace.gz"), "wb") as file:
         file.write(content(WAKEUPS))
-    desk = Typed(folder=folder)
+    desk = Terminal(folder=folder)
     same("the output", desk.asks("load my own.trace.gz"), b"loaded 27\n")
-    has("what it holds", desk.beside(), "2 CPUs, from 6012.000176 to 6012.001959\n")
+    has("what it holds", desk.remarks(), "2 CPUs, from 6012.000176 to 6012.001959\n")
     same("unloaded", desk.asks("unload 0") + desk.asks("unload 1"), b"unloaded 15\nunloaded 12\n")
     same("by number", desk.asks("load @1"), b"loaded 27\n")
     same("the status", desk.ends(), 0)
-    output, said, status = fed(["load none.trace", "load", "load 1", f"load {folder}"], folder=folder)
+    output, errors, status = run_from_pipe(["load none.trace", "load", "load 1", f"load {folder}"], folder=folder)
     same("no files", (output, status), (b"refused 16\n" * 4, 1))
     for line in ("there is no file none.trace; the form", "no trace is named", "did you mean load @1?", f"no file {folder}"):
-        has("no files", said, line)
+        has("no files", errors, line)
 
 
-def tells_losses(folder):
-    """Where events were lost is said beside the answer, from a pipe too, and `cpus` counts it."""
+def reports_losses(folder):
+    """Losses of events are reported on standard error, from a pipe too, and `cpus` counts them."""
     with open(os.path.join(folder, "lost.trace"), "w") as file:
         file.write(LOST)
-    output, said, status = fed(["load @1", "cpus"], "lost.trace", folder=folder)
+    output, errors, status = run_from_pipe(["load @1", "cpus"], "lost.trace", folder=folder)
     table = b"CPU  events  first     last      losses\n  0       2  1.000000  3.000000       1\n"
     same("the output", (output, status), (b"loaded 2\n" + table, 0))
-    has("what is said", said, "  lost.trace: events were lost: CPU 0 lost 7 between 1.000000 and 3.000000; ")
+    has("what is said", errors, "  lost.trace: events were lost: CPU 0 lost 7 between 1.000000 and 3.000000; ")
 
 
-def tells_refusals(folder):
+def explains_refusals(folder):
     """Each refusal is explained, with a caret under the place, by what is typed and not by numbers of lines."""
-    desk = Typed(WAKEUPS, folder=folder)
-    desk.beside()
+    desk = Terminal(WAKEUPS, folder=folder)
+    desk.remarks()
     same("refused", desk.asks("attach sched_waking hist:keys=comm,pids"), b"refused 8: fault 3\n")
-    words = "the event has no such field, or the trigger no such variable; did you mean pid?"
+    words = "the event has no such field, or the trigger has no such variable; did you mean pid?"
     command = "  attach sched_waking hist:keys=comm,pids"
-    same("words", desk.beside(), f"{command}\n{' ' * (len(command) - 4)}^\n  {words}\n")
+    same("words", desk.remarks(), f"{command}\n{' ' * (len(command) - 4)}^\n  {words}\n")
     same("attached", desk.asks(SAVER), b"attached 1\n")
     same("no saver", desk.asks("attach sched_switch hist:keys=next_comm:l=common_timestamp.usecs-$ts0"), b"refused 14\n")
-    has("no saver", desk.beside(), "  its keys don't match those of the trigger that saves what it reads: trigger 1 saves ts0")
+    has("no saver", desk.remarks(), "  its keys don't match those of the trigger that saves what it reads: trigger 1 saves ts0")
     same("taken", desk.asks(SAVER), b"refused 12: trigger 1\n")
-    has("taken", desk.beside(), "; trigger 1 is sched_waking hist:keys=pid:ts0=common_timestamp.usecs\n")
+    has("taken", desk.remarks(), "; trigger 1 is sched_waking hist:keys=pid:ts0=common_timestamp.usecs\n")
     same("like help", desk.asks("helo"), b"refused 16\n")
-    has("like help", desk.beside(), "did you mean help?")
+    has("like help", desk.remarks(), "did you mean help?")
     same("with a word", desk.asks("cpus 1"), b"refused 16\n")
-    has("with a word", desk.beside(), ": the form is cpus\n")
+    has("with a word", desk.remarks(), ": the form is cpus\n")
+    same("other waits", desk.asks("waits nam"), b"refused 16\n")
+    has("other waits", desk.remarks(), ": the form is waits [BY], and BY is task, name, cpu, prio, kind; did you mean name?\n")
     same("other traces", desk.asks("load @2"), b"refused 2\n")
-    has("other traces", desk.beside(), ": the only trace is @1\n")
+    has("other traces", desk.remarks(), ": the only trace is @1\n")
     same("the status", desk.ends(), 0)
 
 
-def goes_on_behind_failures(folder):
-    """A file that can't be read is told. Who types goes on; a script ends there."""
+def goes_on_after_failures(folder):
+    """A file that can't be read is reported. On a terminal, the desk goes on; a script ends there."""
     with open(os.path.join(folder, "torn.gz"), "wb") as file:
         file.write(gzip.compress(content(WAKEUPS))[:100])
-    desk = Typed("torn.gz", folder=folder)
-    desk.beside()
+    desk = Terminal("torn.gz", folder=folder)
+    desk.remarks()
     same("torn", desk.asks("load @1"), b"")
-    has("torn", desk.beside(), "  torn.gz: Compressed file ended before the end-of-stream marker was reached\n")
+    has("torn", desk.remarks(), "  torn.gz: Compressed file ended before the end-of-stream marker was reached\n")
     same("goes on", desk.asks("totals 1"), b"refused 10\n")
     same("the status", desk.ends(), 0)
-    output, said, status = fed(["totals 1", "load @1", "totals 1"], "torn.gz", folder=folder)
+    output, errors, status = run_from_pipe(["totals 1", "load @1", "totals 1"], "torn.gz", folder=folder)
     same("a script", (output, status), (b"refused 10\n", 2))
-    has("a script", said, "desk: line 2: torn.gz: Compressed file ended")
+    has("a script", errors, "desk: line 2: torn.gz: Compressed file ended")
 
 
 def knows_recordings(folder):
-    """A recording of perf or trace-cmd is told as such, and which tool turns it."""
+    """A recording of perf or trace-cmd is reported as such, with the tool that converts it."""
     for name, magic in (("perf.data", b"PERFILE2"), ("trace.dat", b"\x17\x08\x44tracing6")):
         with open(os.path.join(folder, name), "wb") as file:
             file.write(magic + bytes(100))
-    output, said, _ = fed(["load perf.data", "load @1", "load trace.dat"], folder=folder)
+    output, errors, _ = run_from_pipe(["load perf.data", "load @1", "load trace.dat"], folder=folder)
     same("the output", output, b"refused 3: line 1 fault 1\n" * 3)
-    same("perf", said.count("; it is a recording of perf; tools/from-perf perf.data >my.trace makes a trace of it\n"), 2)
-    has("trace-cmd", said, "; it is a recording of trace-cmd; tools/from-trace-cmd trace.dat >my.trace makes")
+    words = " ".join(errors.split())
+    same("perf", words.count("; it is a recording of perf; tools/from-perf perf.data >my.trace makes a trace of it"), 2)
+    has("trace-cmd", words, "; it is a recording of trace-cmd; tools/from-trace-cmd trace.dat >my.trace makes")
 
 
 def lists_triggers(folder):
     """`triggers` lists what is attached, `help` the commands and `help COMMAND` more, and `quit` ends."""
-    output, said, status = fed(["triggers", "cpus", SAVER, READER, "triggers", "quit", "hist 1"], folder=folder)
+    output, errors, status = run_from_pipe(["triggers", "cpus", SAVER, READER, "triggers", "quit", "hist 1"], folder=folder)
     lines = output.decode().split("\n")
     same("nothing", lines[:2], ["no trigger is attached", "no events are held"])
     front = "hist:keys=next_pid:vals=hitcount,$lat:lat=common_timestamp.usecs-$ts0"
@@ -288,9 +292,9 @@ def lists_triggers(folder):
         " 1  sched_waking  hist:keys=pid:vals=hitcount:ts0=common_timestamp.usecs:sort=hitcount:size=2048",
         f" 2  sched_switch  {front}:sort=hitcount:size=2048",
     ])  # fmt: skip
-    same("after quit", (lines[7:], said, status), ([""], "", 0))
-    output, said, status = fed(["help", "help lat", "help attahc"], folder=folder)
-    for word in ("load @N, load PATH", "attach EVENT TRIGGER", "triggers", "cpus", "quit", "0:9 -> 1:4: 204 us"):
+    same("after quit", (lines[7:], errors, status), ([""], "", 0))
+    output, errors, status = run_from_pipe(["help", "help lat", "help attahc"], folder=folder)
+    for word in ("load @N", "load PATH", "attach EVENT TRIGGER", "triggers", "cpus", "quit", "0:9 -> 1:4: 204 us"):
         has("help", output.decode(), word)
     has("no command", output.decode(), "no command is called attahc; did you mean attach?")
 
@@ -298,8 +302,8 @@ def lists_triggers(folder):
 def takes_a_part(folder):
     """`--from`, `--until` and `--lenient` choose what a `load` takes in."""
     script = ["load @1", "list 1"]
-    output, said, status = fed(script, "--until", "6012.000130", WAKEUPS, folder=folder)
-    if "numpy" in said:
+    output, errors, status = run_from_pipe(script, "--until", "6012.000130", WAKEUPS, folder=folder)
+    if "numpy" in errors:
         print("not tried: parts of a trace, without numpy")
         return
     with open(WAKEUPS) as file:
@@ -307,36 +311,36 @@ def takes_a_part(folder):
     same("a part", output.partition(b"\n")[0], b"loaded %d" % sum(stamp < 6012.00013 for stamp in stamps))
     same("the status", status, 0 if b"refused" not in output else 1)
     torn = os.path.join(EXAMPLES, "torn.trace")
-    output, said, _ = fed(["load @1"], "--lenient", torn, folder=folder)
+    output, errors, _ = run_from_pipe(["load @1"], "--lenient", torn, folder=folder)
     same("lenient", output, b"loaded 2\n")
-    has("lenient", said, "1 line can't be read and is left out: 15")
+    has("lenient", errors, "1 line can't be read and is left out: 15")
 
 
-def tells_waits(folder):
+def answers_waits(folder):
     """`waits` and `why` answer of what is held now: a task waited two seconds, and without its waking none did."""
     with open(os.path.join(folder, "held.trace"), "w") as file:
         file.write(LOST.replace("CPU:0 [LOST 7 EVENTS]\n", ""))
     script = ["load @1", "waits", "why 0:2", "strike 0:1", "waits", "why 0:99", "cpus"]
-    output, said, status = fed(script, "held.trace", folder=folder)
-    if b"refused 16" in output or "numpy" in said:
+    output, errors, status = run_from_pipe(script, "held.trace", folder=folder)
+    if b"refused 16" in output or "numpy" in errors:
         print("not tried: waits and why, which the package or numpy lacks")
         return
     first, second = output.decode().split("struck 0:1\n")
-    has("waits", re.sub(" +", " ", first), "b 2 woken 1 2000000.0 2000000 2000000 2000000 2000000 3.000000 0:2\n")
+    has("waits", re.sub(" +", " ", first), "b 2 woken 1 2000000 2000000.0 2000000 2000000 2000000 2000000 3.000000 0:2\n")
     has("why", first, "b-2 (prio 120) waited 2000000 us for CPU 0")
     same("no waits", "woken 1 " in re.sub(" +", " ", second), False)
-    same("the status", (status, said[:22]), (1, "  line 6: no event of "))
+    same("the status", (status, errors[:22]), (1, "  line 6: no event of "))
     has("goes on", second, "CPU  events")
 
 
 def remembers(folder):
     """Lines that were typed come back in the next run, from a file that others can't read."""
-    desk = Typed(folder=folder)
+    desk = Terminal(folder=folder)
     desk.asks("totals 7")
     same("the status", desk.ends(), 0)
     path = os.path.join(folder, "histdesk", "history")
     same("the file", (content(path), os.stat(path).st_mode & 0o77), (b"totals 7\n", 0))
-    desk = Typed(folder=folder)
+    desk = Terminal(folder=folder)
     desk.asks("cpus")
     # Ctrl-P is the line before.
     same("the line before", desk.asks(b"\x10\x10"), b"refused 10\n")
@@ -349,7 +353,7 @@ def completes(folder):
     """Tab completes commands, events, parts of triggers, fields and paths."""
     with open(os.path.join(folder, "long-name.trace"), "w") as file:
         file.write(LOST)
-    desk = Typed(WAKEUPS, folder=folder)
+    desk = Terminal(WAKEUPS, folder=folder)
     same("an event and a part", desk.asks("att\tsched_sw\thi\tnext_pi\t,next_co\t"), b"attached 1\n")
     same("a path", desk.asks("load long\t"), b"loaded 2\n")
     same("a trigger", desk.asks("tot\t\t"), b"hits 1 entries 1 dropped 0\n")
@@ -370,13 +374,12 @@ def opened_by_both(fifo):
 
 def knows_completions(_):
     """What Tab may put after the beginnings of words."""
-    sys.path.insert(0, os.path.dirname(DESK[1]))
-    from desk_typed import Known, completions
+    sys.path.insert(0, os.path.join(os.path.dirname(DESK[1]), os.pardir, "python"))
+    from histdesk.cli.completion import Names, completions
 
     trigger = ("sched_waking", "hist:keys=pid:ts0=common_timestamp.usecs")
-    words = ["hist", "totals", "strike"]
-    known = Known(words, {"help": words, "waits": ["task", "name"]}, 2, {1: trigger}, [0, 3])
-    wrong = [(row, completions(row[0], row[1], known)) for row in COMPLETED if completions(row[0], row[1], known) != row[2]]
+    names = Names(2, {1: trigger}, [0, 3])
+    wrong = [(row, completions(row[0], row[1], names)) for row in COMPLETED if completions(row[0], row[1], names) != row[2]]
     same("completions", wrong, [])
 
 
@@ -384,41 +387,41 @@ def goes_on(folder):
     """Ctrl-C drops the line that is typed, and ends a load that waits for its file, not the desk."""
     fifo = os.path.join(folder, "fifo")
     os.mkfifo(fifo)
-    desk = Typed(folder=folder)
+    desk = Terminal(folder=folder)
     same("attached", desk.asks(SAVER), b"attached 1\n")
     desk.types("remove 1")
-    desk.shown(b"remove 1")
+    desk.screen(b"remove 1")
     desk.interrupted()
     same("dropped", desk.asks("totals 1"), b"hits 0 entries 0 dropped 0\n")
-    desk.beside()
+    desk.remarks()
     desk.types("load fifo\n")
     writer = opened_by_both(fifo)
     desk.interrupted()
     os.close(writer)
-    same("interrupted", desk.beside(), "  interrupted\n")
+    same("interrupted", desk.remarks(), "  interrupted\n")
     same("goes on", desk.asks("totals 1"), b"hits 0 entries 0 dropped 0\n")
     same("the status", desk.ends(), 0)
 
 
-def pages(folder):
-    """A table longer than the screen goes to PAGER; where that is no program, both ends of it are shown."""
-    lines = [f"insert a-1 [000] 1.000000: sched_waking: comm=x pid={pid} prio=1 target_cpu=000" for pid in range(100)]
+def pages_long_answers(folder):
+    """A table longer than the screen goes to PAGER; if that is no program, the terminal shows both ends of it."""
+    inserts = [f"insert a-1 [000] 1.000000: sched_waking: comm=x pid={pid} prio=1 target_cpu=000" for pid in range(100)]
     pager = os.path.join(folder, "pager")
     with open(pager, "w") as file:
         file.write('#!/bin/sh\necho "$LESS"; tail -n 3\n')
     os.chmod(pager, 0o755)
-    for name, wanted in ((pager, b"FRX\n    Hits: 100\n    Entries: 100\n    Dropped: 0\n"), ("/no/pager", None)):
-        desk = Typed(rows=24, folder=folder, PAGER=shlex.quote(name), LESS="FRX")
-        for line in lines:
+    for name, expected in ((pager, b"FRX\n    Hits: 100\n    Entries: 100\n    Dropped: 0\n"), ("/no/pager", None)):
+        desk = Terminal(rows=24, folder=folder, PAGER=shlex.quote(name), LESS="FRX")
+        for line in inserts:
             desk.asks(line)
         desk.asks("attach sched_waking hist:keys=pid")
-        shown = desk.asks("hist 1")
-        if wanted:
-            same("paged", shown, wanted)
+        screen = desk.asks("hist 1")
+        if expected:
+            same("paged", screen, expected)
         else:
-            told = shown.decode().split("\n")[:-1]
+            lines = screen.decode().split("\n")[:-1]
             row = "{ pid:          0 } hitcount:          1"
-            same("cut", (len(told), told[5], told[10], told[-1]), (22, row, ".. 89 lines ..", "    Dropped: 0"))
+            same("cut", (len(lines), lines[5], lines[10], lines[-1]), (22, row, ".. 89 lines ..", "    Dropped: 0"))
         same("the status", desk.ends(), 0)
 
 
@@ -426,7 +429,7 @@ def hides_what_steers(folder):
     """A task's name doesn't steer the terminal."""
     with open(os.path.join(folder, "steers.trace"), "wb") as file:
         file.write(b"a\x1b[2J\xff-1 [000] 1.000000: sched_waking: comm=x\x07 pid=2 prio=1 target_cpu=000\n")
-    desk = Typed(folder=folder)
+    desk = Terminal(folder=folder)
     desk.asks("load steers.trace")
     line = b"0:1 a\\x1b[2J\\xff-1 [000] 1.000000: sched_waking: comm=x\\x07 pid=2 prio=1 target_cpu=000\n"
     same("listed", desk.asks("list 0"), line)
@@ -447,13 +450,13 @@ def ends_as_others(folder):
     with open("/dev/full", "wb") as full:
         ran = subprocess.run(DESK, input=b"totals 1\n", stdout=full, stderr=subprocess.PIPE)
     same("a full disk", (ran.returncode, ran.stderr), (2, b"desk: standard output: No space left on device\n"))
-    output, said, status = fed(["totals 1"], "none", folder=folder)
-    same("no trace", (output, said, status), (b"", "desk: none: No such file or directory\n", 2))
+    output, errors, status = run_from_pipe(["totals 1"], "none", folder=folder)
+    same("no trace", (output, errors, status), (b"", "desk: none: No such file or directory\n", 2))
 
 
 OTHERS = [
-    loads_by_path, tells_losses, tells_refusals, goes_on_behind_failures, knows_recordings, lists_triggers, takes_a_part,
-    tells_waits, remembers, completes, knows_completions, goes_on, pages, hides_what_steers, ends_as_others,
+    loads_by_path, reports_losses, explains_refusals, goes_on_after_failures, knows_recordings, lists_triggers, takes_a_part,
+    answers_waits, remembers, completes, knows_completions, goes_on, pages_long_answers, hides_what_steers, ends_as_others,
 ]  # fmt: skip
 
 

@@ -24,6 +24,10 @@ sys.path.insert(0, os.path.join(os.path.dirname(os.path.realpath(__file__)), "..
 import model
 
 
+# So many columns have the lines, since they aren't printed on a terminal.
+WIDTH = 80
+
+
 def escaped(text):
     return re.sub("[^ -~]", lambda byte: {"\t": "\\t", "\r": "\\r"}.get(byte[0], f"\\x{ord(byte[0]):02x}"), text)
 
@@ -50,12 +54,21 @@ def answers(script, traces):
             yield number, line, text
 
 
-def shows(told, front, text):
-    """Whether a line shows the text after `front`: whole, or where it is long a part of it, which dots may stand before."""
-    if not told.startswith(front):
+def shows(line, front, text):
+    """Whether a line shows a text after `front`: whole, and perhaps explained, or if it is long a part of it between dots."""
+    if not line.startswith(front) or len(line) > WIDTH:
         return False
-    told = told[len(front) :]
-    return told.startswith(text) if len(text) <= 300 else told.removeprefix("..")[:100] in text
+    line = line[len(front) :]
+    if len(front) + len(text) <= WIDTH - 4:
+        return line == text or line.startswith(text + ": ")
+    return line.removeprefix("..").removesuffix("..") in text and len(line) >= WIDTH - len(front) - 8
+
+
+def is_tail(shown, tail, command):
+    """Whether what a line shows from a caret on is the end of a command, which may be cut, or be explained after it."""
+    if command is not None:
+        return shown.startswith(tail + ": ")
+    return shown == tail or shown.endswith("..") and tail.startswith(shown.removesuffix(".."))
 
 
 def behind_rows(told, at):
@@ -88,22 +101,26 @@ def first_wrong(row, told):
         command = escaped(line.strip(" "))
         if not told[at : at + 1] or not shows(told[at], front, command):
             return f"line {number}: not explained: {told[at : at + 1]}"
-        at += 1
-        if " at " in text and len(line) <= 300:
+        is_whole = told[at].startswith(front + command + ": ")
+        # If the desk gives no place, explain may have found one.
+        caret = told[at + 1 : at + 2] if re.fullmatch(" +\\^", "".join(told[at + 1 : at + 2])) else []
+        if " at " in text:
             tail = escaped(placed_text(line, text)[int(text.split(" at ")[1]) :])
-            wanted = " " * (len(front) + len(command) - len(tail)) + "^"
-            if told[at : at + 1] != [wanted]:
-                return f"line {number}: no caret at its place: {told[at : at + 1]}"
-        # Where the desk names no place, explain may have found one.
-        at += bool(re.fullmatch(" +\\^", "".join(told[at : at + 1])))
-        bad = re.fullmatch("refused 3: line ([0-9]+) fault [0-9]", text)
-        if bad and line.strip(" ").startswith("load"):
-            trace = lines_of_traces[int(line.partition("@")[2]) - 1]
-            shown = escaped(trace[int(bad[1]) - 1])
-            is_long = len(shown) > 300 and told[at : at + 1] and shows(told[at], "    ", shown)
-            if not is_long and told[at : at + 1] != ["    " + shown]:
-                return f"line {number}: not the trace's line: {told[at : at + 1]}"
+            is_there = caret and is_tail(told[at][caret[0].index("^") :], tail, command if is_whole else None)
+            if not is_there:
+                return f"line {number}: no caret at its place: {told[at : at + 2]}"
+        at += 1 + len(caret)
+        start = at
+        while told[at : at + 1] and told[at].startswith("    ") and len(told[at]) <= WIDTH:
             at += 1
+        bad = re.fullmatch("refused 3: line ([0-9]+) fault [0-9]", text)
+        is_load = bad and line.strip(" ").startswith("load")
+        if at - start < (not is_whole) + bool(is_load):
+            return f"line {number}: not explained: {told[start : at + 1]}"
+        if is_load:
+            trace = lines_of_traces[int(line.partition("@")[2]) - 1]
+            if not shows(told[at - 1], "    ", escaped(trace[int(bad[1]) - 1])):
+                return f"line {number}: not the trace's line: {told[at - 1]}"
     return None if at == len(told) else f"more is told: {told[at]}"
 
 

@@ -3,9 +3,9 @@
 
     filtered.py TOOLS
 
-TOOLS is the folder of perf_filter.c, which is compiled here. The events have short structs, as those of an older perf, raw
-bytes that end early or are of another kind, numbers at their limits, odd names, and tasks that are gone. What isn't here is not
-tried, and a line says so. The last line says how many of how many things hold."""
+TOOLS is the folder of the tools; helpers/perf_filter.c is compiled here. The events have short structs, as those of an older
+perf, raw bytes that end early or are of another kind, numbers at their limits, odd names, and tasks that are gone. What isn't
+here is not tried, and a line says so. The last line says how many of how many things hold."""
 
 import ast
 import ctypes
@@ -21,10 +21,11 @@ from typing import Any, Dict, List, Tuple
 sys.dont_write_bytecode = True
 
 TOOLS = os.path.realpath(sys.argv[1])
-sys.path.insert(0, TOOLS)
+FILTER = os.path.join(os.path.dirname(TOOLS), "helpers", "perf_filter.c")
+sys.path.insert(0, os.path.join(os.path.dirname(TOOLS), "python"))
 
-import turning_blocks
 from checks import check, finish
+from histdesk.convert import blocks as block_format
 
 WORDS = [b"sched_waking:7:36:0:8,24,28,32,-1", b"sched_switch:9:64:8:8,24,28,32,40,56,60", b"states:255:256:1=S,2=D"]
 WAKING, SWITCH = b"sched:sched_waking", b"sched:sched_switch"
@@ -115,8 +116,8 @@ def filtered(path: str, words: List[bytes], events: List[Event]) -> Tuple[List[i
     )
     answers = [int(line) for line in ran.stderr.split()] if ran.returncode == 0 else [ran.returncode]
     try:
-        blocks = [(what, bytes(text)) for what, text, _ in turning_blocks.blocks(io.BytesIO(ran.stdout), None)]
-    except turning_blocks.Unfit:
+        blocks = [(what, bytes(text)) for what, text, _ in block_format.blocks(io.BytesIO(ran.stdout), None)]
+    except block_format.Unfit:
         blocks = []
     return answers, blocks
 
@@ -217,7 +218,7 @@ def main() -> None:
         path = os.path.join(folder, "perf_filter.so")
         words = ["cc", "-std=c11", "-O1", "-fPIC", "-shared", "-Wall", "-Wextra", "-Werror", "-pedantic", "-o", path]
         try:
-            made = subprocess.run([*words, os.path.join(TOOLS, "perf_filter.c")], capture_output=True)
+            made = subprocess.run([*words, FILTER], capture_output=True)
         except FileNotFoundError:
             print("not tried: perf's filter: no compiler")
             return

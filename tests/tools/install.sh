@@ -1,6 +1,6 @@
 #!/usr/bin/env bash
 # install.sh HISTDESK HISTWATCH LIBRARY: puts these programs, and this libhistdesk.so.0 with the libhistdesk.a beside it,
-# below empty prefixes by tools/install and tools/package, and uses what stands there as one does who has neither the
+# below empty prefixes by build/install and build/package, and uses what stands there as one does who has neither the
 # repository nor the Rattle kit. It prints what went wrong, and a last line with the counts.
 # shellcheck disable=SC2154 # what counts.sh assigns
 set -uo pipefail
@@ -38,30 +38,31 @@ used_programs() {
     prints "$1, explain" $'refused 16\n  line 1: hits 1: there is no such command or event; did you mean hist?\n          ^'
     gives "$1, bars" 0 "" "${alone[@]}" bash -c 'histdesk latencies.script wakeups.trace | histdesk-bars | grep -c @@@'
     prints "$1, bars" 7
-    gives "$1, desk" 0 "" "${alone[@]}" histdesk-desk wakeups.trace <wakeups.script
-    prints "$1, desk" "$(<"$examples/wakeups.expected")"
-    for tool in waits why diff view export desk explain record from-perf from-trace-cmd; do
+    for tool in summary waits why diff view export desk explain record from-perf from-trace-cmd; do
         gives "$1, $tool --help" 0 "" "${alone[@]}" "histdesk-$tool" --help
         same "$1, $tool --help" "$(grep -o "^usage: [^ ]*" "$folder/out")" "usage: histdesk-$tool"
         same "$1, $tool of the repository" "$(grep -c 'tools/' "$folder/out")" 0
     done
 }
 
-# The tools whose reports need numpy, or what they say where there is none.
+# The tools that need numpy, or what they report where there is none.
 used_reports() {
     local tool
     if ! "${alone[@]}" python3 -c 'import numpy' 2>"$folder/err"; then
-        for tool in waits why; do
+        for tool in summary waits why desk; do
             gives "$1, $tool" 2 "$tool: *numpy*apt-get install python3-numpy*" "${alone[@]}" "histdesk-$tool" wakeups.trace
         done
         return
     fi
+    gives "$1, desk" 0 "" "${alone[@]}" histdesk-desk wakeups.trace <wakeups.script
+    prints "$1, desk" "$(<"$examples/wakeups.expected")"
     gives "$1, waits" 0 "" "${alone[@]}" histdesk-waits wakeups.trace --kind woken --by kind --csv
     prints "$1, waits" "kind,count,total,mean,p50,p90,p99,max,end_stamp,end_cpu,end_line,task,pid,doubtful
 woken,10,263,26.3,7,12,204,204,6012001581,0,11,kworker/0:2,7105,0"
+    gives "$1, summary" 0 "" "${alone[@]}" histdesk-summary wakeups.trace --by cpu --csv
+    same "$1, summary" "$(head -n 1 "$folder/out" | cut -d , -f 1-5)" cpu,busy,idle,idle_with_waiters,longest
     gives "$1, why" 0 "" "${alone[@]}" histdesk-why wakeups.trace 0:11
-    same "$1, why" "$(head -n 1 "$folder/out")" \
-        "kworker/0:2-7105 (prio 120) waited 204 us for CPU 0, from 6012.001377 to 6012.001581, after it was woken."
+    same "$1, why" "$(head -n 1 "$folder/out")" "kworker/0:2-7105 (prio 120) waited 204 us for CPU 0, from 6012.001377 to"
     gives "$1, diff" 0 "" "${alone[@]}" histdesk-diff wakeups.trace --without 'sched_waking if pid == 7105'
     same "$1, diff" "$(sed -n 2p "$folder/out")" "without 2 of 11 sched_waking if pid == 7105"
     gives "$1, view" 0 "" "${alone[@]}" histdesk-view wakeups.trace --save page.html
@@ -127,18 +128,18 @@ used() {
         "$(git -C "$root" rev-parse HEAD)"
 }
 
-# installed WHAT WORD..: tools/install with these words ends well, and says nothing.
+# installed WHAT WORD..: build/install with these words ends well, and says nothing.
 installed() {
-    gives "$1" 0 "" "$tools/install" "${@:2}"
+    gives "$1" 0 "" "$build/install" "${@:2}"
     prints "$1" ""
 }
 
-# What tools/build has compiled for the converters, if anything, stands beside them.
+# What build/build has compiled for the converters, if anything, stands beside them.
 has_helpers() {
     local name
     for name in perf_filter.so trace_cmd_lines; do
-        same "$1, $name" "$(test -x "$prefix/lib/histdesk/tools/out/$name" && echo there)" \
-            "$(test -e "$tools/out/$name" && echo there)"
+        same "$1, $name" "$(test -x "$prefix/lib/histdesk/helpers/out/$name" && echo there)" \
+            "$(test -e "$root/helpers/out/$name" && echo there)"
     done
 }
 
@@ -183,14 +184,14 @@ DESTDIR=$folder/root installed "DESTDIR --uninstall" --uninstall /usr
 same "DESTDIR --uninstall" "$(find "$folder/root/usr")" "$folder/root/usr"
 # Where the system's Python looks below /usr/local.
 DESTDIR=$folder/root installed "below /usr/local" /usr/local
-package=$(find "$folder/root/usr/local" -name __init__.py -path '*/histdesk/*')
+package=$(find "$folder/root/usr/local" -path '*/histdesk/__init__.py')
 package=${package#"$folder/root"}
 gives "Python below /usr/local" 0 "" /usr/bin/python3 -c 'import sys; print(sys.argv[1] in sys.path)' \
     "${package%/histdesk/*}"
 prints "Python below /usr/local" True
 
 # The wheel is used by packages.sh.
-gives package 0 "" "$tools/package" "$folder/packages"
+gives package 0 "" "$build/package" "$folder/packages"
 version=$(sed -n 's/.*_\(.*\)_amd64\.deb$/\1/p' "$folder/out")
 gives "deb's fields" 0 "" dpkg-deb -f "$folder/packages/histdesk_${version}_amd64.deb" Package Version Architecture
 prints "deb's fields" "Package: histdesk"$'\n'"Version: $version"$'\n'"Architecture: amd64"
@@ -203,21 +204,20 @@ used tarball
 
 # ---- Words and files that are wrong.
 
-gives "install --help" 0 "" "$tools/install" --help
-gives "install's words" 2 "install: no such option: --what; --help says more" "$tools/install" --what
-gives "install's prefixes" 2 "install: takes one word, PREFIX; --help says more" "$tools/install" /a /b
-gives "nothing to uninstall" 1 "install: nothing is installed in $folder/none: *" "$tools/install" --uninstall "$folder/none"
-BUILT_HISTDESK=$folder/none gives "no program" 1 "install: cannot read $folder/none" "$tools/install" "$folder/never"
-gives "no folder" 1 "install: cannot make $folder/wakings.c/in" "$tools/install" "$folder/wakings.c/in"
+gives "install --help" 0 "" "$build/install" --help
+gives "install's words" 2 "install: no such option: --what; --help says more" "$build/install" --what
+gives "install's prefixes" 2 "install: expects one argument, PREFIX; --help says more" "$build/install" /a /b
+gives "nothing to uninstall" 1 "install: nothing is installed in $folder/none: *" "$build/install" --uninstall "$folder/none"
+BUILT_HISTDESK=$folder/none gives "no program" 1 "install: cannot read $folder/none" "$build/install" "$folder/never"
+gives "no folder" 1 "install: cannot make $folder/wakings.c/in" "$build/install" "$folder/wakings.c/in"
 same "nothing is put there" "$(find "$folder/never" 2>&1)" "find: ‘$folder/never’: No such file or directory"
-gives "package --help" 0 "" "$tools/package" --help
-gives "build --help" 0 "" "$tools/build" --help
-gives "build's words" 2 "build: takes no words; --help says more" "$tools/build" all
-gives "link --help" 0 "" "$tools/link" --help
-gives "needs --help" 0 "" "$tools/needs" --help
-gives "needs' words" 2 "needs: takes --missing or nothing; --help says more" "$tools/needs" all
-gives needs 0 "" "$tools/needs"
+gives "package --help" 0 "" "$build/package" --help
+gives "build --help" 0 "" "$build/build" --help
+gives "build's words" 2 "build: all is none of histdesk, histwatch, library, helpers; --help says more" "$build/build" all
+gives "helpers --help" 0 "" "$build/helpers" --help
+gives "link --help" 0 "" "$build/link" --help
+gives "needs --help" 0 "" "$build/needs" --help
+gives needs 0 "" "$build/needs"
 same needs "$(wc -l <"$folder/out") $(cut -d ' ' -f 1-4 "$folder/out")" "1 apt-get install bash git"
 
-echo "$passed passed, $failed failed"
-((failed == 0))
+finish

@@ -13,11 +13,12 @@ examples=$(realpath -- "$tests/../examples")
 
 root=$folder/repository
 launcher=$root/histdesk
-mkdir -p -- "$root/tools" "$root"/crates/{histdesk,histwatch}/out "$folder/work"
+mkdir -p -- "$root"/{build,tools} "$root"/crates/{histdesk,histwatch}/out "$folder/work"
 cp -- "$tests/../histdesk" "$tests/../histwatch" "$root"
 cp -- "$tests/../tools/words" "$root/tools"
-# Says that something would be built now, where that is due.
-echo ": >'$folder/built'" >"$root/tools/build"
+# Writes down what is to be built, and fails if the file `faulty` is there.
+printf '%s\n' '#!/bin/sh' "echo \"\$*\" >'$folder/built'" "[ ! -e '$folder/faulty' ] || exit 2" >"$root/build/build"
+chmod +x -- "$root/build/build"
 ln -s -- "$program" "$root/crates/histdesk/out/histdesk"
 ln -s -- "$watching" "$root/crates/histwatch/out/histwatch"
 cd -- "$folder/work" || exit
@@ -39,12 +40,12 @@ on_terminal() {
 # ---- words that the program refuses, before anything is built
 
 for word in --help -h; do
-    gives "$word" 2 $'histdesk: bad words\n\nhistdesk \\[SCRIPT \\[TRACE\\]...\\]: *Exit status: 0 *explain, *desk is *Kit: *' \
+    gives "$word" 2 $'histdesk: bad words\n\nhistdesk \\[SCRIPT \\[TRACE\\]...\\]: *Exit status: 0 *explain takes *desk is *Kit: *' \
         "$launcher" x "$word"
     prints "$word" ""
 done
 gives "histwatch --help" 2 $'histwatch: bad words\n\nhistdesk *' "$root/histwatch" --help
-tells option 2 $'histdesk: bad words\nhistdesk: --strict is no option, as there are none; a file *' \
+tells option 2 $'histdesk: bad words\nhistdesk: there is no option --strict; write -- before *' \
     "" load --strict wakeups.trace
 on_terminal "$launcher --version; echo \$?" 
 sed -i -n '1p; /^histdesk \[SCRIPT/p; $p' "$folder/out"
@@ -58,8 +59,15 @@ tells "after --" 2 $'histdesk: cannot read -x\nhistdesk: -x: there is no such fi
 # ---- words that it takes
 
 tells nothing 0 "" "$(<"$examples/wakeups.expected")" wakeups.script wakeups.trace
+gives "only histdesk is built" 0 "" cat -- "$folder/built"
+prints "only histdesk is built" histdesk
 gives histwatch 0 "" "$root/histwatch" "$examples/changes.script" wakeups.trace
-tells "- as a TRACE" 2 $'histdesk: cannot read -\nhistdesk: - in the place of a TRACE is a file *; /dev/stdin is *' \
+gives "only histwatch is built" 0 "" cat -- "$folder/built"
+prints "only histwatch is built" histwatch
+: >"$folder/faulty"
+tells "not built" 2 "" "" wakeups.script wakeups.trace
+rm -- "$folder/faulty"
+tells "- as a TRACE" 2 $'histdesk: cannot read -\nhistdesk: - as a TRACE is the name of a file; * /dev/stdin there' \
     "" load -
 gives /dev/stdin 0 "" "$launcher" load /dev/stdin <wakeups.trace
 cp -- wakeups.trace ./-
@@ -100,20 +108,30 @@ tells "perf script" 1 "histdesk: printed-by-perf is what perf script printed; $r
 printf '%s\n' 'cpus=4' '  a-1  [000]  1.000000000: sched_waking: comm=a pid=18 prio=0 target_cpu=000' >reported
 tells "trace-cmd report" 1 "histdesk: reported is what trace-cmd report printed; $root/tools/from-trace-cmd *" \
     'refused 3: line 1 fault 1' load reported
-gives "perf.data as the script" 1 "histdesk: by-perf is a recording of perf; *" "$launcher" by-perf
-looks='histdesk: wakeups.trace looks like a trace, and the script stands before it'
-gives "a trace as the script" 1 "$looks: $launcher SCRIPT wakeups.trace" "$launcher" wakeups.trace
-gives "turned round" 1 "$looks: $launcher load wakeups.trace" "$launcher" wakeups.trace load
+# In the script's place they are refused once, and nothing is run.
+tells "perf.data as the script" 2 "histdesk: by-perf is a recording of perf; *" "" by-perf
+looks='histdesk: wakeups.trace looks like a trace, and the script comes before it'
+waits="; $root/tools/waits wakeups.trace needs no script"
+tells "a trace as the script" 2 "$looks: $launcher SCRIPT wakeups.trace$waits" "" wakeups.trace
+tells "in the wrong order" 2 "$looks: $launcher load wakeups.trace$waits" "" wakeups.trace load
 tail -n +12 wakeups.trace >headless
-gives "a trace without a header" 1 'histdesk: headless looks like a trace, *' "$launcher" headless
-printf '%s\n' '# tracing' 'insert a-1 [000] 1.000000: sched_waking: comm=w pid=42 prio=120 target_cpu=000' >inserts
+tells "a trace without a header" 2 'histdesk: headless looks like a trace, *' "" headless
+{ head -n 11 wakeups.trace && echo 'bash-1  0d..1    1us : sched_waking'; } >other-layout
+tells "a trace of another layout" 2 'histdesk: other-layout looks like a trace, *' "" other-layout
+looks='histdesk: /dev/stdin looks like a trace, *'
+gives "a trace as standard input" 2 "$looks" "$launcher" <wakeups.trace
+prints "a trace as standard input" ""
+gives "a trace as -" 2 "$looks" "$launcher" - load <wakeups.trace
+gives "a script as standard input" 0 "" "$launcher" - wakeups.trace <load
+prints "a script as standard input" "loaded 27"
+printf '%s\n' '# tracer: nop' 'insert a-1 [000] 1.000000: sched_waking: comm=w pid=42 prio=120 target_cpu=000' >inserts
 gives "a script of trace lines" 0 "" "$launcher" inserts
-# Told before anything is printed, and on a terminal once more after all of it.
-"$launcher" wakeups.trace 2>&1 </dev/null | head -n 1 >"$folder/out"
-prints "told first" "$looks: $launcher SCRIPT wakeups.trace"
-on_terminal "$launcher wakeups.trace"
-sed -i -n '1p;$p' "$folder/out"
-prints "on a terminal" "$looks: $launcher SCRIPT wakeups.trace"$'\n'"$looks: $launcher SCRIPT wakeups.trace"
+gives "a script with a trace's header" 0 "" "$launcher" <(head -n 11 wakeups.trace && cat load) wakeups.trace
+{ head -n 11 wakeups.trace && cat load; } >with-header
+tells "a script with a trace's header" 0 "" "loaded 27" with-header wakeups.trace
+on_terminal "$launcher wakeups.trace; echo \$?"
+prints "on a terminal" "histdesk: wakeups.trace looks like a trace, and the script comes before it: $launcher SCRIPT wakeups.trace$waits
+2"
 on_terminal "$launcher"
 prints "typed on a terminal" "histdesk: reads commands from the terminal until Ctrl-D; $root/tools/desk has a prompt, with help"
 
@@ -155,5 +173,4 @@ else
     fail "ended by a signal: status $status"
 fi
 
-echo "$passed passed, $failed failed"
-((failed == 0))
+finish

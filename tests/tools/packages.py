@@ -67,12 +67,12 @@ def copyright_things(path: str) -> Things:
         Its path.
     """
     text = text_of(path)
-    found = paragraphs(text)
+    fields = paragraphs(text)
     lines = [line for line in text.splitlines() if line and not re.match(r" \S| \.$|  |[A-Z][A-Za-z-]*:", line)]
     yield f"copyright has lines of no field: {lines}", not lines
-    yield "copyright names no format", found[0].get("Format", "").strip() == FORMAT
-    texts = {one["License"].split("\n")[0].strip(): one["License"] for one in found[1:] if "Files" not in one}
-    for one in found[1:]:
+    yield "copyright names no format", fields[0].get("Format", "").strip() == FORMAT
+    texts = {one["License"].split("\n")[0].strip(): one["License"] for one in fields[1:] if "Files" not in one}
+    for one in fields[1:]:
         if "Files" in one:
             yield f"copyright names nobody for {one['Files']}", bool(one.get("Copyright", "").strip())
             for name in re.split(r",? (?:or|and) ", one["License"].strip()):
@@ -98,8 +98,8 @@ def record_things(archive: zipfile.ZipFile, rows: List[List[str]]) -> Things:
     yield "RECORD doesn't list each file once", sorted(names) == sorted(archive.namelist())
     for name, digest, size in rows:
         text = archive.read(name)
-        told = "sha256=" + base64.urlsafe_b64encode(hashlib.sha256(text).digest()).rstrip(b"=").decode()
-        is_right = (digest, size) == (told, str(len(text))) if digest else name.endswith("/RECORD")
+        expected = "sha256=" + base64.urlsafe_b64encode(hashlib.sha256(text).digest()).rstrip(b"=").decode()
+        is_right = (digest, size) == (expected, str(len(text))) if digest else name.endswith("/RECORD")
         yield f"RECORD has another digest or size of {name}", is_right
 
 
@@ -113,25 +113,25 @@ def wheel_things(path: str) -> Things:
     """
     name, version, tag = os.path.basename(path)[: -len(".whl")].split("-", 2)
     with zipfile.ZipFile(path) as archive:
-        told = {one: archive.read(f"{name}-{version}.dist-info/{one}").decode() for one in ("RECORD", "WHEEL", "METADATA")}
+        texts = {one: archive.read(f"{name}-{version}.dist-info/{one}").decode() for one in ("RECORD", "WHEEL", "METADATA")}
         commands = archive.read(f"{name}-{version}.dist-info/entry_points.txt").decode()
-        yield from record_things(archive, list(csv.reader(told["RECORD"].splitlines())))
+        yield from record_things(archive, list(csv.reader(texts["RECORD"].splitlines())))
         yield "files of several times", len({one.date_time for one in archive.infolist()}) == 1
         there = archive.namelist()
-    yield f"WHEEL has another tag than {tag}", f"\nTag: {tag}\n" in told["WHEEL"]
+    yield f"WHEEL has another tag than {tag}", f"\nTag: {tag}\n" in texts["WHEEL"]
     for line in ["numpy", 'pandas; extra == "pandas"', 'distributed; extra == "dask"']:
-        yield f"METADATA doesn't require {line}", f"\nRequires-Dist: {line}\n" in told["METADATA"]
-    found = re.findall(r"^histdesk-([a-z-]+) = histdesk_tools:([a-z_]+)$", commands, re.MULTILINE)
-    yield "no commands", len(found) == commands.count(" = ") > 0
-    for command, entry in found:
-        is_there = f"histdesk_tools/tools/{command}" in there and entry.replace("_", "-") == command
+        yield f"METADATA doesn't require {line}", f"\nRequires-Dist: {line}\n" in texts["METADATA"]
+    entries = re.findall(r"^histdesk-([a-z-]+) = histdesk\.cli\.([a-z_]+):main$", commands, re.MULTILINE)
+    yield "no commands", len(entries) == commands.count(" = ") > 0
+    for command, entry in entries:
+        is_there = f"histdesk/cli/{entry}.py" in there and entry.replace("_", "-") == command
         yield f"no tool for {command}", is_there
 
 
 def main() -> int:
     """Prints what went wrong."""
     things = [*copyright_things(sys.argv[1]), *wheel_things(sys.argv[2])]
-    wrong = [told for told, is_so in things if not is_so]
+    wrong = [message for message, is_so in things if not is_so]
     print("\n".join([*wrong, f"{len(things) - len(wrong)} of {len(things)} things hold"]))
     return 1 if wrong else 0
 

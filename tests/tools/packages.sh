@@ -1,9 +1,9 @@
 #!/usr/bin/env bash
-# packages.sh HISTDESK HISTWATCH LIBRARY: has tools/package make a Debian package, a tarball and a wheel of these programs and
+# packages.sh HISTDESK HISTWATCH LIBRARY: has build/package make a Debian package, a tarball and a wheel of these programs and
 # of this libhistdesk.so.0 with the libhistdesk.a beside it, twice. They are the same bytes, name one version, which is that of
-# python/histdesk/_version.py, and have the licences. The wheel is installed into an empty environment of Python and used there,
-# without the repository and the Rattle kit; install.sh uses what stands in the other two. It prints what went wrong, what was
-# not tried and why, and a last line with the counts.
+# python/histdesk/_version.py, and have the licences. The tarball has a README, whose commands work after its env.sh. The wheel
+# is installed into an empty environment of Python and used there, without the repository and the Rattle kit; install.sh uses
+# what is in the other two. It prints what went wrong, what was not tried and why, and a last line with the counts.
 # shellcheck disable=SC2154 # what counts.sh assigns
 set -uo pipefail
 
@@ -18,14 +18,14 @@ same_file() {
 # ---- What is made, and twice the same.
 
 version=$(sed -n 's/^__version__ = "\(.*\)"$/\1/p' "$root/python/histdesk/_version.py")
-gives package 0 "" "$tools/package" "$folder/packages"
+gives package 0 "" "$build/package" "$folder/packages"
 mapfile -t made <"$folder/out"
 deb=$folder/packages/histdesk_${version}_amd64.deb
 tarball=$folder/packages/histdesk-$version-linux-x86_64.tar.gz
 wheel=${made[2]-}
 same "the files" "${made[*]:0:2}" "$deb $tarball"
 same "the wheel's name" "${wheel/_2_[0-9]*_x/_2_N_x}" "$folder/packages/histdesk-$version-py3-none-manylinux_2_N_x86_64.whl"
-gives "package again" 0 "" "$tools/package" "$folder/again"
+gives "package again" 0 "" "$build/package" "$folder/again"
 for file in "${made[@]}"; do
     same_file "${file##*/} again" "$file" "$folder/again/${file##*/}"
 done
@@ -53,6 +53,31 @@ done
 has "the version of python/" "$root/python/pyproject.toml" 'version = { attr = "histdesk\._version\.__version__" }'
 has "the wheel's version" "$folder/wheel/histdesk-$version.dist-info/METADATA" "Version: ${version//./\\.}" 'Name: histdesk'
 same CHANGELOG.md "$(head -n 12 "$root/CHANGELOG.md" | grep -oFw -m 1 -- "$version")" "$version"
+
+# ---- The tarball: env.sh sets what its README says, in bash from any folder, and in a POSIX shell in its own.
+
+has README "$tree/README" "histdesk $version for Linux on x86-64" '.*glibc [0-9.]* or later\..*' '    \. \./env\.sh'
+same "names that README leaves open" "$(grep -cw 'VERSION\|GLIBC' "$tree/README")" 0
+while read -r name _; do
+    same "README's $name" "$(compgen -G "$tree/${name%,}" | wc -l)" 1
+done < <(sed -n '/^    bin /,$p' "$tree/README")
+# in_tarball WHAT FOLDER SHELL COMMAND: the command after env.sh, in an environment that has nothing else.
+in_tarball() {
+    gives "$1" 0 "" env -i -C "$2" PATH=/usr/bin:/bin "HOME=$folder" "$3" -c "$4" </dev/null
+}
+while read -r command; do
+    in_tarball "README's $command" "$tree" bash ". ./env.sh && $command"
+done < <(sed -n '/^Then try:/,/^It needs/s/^    \(histdesk.*\|python3.*\)/\1/p' "$tree/README")
+prints "README's version" "$version"
+for shell in bash dash; do
+    in_tarball "$shell, env.sh" "$tree" "$shell" ". ./env.sh && command -v histdesk && command -v histdesk-waits &&
+        pkg-config --modversion histdesk"
+    prints "$shell, env.sh" "$tree/bin/histdesk"$'\n'"$tree/bin/histdesk-waits"$'\n'"$version"
+done
+in_tarball "env.sh from another folder" "$folder" bash ". ${tree@Q}/env.sh && echo \"\$MANPATH\" && histwatch </dev/null"
+prints "env.sh from another folder" "$tree/share/man:"
+gives "dash in another folder" 0 "env.sh: histdesk isn't in $folder; *" env -i -C "$folder" PATH=/usr/bin:/bin \
+    dash -c ". ${tree@Q}/env.sh"
 
 # ---- The licences.
 
@@ -87,7 +112,8 @@ answers() {
 used_package() {
     answers "the wheel's library" "$version $folder/env/lib/pythonN/site-packages/histdesk/libhistdesk.so.0" python -c '
 import re, histdesk
-print(histdesk.__version__, re.sub("/python[0-9.]+/", "/pythonN/", histdesk._library.library._name))'
+from histdesk.native.library import library
+print(histdesk.__version__, re.sub("/python[0-9.]+/", "/pythonN/", library._name))'
     answers "a question" "27 woken 204" python -c '
 import histdesk
 desk = histdesk.Desk()
@@ -98,14 +124,14 @@ print(desk.load(histdesk.read("wakeups.trace")), row.kind, row.max)'
 # Each tool, by its command.
 used_tools() {
     local name
-    for name in waits why diff view export desk record from-perf from-trace-cmd; do
+    for name in summary waits why diff view export desk record from-perf from-trace-cmd; do
         gives "$name --help" 0 "" "${alone[@]}" "histdesk-$name" --help
         same "$name --help" "$(grep -o "^usage: [^ ]*" "$folder/out" | grep -o 'histdesk-.*')" "histdesk-$name"
         same "$name of the repository" "$(grep -c 'tools/' "$folder/out")" 0
     done
     answers waits "kind,count,total,mean,p50,p90,p99,max,end_stamp,end_cpu,end_line,task,pid,doubtful
 woken,10,263,26.3,7,12,204,204,6012001581,0,11,kworker/0:2,7105,0" histdesk-waits wakeups.trace --kind woken --by kind --csv
-    answers why "kworker/0:2-7105 (prio 120) waited 204 us for CPU 0, from 6012.001377 to 6012.001581, after it was woken." \
+    answers why "kworker/0:2-7105 (prio 120) waited 204 us for CPU 0, from 6012.001377 to" \
         bash -c 'histdesk-why wakeups.trace 0:11 | head -n 1'
     answers diff "without 2 of 11 sched_waking if pid == 7105" \
         bash -c "histdesk-diff wakeups.trace --without 'sched_waking if pid == 7105' | sed -n 2p"
@@ -148,13 +174,12 @@ if [[ -n $python ]]; then
     gives "an environment" 0 "" "$python" -m venv --system-site-packages "$folder/env"
     used
 else
-    echo "not tried: the wheel, since no Python has both ensurepip and numpy"
+    skip "the wheel, since no Python has both ensurepip and numpy"
 fi
 
 # ---- Words that are wrong.
 
-gives "wheel --help" 0 "" "$root/tools/wheel" --help
-gives "wheel's words" 2 "wheel: takes TREE, GLIBC and FOLDER; --help says more" "$root/tools/wheel" "$tree" 3 "$folder"
+gives "wheel --help" 0 "" "$root/build/wheel" --help
+gives "wheel's arguments" 2 "wheel: expects TREE, GLIBC and FOLDER; --help says more" "$root/build/wheel" "$tree" 3 "$folder"
 
-echo "$passed passed, $failed failed"
-((failed == 0))
+finish

@@ -3,7 +3,7 @@
 
     quickly.py TOOLS
 
-TOOLS is the folder of the scripts, of which it takes a copy and compiles what tools/build compiles. As root, it records this
+TOOLS is the folder of the scripts, of which it takes a copy and compiles what build/build compiles. As root, it records this
 machine by perf and trace-cmd: with lost events, packed, with call chains, a single task, other events, odd names, and tasks
 that are renamed and end. Each recording gives the same bytes, the same words and the same status both ways. Words that tell
 the filter something wrong are noticed; what is written first is not written twice. What isn't here is not tried, and a line
@@ -13,6 +13,7 @@ import io
 import os
 import random
 import shutil
+import signal
 import subprocess
 import sys
 import tempfile
@@ -22,14 +23,15 @@ from typing import Dict, List, NamedTuple, Tuple
 sys.dont_write_bytecode = True
 
 TOOLS = os.path.realpath(sys.argv[1])
-sys.path.insert(0, TOOLS)
+ROOT = os.path.dirname(TOOLS)
+sys.path.insert(0, os.path.join(ROOT, "python"))
 
-import event_formats
-import turning_blocks
 from checks import check, finish
-from turning_told import Stop
+from histdesk import _schema
+from histdesk.convert import blocks, perf_formats
+from histdesk.convert.report import ConversionError
 
-SCHED = [f"-esched:{name}" for name in event_formats.EVENTS]
+SCHED = [f"-esched:{name}" for name in _schema.TRACED_EVENTS]
 ROUNDS, LIMIT = 300, 100
 
 
@@ -63,7 +65,7 @@ def switch_format(state_size: int = 8, mask: str = "((0x1 | 0x2) << 1)", states:
 def waking_format(has_success: bool) -> str:
     """The format of a waking; older kernels tell of success."""
     fields = field("char comm[16]", 8, 16) + field("pid_t pid", 24, 4) + field("int prio", 28, 4) + field("int success", 32, 4)
-    text = event_formats.WAKING_TEXTS[has_success]
+    text = perf_formats.WAKING_TEXTS[has_success]
     return f"name: sched_waking\nID: 301\nformat:\n{COMMON}\n{fields}{field('int target_cpu', 36, 4)}\nprint fmt: {text}\n"
 
 
@@ -80,13 +82,13 @@ def tracing_data(*texts: str) -> bytes:
 
 
 def words(*texts: str) -> List[str]:
-    return event_formats.words_of(event_formats.formats(tracing_data(*texts)))
+    return perf_formats.filter_arguments(perf_formats.formats(tracing_data(*texts)))
 
 
 def is_unknown(*texts: str) -> bool:
     try:
         words(*texts)
-    except event_formats.Unknown:
+    except perf_formats.Unknown:
         return True
     return False
 
@@ -112,8 +114,8 @@ def check_formats() -> None:
     content, torn = tracing_data(switch_format(), waking_format(False)), 0
     for end in range(len(content)):
         try:
-            event_formats.formats(content[:end])
-        except event_formats.Unknown:
+            perf_formats.formats(content[:end])
+        except perf_formats.Unknown:
             torn += 1
     check(torn == len(content), f"{len(content) - torn} of {len(content)} torn headers are taken")
 
@@ -130,8 +132,8 @@ def check_headers(folder: str) -> None:
         with open(path, "wb") as file:
             file.write(b"".join(parts)[: draw.choice([8, 100, 104])] + draw.randbytes(draw.choice([0, 15, 400])))
         try:
-            event_formats.formats(event_formats.tracing_data(path))
-        except event_formats.Unknown:
+            perf_formats.formats(perf_formats.tracing_data(path))
+        except perf_formats.Unknown:
             told += 1
     check(told == ROUNDS, f"{ROUNDS - told} of {ROUNDS} false headers have formats")
 
@@ -140,31 +142,31 @@ def check_headers(folder: str) -> None:
 
 
 def block(what: bytes, text: bytes = b"", lines: int = 0) -> bytes:
-    return turning_blocks.HEAD.pack(turning_blocks.MARK, what, len(text), lines, 0) + text
+    return blocks.HEAD.pack(blocks.MARK, what, len(text), lines, 0) + text
 
 
 def check_blocks() -> None:
     """Blocks are whole, and there is a last one."""
     good = block(b"L", b"one\n", 1) + block(b"T", b"two\n") + block(b"E")
-    found = list(turning_blocks.blocks(io.BytesIO(good + b"three\n"), None))
+    found = list(blocks.blocks(io.BytesIO(good + b"three\n"), None))
     check(
         found == [(b"L", b"one\n", 1), (b"T", b"two\n", 0), (b"E", b"", 0), (b"T", b"three\n", 0), (b"E", b"", 0)], f"{found}"
     )
     bad = [good[:end] for end in range(len(good))] + [
         b"a text of perf\n" * 9,
-        turning_blocks.HEAD.pack(b"\0hd", b"L", 1 << 31, 0, 0),
+        blocks.HEAD.pack(b"\0hd", b"L", 1 << 31, 0, 0),
     ]
-    bad.append(turning_blocks.HEAD.pack(b"\0hd", b"M", turning_blocks.PIECE_ROOM + 1, 0, 0))
-    refused, memory = 0, turning_blocks.Memory()
+    bad.append(blocks.HEAD.pack(b"\0hd", b"M", blocks.PIECE_ROOM + 1, 0, 0))
+    refused, memory = 0, blocks.Memory()
     for text in bad:
         try:
-            list(turning_blocks.blocks(io.BytesIO(text), memory))
-        except turning_blocks.Unfit:
+            list(blocks.blocks(io.BytesIO(text), memory))
+        except blocks.Unfit:
             refused += 1
     check(refused == len(bad), f"{len(bad) - refused} of {len(bad)} torn blocks are taken")
     for text, is_same in ((b"abcdef", True), (b"abcXef", False), (b"ab", False)):
         file = io.BytesIO()
-        sink = turning_blocks.Sink(file)
+        sink = blocks.Sink(file)
         sink.write(b"ab")
         sink.write(b"cd")
         sink.begin_again()
@@ -173,7 +175,7 @@ def check_blocks() -> None:
                 sink.write(text[at : at + 1])
             sink.check()
             is_taken = True
-        except Stop:
+        except ConversionError:
             is_taken = False
         check(is_taken == is_same and (not is_same or file.getvalue() == text), f"{text} after abcd: {file.getvalue()}")
 
@@ -254,14 +256,20 @@ RECORDINGS: Dict[str, List[str]] = {
 def record(folder: str) -> Dict[str, str]:
     """The recordings that perf makes here, by what they are of."""
     made = {}
-    for name, what in RECORDINGS.items():
+    for name in RECORDINGS:
         path = os.path.join(folder, name.replace(" ", "-") + ".data")
-        ran = subprocess.run(["perf", "record", "-q", "-o", path, *what], capture_output=True, timeout=LIMIT)
+        ran = record_again(name, path)
         if ran.returncode == 0:
             made[name] = path
         else:
             print(f"not tried: {name}: {ran.stderr.decode(errors='replace').strip()[-200:]}")
     return made
+
+
+def record_again(name: str, path: str) -> "subprocess.CompletedProcess[bytes]":
+    """Make one of these recordings by perf."""
+    words = ["perf", "record", "-q", "-o", path, *RECORDINGS[name]]
+    return subprocess.run(words, capture_output=True, timeout=LIMIT)
 
 
 def program(folder: str, name: str, text: str) -> str:
@@ -275,19 +283,28 @@ def program(folder: str, name: str, text: str) -> str:
 
 
 def copied(folder: str, name: str, tools: str = TOOLS, more: str = "") -> str:
-    """The tools once more, with what is compiled of them if these have it, and with more at the end of event_formats.py."""
+    """The tools once more, with what is compiled for them if these have it, and with more at the end of perf_formats.py."""
     copy = os.path.join(folder, name, "tools")
-    shutil.copytree(tools, copy, ignore=shutil.ignore_patterns("__pycache__", *(["out"] if tools == TOOLS else [])))
-    with open(os.path.join(copy, "event_formats.py"), "a", encoding="ascii") as file:
+    ignored = shutil.ignore_patterns("__pycache__", *(["out"] if tools == TOOLS else []))
+    shutil.copytree(tools, copy, ignore=ignored)
+    for part in ("helpers", "python"):
+        shutil.copytree(os.path.join(os.path.dirname(tools), part), os.path.join(folder, name, part), ignore=ignored)
+    formats = os.path.join(folder, name, "python", "histdesk", "convert", "perf_formats.py")
+    with open(formats, "a", encoding="ascii") as file:
         file.write(more)
     return copy
 
 
+def compiled(tools: str) -> str:
+    """The folder of what is compiled for these tools."""
+    return os.path.join(os.path.dirname(tools), "helpers", "out")
+
+
 def built(folder: str) -> str:
-    """The tools once more, with what is compiled of them."""
+    """The tools once more, with what is compiled for them."""
     tools = copied(folder, "quick")
-    script = f"root={os.path.dirname(tools)}; . {tools}/build_helpers.sh; build_helpers"
-    ran = subprocess.run(["bash", "-euc", script], capture_output=True, timeout=LIMIT)
+    words = [os.path.join(ROOT, "build", "helpers"), os.path.dirname(compiled(tools))]
+    ran = subprocess.run(words, capture_output=True, timeout=LIMIT)
     check(ran.returncode == 0 and not ran.stderr, f"compiling: status {ran.returncode}, {ran.stderr.decode()}")
     return tools
 
@@ -298,10 +315,14 @@ def check_recordings(folder: str, made: Dict[str, str], slow: str, quick: str) -
     watch = f'#!/bin/bash\necho "$*" >>{calls}\nexec {shutil.which("perf")} "$@"\n'
     watched = program(os.path.join(folder, "watched"), "perf", watch)
     for name, path in made.items():
-        wanted, found = turned(slow, path), turned(quick, path, watched)
-        with open(calls, encoding="ascii") as file:
-            told = file.read().splitlines()
-        os.remove(calls)
+        # What happens on the machine may leave an event whose task only the slow way knows: then it is recorded once more.
+        for is_last in (False, True):
+            wanted, found = turned(slow, path), turned(quick, path, watched)
+            with open(calls, encoding="ascii") as file:
+                told = file.read().splitlines()
+            os.remove(calls)
+            if is_last or len(told) == 1 or record_again(name, path).returncode:
+                break
         is_same = found == wanted and len(wanted.trace) > 0
         check(is_same, f"{name}: {len(wanted.trace)} bytes the slow way, {len(found.trace)} quickly: {found.said[-300:]!r}")
         check(len(told) == 1 and "--dlfilter" in told[0], f"{name}: not turned quickly: {told}")
@@ -322,7 +343,7 @@ for name in set_{ftrace_filter,ftrace_notrace,graph_function,graph_notrace,ftrac
 done
 exec trace-cmd record "$@"
 """
-EVENTS = [word for name in event_formats.EVENTS for word in ("-e", name)]
+EVENTS = [word for name in _schema.TRACED_EVENTS for word in ("-e", name)]
 OTHER_EVENTS = ["-e", "irq", "-e", "timer_start", "-e", "sched_migrate_task"]
 # The name of a buffer, which is an instance of tracefs while it is recorded, and stays where that fails.
 INSTANCE = "histdesk-quickly"
@@ -363,10 +384,10 @@ def record_by_trace_cmd(folder: str) -> Dict[str, str]:
 def check_trace_cmd(folder: str, made: Dict[str, str], slow: str, quick: str) -> None:
     """Both ways give the same, and the quick one is taken where it is to be."""
     ended = os.path.join(folder, "ended")
-    real = os.path.join(quick, "out", "trace_cmd_lines")
+    real = os.path.join(compiled(quick), "trace_cmd_lines")
     watched = copied(folder, "watched-trace-cmd", quick)
     text = f'#!/bin/bash\n{real} "$@"\nstatus=$?\necho $status >{ended}\nexit $status\n'
-    program(os.path.join(watched, "out"), "trace_cmd_lines", text)
+    program(compiled(watched), "trace_cmd_lines", text)
     for name, path in made.items():
         wanted, found = turned(slow, path), turned(watched, path)
         with open(ended, encoding="ascii") as file:
@@ -392,7 +413,7 @@ def check_false(folder: str, path: str, slow: str, quick: str) -> None:
         tools = copied(folder, f"false {name}", quick)
         with open(os.path.join(tools, "text"), "wb") as file:
             file.write(text)
-        program(os.path.join(tools, "out"), "trace_cmd_lines", f"#!/bin/bash\nexec cat '{tools}/text'\n")
+        program(compiled(tools), "trace_cmd_lines", f"#!/bin/bash\nexec cat '{tools}/text'\n")
         found = turned(tools, path)
         check(found == wanted, f"lines, {name}: {len(found.trace)} of {len(wanted.trace)} bytes: {found.said[:200]!r}")
     script = f"#!/bin/bash\n{shutil.which('trace-cmd')} \"$@\" | sed -E 's/(\\[[0-9]+\\])/\\1 d..2./'\n"
@@ -405,15 +426,15 @@ def check_false(folder: str, path: str, slow: str, quick: str) -> None:
 
 # Each changes what the filter is told. The last one is right in all but a text of a state.
 PLANTED = {
-    "a field elsewhere": 'old = kind_word\ndef kind_word(*a): return old(*a).replace(":8,24,28,", ":8,28,24,")\n',
-    "a field outside": 'old = kind_word\ndef kind_word(*a): return old(*a).replace(":8,24,", ":8,4000,")\n',
-    "another number": 'old = kind_word\ndef kind_word(*a): return old(*a).replace(":36:", ":40:")\n',
-    "another state": 'old = states_word\ndef states_word(*a): return old(*a).replace("1=S", "1=D")\n',
-    "no plus": 'old = states_word\ndef states_word(*a): return old(*a).replace(":256:", ":4096:")\n',
-    "no word": 'old = kind_word\ndef kind_word(*a): return "x"\n',
-    "many bits": 'old = states_word\ndef states_word(*a): return old(*a) + ",1=S" * 99\n',
-    "a long text": 'old = states_word\ndef states_word(*a): return old(*a) + ",512=" + "S" * 99\n',
-    "an error": "def kind_word(*a): raise Unknown\n",
+    "a field elsewhere": 'old = event_argument\ndef event_argument(*a): return old(*a).replace(":8,24,28,", ":8,28,24,")\n',
+    "a field outside": 'old = event_argument\ndef event_argument(*a): return old(*a).replace(":8,24,", ":8,4000,")\n',
+    "another number": 'old = event_argument\ndef event_argument(*a): return old(*a).replace(":36:", ":40:")\n',
+    "another state": 'old = states_argument\ndef states_argument(*a): return old(*a).replace("1=S", "1=D")\n',
+    "no plus": 'old = states_argument\ndef states_argument(*a): return old(*a).replace(":256:", ":4096:")\n',
+    "no word": 'old = event_argument\ndef event_argument(*a): return "x"\n',
+    "many bits": 'old = states_argument\ndef states_argument(*a): return old(*a) + ",1=S" * 99\n',
+    "a long text": 'old = states_argument\ndef states_argument(*a): return old(*a) + ",512=" + "S" * 99\n',
+    "an error": "def event_argument(*a): raise Unknown\n",
 }
 
 
@@ -437,7 +458,7 @@ def check_stand_ins(folder: str, path: str, slow: str, quick: str) -> None:
         file.write(block(b"L", first, 100) + block(b"L", b"".join(line + b"\n" for line in lines[100:9000]), 8900) + b"torn")
     with open(os.path.join(folder, "false"), "wb") as file:
         # So many that some are written before what is false is seen.
-        false = block(b"L", first.replace(b"pid=", b"pid=1"), 100) * (2 * turning_blocks.WAITING // len(first))
+        false = block(b"L", first.replace(b"pid=", b"pid=1"), 100) * (2 * blocks.WAITING // len(first))
         file.write(false + block(b"A", b"a line\n", 1) + block(b"E"))
     front = f'#!/bin/bash\nif [[ $* != *--dlfilter* ]]; then exec {real} "$@"; fi\n'
     for name, text in {
@@ -459,7 +480,7 @@ def check_closed(path: str, tools: str) -> None:
     tool.stdout.read(1)
     tool.stdout.close()
     said = tool.stderr.read()
-    check(tool.wait(LIMIT) == 1 and not said, f"a closed pipe: status {tool.returncode}, {said!r}")
+    check(tool.wait(LIMIT) == -signal.SIGPIPE and not said, f"a closed pipe: status {tool.returncode}, {said!r}")
 
 
 def main() -> None:
@@ -471,7 +492,7 @@ def main() -> None:
             print("not tried: recordings: no perf, whose benchmarks are recorded, or not root")
             return
         slow, quick = copied(folder, "slow"), built(folder)
-        if os.path.exists(os.path.join(quick, "out", "perf_filter.so")):
+        if os.path.exists(os.path.join(compiled(quick), "perf_filter.so")):
             made = record(folder)
             check_recordings(folder, made, slow, quick)
             if "plain" in made:
@@ -480,7 +501,7 @@ def main() -> None:
                 check_closed(made["plain"], quick)
         else:
             print("not tried: recordings of perf: the filter can't be compiled")
-        if os.path.exists(os.path.join(quick, "out", "trace_cmd_lines")) and shutil.which("trace-cmd"):
+        if os.path.exists(os.path.join(compiled(quick), "trace_cmd_lines")) and shutil.which("trace-cmd"):
             made = record_by_trace_cmd(folder)
             check_trace_cmd(folder, made, slow, quick)
             if "plain" in made:

@@ -3,7 +3,7 @@
 # workload runs, and holds what that tells of losses against the text: record, the package, and no doubtful wait among the
 # greatest ones. It needs root, tracefs and python3, and for the package the library; what isn't there is not tried, and a
 # line says so. It takes some seconds. It prints what went wrong, and a last line with the counts.
-# shellcheck disable=SC2154 # what counts.sh assigns
+# shellcheck disable=SC2154,SC2317 # what counts.sh assigns; what `is` calls
 set -uo pipefail
 
 tests=$(dirname -- "$(dirname -- "$(realpath -- "${BASH_SOURCE[0]}")")")
@@ -21,9 +21,8 @@ is() {
 }
 
 not_tried() {
-    printf 'not tried: %s\n' "$1"
-    echo "$passed passed, $failed failed"
-    exit "$((failed > 0))"
+    skip "$1"
+    finish
 }
 
 # Two processes that wake each other some thousand times.
@@ -46,7 +45,7 @@ lost_of() {
 }
 
 # Of each CPU record said what the lines of the text tell, and their sum is that of the kernel's header.
-told_of_each() {
+reports_of_each() {
     local cpu count sum=0
     while read -r cpu count; do
         [[ $(lost_of "$cpu") -ge $count ]] || return
@@ -61,8 +60,8 @@ command -v python3 >/dev/null || not_tried "recording: python3 is missing"
 
 "$tools/record" --buffer 16 -o "$folder/trace" -- "${workload[@]}" 2>"$folder/err"
 is "record ends well: $(<"$folder/err")" test $? == 0
-is "the workload's end is told: $(<"$folder/err")" grep -q '^record: python3 ended with status 0$' "$folder/err"
-is "losses are told alike: $(<"$folder/err")" told_of_each
+is "the end of the workload is reported: $(<"$folder/err")" grep -q '^record: python3 ended with status 0$' "$folder/err"
+is "losses are reported alike: $(<"$folder/err")" reports_of_each
 advised=$(sed -nE 's/^record: --buffer ([0-9]+) would have held them$/\1/p' "$folder/err")
 is "a buffer is advised: $(<"$folder/err")" test -n "$advised"
 is "no instance stays" test -z "$(ls -d "$tracefs"/instances/histdesk.* 2>/dev/null)"
@@ -120,5 +119,4 @@ sure = [int(wait.micros) for wait, is_doubtful in zip(waits.array, doubtful) if 
 assert max(sure, default=None) == max((row.max for row in greatest), default=None)
 END
 is "no doubtful wait is among the greatest ones" "$python" "$folder/doubts.py" "$folder/trace"
-echo "$passed passed, $failed failed"
-((failed == 0))
+finish

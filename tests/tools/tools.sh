@@ -25,13 +25,13 @@ holds "$tests/tools/explain_rows.py" "$tools/explain" "$tests"/rows/*
 gives nothing_refused 0 "" "$tools/explain" "$examples/wakeups.script" "$examples/wakeups.trace"
 prints nothing_refused "$(<"$examples/wakeups.expected")"
 printf 'hist 7\n' >"$folder/asked"
-told=$'refused 10\n  line 1: hist 7: no such trigger is attached; none is'
+text=$'refused 10\n  line 1: hist 7: no such trigger is attached; none is'
 gives without_words 1 "" "$tools/explain" <"$folder/asked"
-prints without_words "$told"
+prints without_words "$text"
 gives standard_input 1 "" "$tools/explain" - <"$folder/asked"
-prints standard_input "$told"
+prints standard_input "$text"
 gives script_from_a_pipe 1 "" "$tools/explain" <(cat "$folder/asked")
-prints script_from_a_pipe "$told"
+prints script_from_a_pipe "$text"
 gives usage 0 "" "$tools/explain" --help
 printf '%s\n' 'insert a-1 [001] 1.000000:' 'strike 1:1' 'list 1' 'list 1' '' 'list 2' 'insert a-1 [001] 1.000000:' 'list 1' \
     'list 01' 'totals 5' >"$folder/lists"
@@ -39,7 +39,9 @@ gives empty_lists 1 "" "$tools/explain" "$folder/lists"
 prints empty_lists 'inserted 1:1
 struck 1:1
 refused 5: cpu 2
-  line 6: list 2: no events of CPU 2 are held: none was loaded or inserted, or they were unloaded
+  line 6: list 2
+    no events of CPU 2 are held: none was loaded or inserted, or they were
+    unloaded
 inserted 1:2
 1:2 a-1 [001] 1.000000:
 1:2 a-1 [001] 1.000000:
@@ -48,15 +50,19 @@ refused 10
 
 # With --strict nothing is printed after the first refused line, so no table of a trace that was not loaded.
 printf '%s\n' 'load @1' 'attach sched_waking hist:keys=pid' 'hist 1' >"$folder/strict"
-told="refused 3: line 15 fault 3
-  line 1: load @1: $examples/torn.trace, line 15: no stamp SECONDS.MICROSECONDS: stands where one is due, or the flags \
-before it have over 16 bytes
+ln -s -- "$examples/torn.trace" "$folder/torn"
+cd -- "$folder" || exit
+text="refused 3: line 15 fault 3
+  line 1: load @1
+    torn, line 15: expected a timestamp SECONDS.MICROSECONDS: here, or the flags
+    exceed 16 bytes
               <idle>-0       [003] d.h4.  6012.00"
 lost='explain: --strict ends at line 1, which was refused'
-gives strict 1 "$lost" "$tools/explain" --strict "$folder/strict" "$examples/torn.trace"
-prints strict "$told"
-gives strict_typed 1 "$lost" "$tools/explain" - --strict -- "$examples/torn.trace" <"$folder/strict"
-prints strict_typed "$told"
+gives strict 1 "$lost" "$tools/explain" --strict strict torn
+prints strict "$text"
+gives strict_typed 1 "$lost" "$tools/explain" - --strict -- torn <strict
+prints strict_typed "$text"
+cd -- "$OLDPWD" || exit
 gives strict_accepted 0 "" "$tools/explain" "$examples/wakeups.script" --strict "$examples/wakeups.trace"
 prints strict_accepted "$(<"$examples/wakeups.expected")"
 # A trace in the script's place is told, and not each of its lines; so is a recording.
@@ -85,9 +91,12 @@ script full 'echo "refused 7"; echo "refused 15"; echo "refused 1"; echo "refuse
 printf '%s\n' '# full' 'insert x' 'attach sched_switch hist:keys=next_pid' 'load @1' 'load @2' >"$folder/asked"
 HISTDESK=$folder/bin/full gives full 3 told "$tools/explain" "$folder/asked"
 prints full 'refused 7
-  line 2: insert x: more than 1048576 events would be held, or a line number would pass 4294967295
+  line 2: insert x
+    more than 1048576 events would be held, or a line number would pass
+    4294967295
 refused 15
-  line 3: attach sched_switch hist:keys=next_pid: 64 triggers are attached, or the ids are used up
+  line 3: attach sched_switch hist:keys=next_pid
+    64 triggers are attached, or the ids are used up
 refused 1
   line 4: load @1: out of memory
 refused 99
@@ -111,7 +120,7 @@ END
 script watch "cat -- '$folder/changed'" 'echo "refused 10"' 'exit 1'
 HISTDESK=$folder/bin/watch gives changed_rows 1 "" "$tools/explain" "$folder/asked"
 prints changed_rows "$(<"$folder/changed")
-  line 4: insert x: no TASK-PID [CPU] and a space begin the line
+  line 4: insert x: expected TASK-PID [CPU] and a space at the start of the line
 refused 10
   line 5: hist 9: no such trigger is attached; none is"
 script watch_twice 'echo "inserted 0:1"' 'echo "changed 0"' 'echo "changed 0"' 'echo "refused 10"'
@@ -124,7 +133,7 @@ script killed 'kill -KILL $$'
 HISTDESK=$folder/bin/killed gives killed 137 "" "$tools/explain" "$folder/asked"
 HISTDESK=$folder/bin/none gives no_program 2 "explain: cannot run *" "$tools/explain" "$folder/asked"
 # Without the library nothing runs, but --help.
-lost="explain: * needs the library libhistdesk.so.0, *$folder/none: *"$'\n'"tools/build makes it *"
+lost="explain: * needs the library libhistdesk.so.0, *$folder/none: *"$'\n'"build/build makes it *"
 HISTDESK_LIBRARY=$folder/none gives no_library 2 "$lost" "$tools/explain" "$folder/asked"
 prints no_library ""
 HISTDESK_LIBRARY=$folder/none gives usage_alone 0 "" "$tools/explain" --help
@@ -153,18 +162,18 @@ python=/usr/bin/python3
 [[ -x $python ]] || python=python3
 holds "$python" "$tests/tools/desk_prompt.py" "$tools/desk" "$tests"/rows/*
 gives desk_usage 0 "" "$tools/desk" --help
-HISTDESK_LIBRARY=$folder/none gives desk_without_library 2 "desk: histdesk needs the library *" "$tools/desk"
+HISTDESK_LIBRARY=$folder/none gives desk_without_library 2 "desk: histdesk needs the library *" "$python" "$tools/desk"
 
 # ---- help without the library
 
-for tool in waits why diff view export desk; do
+for tool in summary waits why diff view export desk; do
     HISTDESK_LIBRARY=$folder/none gives "$tool --help" 0 "" "$tools/$tool" --help
-    has "$tool --help" "$folder/out" "usage: $tool .*"
+    has "$tool --help" "$folder/out" "usage: tools/$tool .*"
 done
 # A file of that name needs it.
 : >"$folder/--help"
 HISTDESK_LIBRARY=$folder/none gives "desk -- --help" 2 "desk: histdesk needs the library *" \
-    env -C "$folder" "$tools/desk" -- --help <"$folder/--help"
+    env -C "$folder" "$python" "$tools/desk" -- --help <"$folder/--help"
 
 # ---- bars
 
@@ -259,7 +268,7 @@ prints bars_of_standard_input "$(<"$folder/drawn")"
 gives bars_of_nothing 0 "" "$tools/bars" /dev/null
 prints bars_of_nothing ""
 gives bars_usage 0 "" "$tools/bars" --help
-gives bars_of_no_file 1 "cat: $folder/none: No such file or directory" "$tools/bars" "$folder/none"
+gives bars_of_no_file 2 "bars: $folder/none: No such file or directory" "$tools/bars" "$folder/none"
 
 # ---- from-perf and from-trace-cmd
 
@@ -339,7 +348,7 @@ from-perf: line 4: *
 from-perf: line 6: *
 from-perf: line 8: *
 from-perf: line 10: *
-from-perf: 2 more lines can'"'"'t be turned and are left out too' "$tools/from-perf" "$folder/bad"
+from-perf: 2 more lines can'"'"'t be converted and are left out too' "$tools/from-perf" "$folder/bad"
 prints torn_perf "$(printf 'a-1 [000] 1.000000: x:\n%.0s' 1 2 3 4 5 6 7)"
 
 # Names that would mislead the desk, in the three texts whose columns tell them. The first has a line break.
@@ -374,7 +383,7 @@ END
 masked=${masked/4 lines/3 lines}
 odd_names=${odd_names/-events_freezable_/}
 loads odd_trace_cmd 0 "from-trace-cmd: $masked" "$odd_names" "$tools/from-trace-cmd" "$folder/odd_kernel"
-loads odd_kernel 0 "record: $masked" "$odd_names" python3 "$tools/kernel_text.py" record "$folder/odd_kernel"
+loads odd_kernel 0 "record: $masked" "$odd_names" env "PYTHONPATH=$tools/../python" python3 -m histdesk.cli.kernel_text record "$folder/odd_kernel"
 gives from_perf_usage 0 "" "$tools/from-perf" --help
 gives from_trace_cmd_usage 0 "" "$tools/from-trace-cmd" --help
 gives no_text 1 'from-perf: /none: No such file or directory' "$tools/from-perf" /none
@@ -410,8 +419,8 @@ grep -v '^ ' "$folder/buffers" | head -n 3 >"$folder/one_buffer"
 gives sole_buffer 0 'from-trace-cmd: 7 events *' "$tools/from-trace-cmd" "$folder/one_buffer"
 prints sole_buffer $'# cpus=4\na-1     [000]     1.000000: x: one\nCPU:1 [LOST 7 EVENTS]'
 gives sole_top 0 "$lost" "$tools/from-trace-cmd" --buffer / "$folder/trace-cmd"
-gives no_word 1 'from-trace-cmd: --buffer needs a word after it; *' "$tools/from-trace-cmd" --buffer
-gives no_option 1 'from-perf: no such option: --buffer; *' "$tools/from-perf" --buffer one
+gives no_word 2 'from-trace-cmd: argument --buffer: expected one argument; *' "$tools/from-trace-cmd" --buffer
+gives no_option 2 'from-perf: unrecognized arguments: --buffer; *' "$tools/from-perf" --buffer one
 
 # Files that neither of them turns, in one line.
 gzip -c "$folder/perf" >"$folder/packed.gz"
@@ -432,9 +441,9 @@ gives other_text_too 1 'from-trace-cmd: */perf is no text of trace-cmd report, b
 # Recordings, and programs that stand for perf and trace-cmd.
 printf 'PERFILE2 and more' >"$folder/perf.data"
 printf '\x17\x08\x44tracing6' >"$folder/trace.dat"
-gives other_recording 1 'from-perf: */trace.dat is a recording of trace-cmd, which tools/from-trace-cmd turns' \
+gives other_recording 1 'from-perf: */trace.dat is a recording of trace-cmd, which tools/from-trace-cmd converts' \
     "$tools/from-perf" "$folder/trace.dat"
-gives other_recording_too 1 'from-trace-cmd: */perf.data is a recording of perf, which tools/from-perf turns' \
+gives other_recording_too 1 'from-trace-cmd: */perf.data is a recording of perf, which tools/from-perf converts' \
     "$tools/from-trace-cmd" "$folder/perf.data"
 gives recording_by_input 1 'from-perf: standard input is a recording; name its file instead' \
     "$tools/from-perf" <"$folder/perf.data"
@@ -505,15 +514,15 @@ is_away() {
 
 # settings WHAT BUFFER CPUS EVENTS: what the instance was set to; of the events, whether each of five is on.
 settings() {
-    local file told=
+    local file text=
     for file in tracing_on trace_clock buffer_size_kb tracing_cpumask options/{latency-format,stacktrace,verbose,context-info} \
         events/sched/sched_{waking,wakeup,wakeup_new,switch}/enable events/irq/irq_handler_entry/enable; do
-        told+="$(<"$folder/gone/$file") "
+        text+="$(<"$folder/gone/$file") "
     done
-    if [[ $told == "0 local $2 $3 0 0 0 1 $4 " ]]; then
+    if [[ $text == "0 local $2 $3 0 0 0 1 $4 " ]]; then
         pass
     else
-        fail "$1: settings $told"
+        fail "$1: settings $text"
     fi
 }
 
@@ -543,10 +552,10 @@ records record 0 'record: 7 events, 0 lost' 0.1
 prints record "$trace"
 settings record 16384 ff '1 1 1 1 0'
 counts 2 1 5
-told=$'record: 7 events, 8 lost\nrecord: CPU 0 lost 2 of 5 events\nrecord: CPU 1 lost 6 of 10 events\n'
-records too_small 0 "${told}record: --buffer 32768 would have held them" 0.1
+text=$'record: 7 events, 8 lost\nrecord: CPU 0 lost 2 of 5 events\nrecord: CPU 1 lost 6 of 10 events\n'
+records too_small 0 "${text}record: --buffer 32768 would have held them" 0.1
 prints too_small "$trace"$'\n# CPU 0: 2 events overwritten\n# CPU 1: 0 events overwritten'
-records less_room 0 "${told}record: --buffer 128 would have held them" --buffer 64 0.1
+records less_room 0 "${text}record: --buffer 128 would have held them" --buffer 64 0.1
 settings less_room 64 ff '1 1 1 1 0'
 counts 0 0 0
 records chosen 0 'record: 7 events, 0 lost' --cpu 1,33-34 --events switch,irq:irq_handler_entry -o "$folder/chosen" 0.1
@@ -570,13 +579,13 @@ prints no_python "$trace"
 gives record_usage 0 "" "$tools/record" --help
 records no_number 2 'record: SECONDS is not a number above 0: x' x
 records no_time 2 'record: SECONDS is not a number above 0: 0.0' 0.0
-records no_seconds 2 'record: wants one word, SECONDS, *'
-records no_command 2 'record: wants a COMMAND after --; *' --
+records no_seconds 2 'record: expects one argument, SECONDS, *'
+records no_command 2 'record: expects a COMMAND after --; *' --
 records no_such_command 2 'record: there is no command none' -- none
 records bad_room 2 'record: KIB is not a number above 0: 1M' --buffer 1M 1
 records bad_option 2 'record: no such option: --all; *' --all 1
-records bad_cpus 2 'record: CPUS are none of this machine: 0-2' --cpu 0-2 1
-records bad_events 2 'record: NAMES are no names of events: switch,,waking' --events switch,,waking 1
+records bad_cpus 2 'record: CPUS is not a list of CPUs of this machine: 0-2' --cpu 0-2 1
+records bad_events 2 'record: NAMES is not a list of events: switch,,waking' --events switch,,waking 1
 records no_output 1 'record: cannot write /none/x' -o /none/x 1
 gives no_tracefs 1 "record: no*" "$tools/record" --tracefs "$folder/table" 1
 runs TERM 143 60
@@ -593,5 +602,4 @@ records no_event 1 'record: this kernel lacks the event sched_waking' 1
 rm -r -- "$tracefs/instances"
 PATH=$folder/bin:$PATH gives no_instances 1 'record: no instances in *' "$tools/record" --tracefs "$tracefs" 1
 
-echo "$passed passed, $failed failed"
-((failed == 0))
+finish

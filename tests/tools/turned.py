@@ -1,5 +1,5 @@
 #!/usr/bin/env python3
-"""Gives from-perf, from-trace-cmd and record's kernel_text.py texts whose truth is known, and what they print to the program.
+"""Gives from-perf, from-trace-cmd and record's kernel_text texts whose truth is known, and what they print to the program.
 
     turned.py TOOLS [SEED]
 
@@ -8,8 +8,6 @@ print has to be loaded, line for line, and what isn't printed has to be counted.
 names made to mislead, several buffers, and foreign bytes. The truth is the events that the texts were written from, and
 tests/model/model_line.py, which reads lines by the documents. The last line says how many of how many things hold."""
 
-import importlib.machinery
-import importlib.util
 import io
 import os
 import random
@@ -28,7 +26,8 @@ from checks import check, finish
 from model_line import LineFault, read_line
 
 TOOLS = os.path.realpath(sys.argv[1])
-sys.path.insert(0, TOOLS)
+PYTHON = os.path.join(os.path.dirname(TOOLS), "python")
+sys.path.insert(0, PYTHON)
 PROGRAM = os.environ["HISTDESK"]
 TORN, ODD = 4000, 1500
 # What misleads where it stands in a name, a line or between two.
@@ -101,7 +100,7 @@ def kernel_text(event: Happened) -> str:
 FORMS: Dict[str, Tuple[Callable[[Happened], str], List[str]]] = {
     "from-perf": (perf_text, [os.path.join(TOOLS, "from-perf")]),
     "from-trace-cmd": (report_text, [os.path.join(TOOLS, "from-trace-cmd")]),
-    "record": (kernel_text, [os.path.join(TOOLS, "kernel_text.py"), "record"]),
+    "record": (kernel_text, ["-m", "histdesk.cli.kernel_text", "record"]),
 }
 
 
@@ -110,7 +109,10 @@ def converted(words: List[str], text: bytes) -> Tuple[int, bytes, List[str]]:
     with tempfile.NamedTemporaryFile() as file:
         file.write(text)
         file.flush()
-        ran = subprocess.run([sys.executable, *words, file.name], capture_output=True, timeout=100, check=False)
+        environment = {**os.environ, "PYTHONPATH": PYTHON}
+        ran = subprocess.run(
+            [sys.executable, *words, file.name], capture_output=True, timeout=100, check=False, env=environment
+        )
     return ran.returncode, ran.stdout, ran.stderr.decode("ascii").splitlines()
 
 
@@ -132,7 +134,7 @@ def lines_of(trace: bytes) -> List[str]:
 def left_out(said: List[str]) -> int:
     """How many lines were left out, as standard error says."""
     shown = sum(bool(re.fullmatch("[a-z-]+: line [0-9]+: .*", line)) for line in said)
-    more = [int(found[1]) for found in map(re.compile(".*: ([0-9]+) more lines can't be turned.*").fullmatch, said) if found]
+    more = [int(found[1]) for found in map(re.compile(".*: ([0-9]+) more lines can't be converted.*").fullmatch, said) if found]
     return shown + sum(more)
 
 
@@ -208,7 +210,7 @@ def check_torn(name: str, seed: int) -> int:
 
 def check_sure(lines: List[str]) -> None:
     """Lines that the converters take for sure are read by the documents, too, and those that they skip are skipped."""
-    from line_patterns import SKIPPED, SURE
+    from histdesk.convert.line_patterns import SKIPPED, SURE
 
     sure = [line for line in lines if SURE.fullmatch(line.encode("latin-1"))]
     wrong = [line for line in sure if not isinstance(meaning(line), dict)]
@@ -238,14 +240,6 @@ def check_names(name: str, seed: int) -> None:
     check(status == 0 and len(said) == 1 and " would mislead the desk" in said[0], f"{name}: status {status}, {said}")
 
 
-def script_of(name: str) -> Any:
-    """A script as a module."""
-    loader = importlib.machinery.SourceFileLoader(name.replace("-", "_"), os.path.join(TOOLS, name))
-    module = importlib.util.module_from_spec(importlib.util.spec_from_loader(loader.name, loader))
-    loader.exec_module(module)
-    return module
-
-
 class Drip(io.RawIOBase):
     """A file that gives few bytes at a time."""
 
@@ -262,8 +256,9 @@ class Drip(io.RawIOBase):
 
 def check_pieces(seed: int) -> None:
     """A text that comes in small pieces is turned as one that comes at once."""
-    from turning import turn_text
-    from turning_told import Told
+    from histdesk.convert.conversion import convert_text
+    from histdesk.convert.perf import PerfFormat
+    from histdesk.convert.report import Report
 
     draw = random.Random(seed)
     text = "".join(perf_text(event) + "\n" for event in some_events(draw, 300, lambda: odd_name(draw))).encode("latin-1")
@@ -273,9 +268,9 @@ def check_pieces(seed: int) -> None:
         sys.stdout, sink = sink, sys.stdout
         real, sys.stdout = sys.stdout, sink
         try:
-            told = Told("test", "perf script", "text")
-            told.say = lambda text: None
-            turn_text(script_of("from-perf").Perf(), told, source.read(1), source)
+            report = Report("test", "perf script", "text")
+            report.say = lambda text: None
+            convert_text(PerfFormat(), report, source.read(1), source)
             traces.append(sink.buffer.getvalue())
         finally:
             sys.stdout = real
@@ -309,7 +304,7 @@ def check_gone() -> None:
 
 def check_kept(seed: int) -> None:
     """record's script looks once at lines that differ in digits alone, and finds what its pattern finds in each."""
-    from kernel_text import Kernel
+    from histdesk.convert.kernel_text import KernelFormat
 
     draw = random.Random(seed)
     events = some_events(draw, 2000, lambda: draw.choice(PLAIN) if draw.random() < 0.99 else odd_name(draw))
@@ -320,12 +315,12 @@ def check_kept(seed: int) -> None:
         pattern = draw.choice([r"\[[0-9]+\]", r" [0-9]+\.[0-9]+:", r"pid=[0-9]+"])
         lines[at] = re.sub(pattern, draw.choice(limits), lines[at], count=1)
     lines += [torn(draw, line, draw.choice(lines)) for line in lines] + ["", "# a comment", "CPU:1 [LOST 7 EVENTS]"]
-    form, wrong, kept = Kernel(), [], 0
+    form, wrong, kept = KernelFormat(), [], 0
     for _ in range(2000):
         # Most pieces of a text have plain lines alone.
         some = draw.sample(lines[: 2000 if draw.random() < 0.8 else None], draw.randint(0, 3))
         text = "".join(line + "\n" for line in some).encode("latin-1")
-        found, count = form.pattern.findall(text), form.kept(text)
+        found, count = form.pattern.findall(text), form.unchanged(text)
         kept += count > 0
         is_plain = bool(found) and not any(odd for _, odd in found) and all(line for line, _ in found)
         if count != (len(found) if is_plain and not is_limit(text) else 0) or form.find(text) != found:
@@ -340,7 +335,7 @@ def is_limit(text: bytes) -> bool:
 
 def check_ahead(seed: int) -> None:
     """A file is read ahead in pieces that are its bytes; where it can't be read, that is raised."""
-    from turning import SIZE, Ahead, Source
+    from histdesk.convert.conversion import SIZE, Ahead, Source
 
     for size in (0, 1, SIZE, SIZE + 1, 9 * SIZE + 7):
         content = random.Random(seed).randbytes(size)

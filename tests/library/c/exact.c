@@ -10,7 +10,7 @@
 #include <stdlib.h>
 #include <string.h>
 
-#define NO_EVENT "that line holds no event, or none is there"
+#define NO_EVENT "there is no event on that line"
 
 static histdesk *desk;
 
@@ -354,40 +354,40 @@ static bool is_refused(uint32_t code, histdesk_refusal want, const char *text, c
 #define REFUSED(call, text, words, ...) HOLDS(is_refused(call, (histdesk_refusal){__VA_ARGS__}, text, words))
 
 static void refuse_edits(void) {
-    static const char third[] = "the kernel has this form, and the desk has not";
+    static const char third[] = "kernel syntax that histdesk does not support";
     uint64_t count = 77;
     uint32_t id = 77;
     histdesk_line at = {77, 77};
     fill();
     REFUSED(HISTDESK_OK, "", "", .number = 0);
-    REFUSED(load("\nhello", &count), "refused 3: line 2 fault 1", "line 2: no TASK-PID [CPU] and a space begin the line",
+    REFUSED(load("\nhello", &count), "refused 3: line 2 fault 1",
+            "line 2: expected TASK-PID [CPU] and a space at the start of the line",
             .number = HISTDESK_BAD_LINE, .line = 2, .fault = 1);
-    REFUSED(insert("a-1 [8192] 1.000000:", &at), "refused 3: line 1 fault 2", "line 1: its CPU is above 8191",
+    REFUSED(insert("a-1 [8192] 1.000000:", &at), "refused 3: line 1 fault 2", "line 1: the CPU number is above 8191",
             .number = HISTDESK_BAD_LINE, .line = 1, .fault = 2);
-    REFUSED(load(trace, &count), "refused 4: cpu 0", "events of CPU 0 are held already", .number = HISTDESK_LANE_HELD);
-    REFUSED(load("a-1 [001] 1.000000:", &count), "refused 4: cpu 1", "events of CPU 1 are held already",
+    REFUSED(load(trace, &count), "refused 4: cpu 0", "events of CPU 0 are already held", .number = HISTDESK_LANE_HELD);
+    REFUSED(load("a-1 [001] 1.000000:", &count), "refused 4: cpu 1", "events of CPU 1 are already held",
             .number = HISTDESK_LANE_HELD, .cpu = 1);
     REFUSED(histdesk_unload(desk, UINT32_MAX, &count), "refused 5: cpu 4294967295", "no events of CPU 4294967295 are held",
             .number = HISTDESK_NO_LANE, .cpu = UINT32_MAX);
     REFUSED(histdesk_strike(desk, 7, 1), "refused 5: cpu 7", "no events of CPU 7 are held", .number = HISTDESK_NO_LANE, .cpu = 7);
     REFUSED(histdesk_strike(desk, 0, 5), "refused 6", NO_EVENT, .number = HISTDESK_NO_EVENT);
     REFUSED(insert("", &at), "refused 6", NO_EVENT, .number = HISTDESK_NO_EVENT);
-    REFUSED(attach(HISTDESK_WAKING, "", &id), "refused 8: fault 2 at 0",
-            "the trigger can't be read: no such thing may stand here",
+    REFUSED(attach(HISTDESK_WAKING, "", &id), "refused 8: fault 2 at 0", "the trigger can't be read: unexpected token",
             .number = HISTDESK_BAD_TRIGGER, .fault = 2, .has_place = true);
     REFUSED(attach(HISTDESK_WAKING, "hist:keys=pids", &id), "refused 8: fault 3",
-            "the trigger can't be read: the event has no such field, or the trigger no such variable",
+            "the trigger can't be read: the event has no such field, or the trigger has no such variable",
             .number = HISTDESK_BAD_TRIGGER, .fault = 3);
     char words[128] = "the trigger can't be read: ";
     REFUSED(attach(HISTDESK_WAKING, "hist:keys=pid:pause", &id), "refused 8: fault 10 at 14", strcat(words, third),
             .number = HISTDESK_BAD_TRIGGER, .fault = 10, .has_place = true, .place = 14);
     REFUSED(attach(HISTDESK_WAKING, "hist:keys=pid if comm ~ \"[a\"", &id), "refused 8: fault 11 filter 5 at 7",
-            "the trigger can't be read: its filter: this is no pattern",
+            "the trigger can't be read: its filter: invalid glob pattern",
             .number = HISTDESK_BAD_TRIGGER, .fault = 11, .filter_fault = 5, .has_place = true, .place = 7);
-    REFUSED(refilter(1, "pid = 1"), "refused 9: filter 2 at 4", "the filter can't be read: no such thing may stand here",
+    REFUSED(refilter(1, "pid = 1"), "refused 9: filter 2 at 4", "the filter can't be read: unexpected token",
             .number = HISTDESK_BAD_FILTER, .filter_fault = 2, .has_place = true, .place = 4);
     REFUSED(refilter(1, "!!!!!!!!!!!!!!!!!!!!!!!!!!!!!!!!!pid==1"), "refused 9: filter 7",
-            "the filter can't be read: more than 32 of ( and ! are open", .number = HISTDESK_BAD_FILTER, .filter_fault = 7);
+            "the filter can't be read: more than 32 nested ( and !", .number = HISTDESK_BAD_FILTER, .filter_fault = 7);
     REFUSED(refilter(9, "pid == 1"), "refused 10", "no such trigger is attached", .number = HISTDESK_NO_TRIGGER);
     REFUSED(histdesk_remove(desk, 1), "refused 11: trigger 2", "trigger 2 reads the variable that this one saves",
             .number = HISTDESK_IN_USE, .trigger = 2);
@@ -400,7 +400,7 @@ static void refuse_questions(void) {
     histdesk_event event = {.name = 77};
     fill();
     REFUSED(attach(HISTDESK_WAKEUP, "hist:keys=pid:ts0=common_timestamp.usecs", &id), "refused 12: trigger 1",
-            "trigger 1 saves a variable of that name already", .number = HISTDESK_NAME_TAKEN, .trigger = 1);
+            "trigger 1 already saves a variable of that name", .number = HISTDESK_NAME_TAKEN, .trigger = 1);
     REFUSED(attach(HISTDESK_SWITCH, "hist:keys=next_pid:a=common_timestamp.usecs-$b", &id), "refused 13",
             "no attached trigger saves the variable that it reads", .number = HISTDESK_NO_VARIABLE);
     REFUSED(attach(HISTDESK_SWITCH, "hist:keys=next_comm:a=common_timestamp.usecs-$ts0", &id), "refused 14",
@@ -439,9 +439,8 @@ static void write_refusals(void) {
         {{.number = 7}, "refused 7", "more than 1048576 events would be held, or a line number would pass 4294967295"},
         {{.number = 16}, "refused 16", "there is no such command or event"},
         {{.number = 3, .line = UINT64_MAX, .fault = 3}, "refused 3: line 18446744073709551615 fault 3",
-         "line 18446744073709551615: no stamp SECONDS.MICROSECONDS: stands where one is due, or the flags before it have over 16 "
-         "bytes"},
-        {{.number = 3, .line = 1, .fault = 7}, "refused 3: line 1 fault 7", "line 1: the line has more than 4096 bytes"},
+         "line 18446744073709551615: expected a timestamp SECONDS.MICROSECONDS: here, or the flags exceed 16 bytes"},
+        {{.number = 3, .line = 1, .fault = 7}, "refused 3: line 1 fault 7", "line 1: the line is longer than 4096 bytes"},
         {{.number = 0}, "", ""},
         {{.number = 18}, "", ""},
         {{.number = HISTDESK_CLOSED}, "", ""},

@@ -348,7 +348,7 @@ static void ask_refusals(void) {
     GIVES(HISTDESK_BAD_TRIGGER, histdesk_attach(&desk, HISTDESK_WAKING, BYTES("hist:keys=pid if comm ~ '[a'"), &id));
     ALWAYS(HISTDESK_OK, histdesk_refused(&desk, &refusal));
     HOLDS(is_written(histdesk_refusal_text, &refusal, "refused 8: fault 11 filter 5 at 7"));
-    HOLDS(is_written(histdesk_refusal_words, &refusal, "the trigger can't be read: its filter: this is no pattern"));
+    HOLDS(is_written(histdesk_refusal_words, &refusal, "the trigger can't be read: its filter: invalid glob pattern"));
     GIVES(HISTDESK_BAD_LINE, histdesk_load(&desk, BYTES("\nhello\n"), &count));
     ALWAYS(HISTDESK_OK, histdesk_refused(&desk, &refusal));
     HOLDS(is_written(histdesk_refusal_text, &refusal, "refused 3: line 2 fault 1"));

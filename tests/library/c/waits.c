@@ -319,10 +319,11 @@ static void without_refused(histdesk *desk) {
     task " [00" cpu "] 1.0000" us ": " SWITCH comm " prev_pid=" pid " prev_prio=9 prev_state=" state " ==> next_comm=" next_comm \
     " next_pid=" next_pid " next_prio=9\n"
 #define WOKEN(us) "b-2 [001] 1.0000" us ": sched_waking: comm=a pid=1 prio=9 target_cpu=000\n"
-static const char idle_text[] =
-    SWITCHED("a-1", "0", "00", "a", "1", "S", "s", "0") WOKEN("10") SWITCHED("s-0", "0", "30", "s", "0", "R", "a", "1")
-    SWITCHED("a-1", "0", "40", "a", "1", "D", "s", "0") WOKEN("50") SWITCHED("s-0", "1", "60", "s", "0", "R", "a", "1")
-    SWITCHED("s-0", "0", "70", "s", "0", "R", "c", "3");
+/* CPU 0 idles for 30 microseconds, in which task 1 waits from the waking on, and again for 30, in which it waits for 10. */
+#define IDLE_TEXT(woken) \
+    SWITCHED("a-1", "0", "00", "a", "1", "S", "s", "0") WOKEN(woken) SWITCHED("s-0", "0", "30", "s", "0", "R", "a", "1") \
+    SWITCHED("a-1", "0", "40", "a", "1", "D", "s", "0") WOKEN("50") SWITCHED("s-0", "1", "60", "s", "0", "R", "a", "1") \
+    SWITCHED("s-0", "0", "70", "s", "0", "R", "c", "3")
 
 /* Whether the sums are these, in room of each size on the heap, with nothing written beside them. */
 static bool sums_are(histdesk *desk, const void *want, size_t size, size_t there) {
@@ -353,7 +354,11 @@ static void summed_up(histdesk *desk) {
                                             {0, 1, 0, 0, 0, 0, 45, 0}};
     static const histdesk_task_sum some[] = {{0, 0, 0, 0, 0, 0, 42, 0}, {0, 0, 0, 0, 0, 0, 43, 0}, {0, 0, 0, 0, 0, 0, 44, 0},
                                              {0, 0, 0, 0, 0, 0, 45, 0}};
-    static const histdesk_cpu_sum two[] = {{0, 0, 0, 0}, {0, 0, 1, 0}}, idle[] = {{60, 30, 0, 0}, {0, 0, 1, 0}};
+    static const histdesk_cpu_sum two[] = {{0, 0, 0, 0, 0, 0}, {0, 0, 0, 0, 1, 0}};
+    /* The longer idle time with waiters is that of the first run, is the same in both, and is that of the second run. */
+    static const histdesk_cpu_sum idle[][2] = {{{60, 30, 20, 1000000, 0, 0}, {0, 0, 0, 0, 1, 0}},
+                                               {{60, 20, 10, 1000000, 0, 0}, {0, 0, 0, 0, 1, 0}},
+                                               {{60, 15, 10, 1000040, 0, 0}, {0, 0, 0, 0, 1, 0}}};
     static const histdesk_task_sum moved[] = {{10, 2, 0, 1, 1, 1, 1, 0}, {0, 1, 0, 0, 0, 0, 3, 0}};
     answer own;
     size_t wrong = 0;
@@ -366,11 +371,14 @@ static void summed_up(histdesk *desk) {
     HOLDS(histdesk_waits_sum_up(desk) == HISTDESK_OK && reads_on(desk, 100, &own) == HISTDESK_OK && own.count == 0);
     HOLDS(are_summed_up(desk, some, 4, NULL, 0));
     uint64_t count = 0;
-    HOLDS(histdesk_waits_new(desk, false) == HISTDESK_OK && histdesk_waits_sum_up(desk) == HISTDESK_OK);
-    HOLDS(histdesk_waits_sum_up(desk) == HISTDESK_OK);
-    HOLDS(histdesk_waits_feed(desk, (const uint8_t *)idle_text, sizeof idle_text - 1, &count) == HISTDESK_OK && count == 2);
-    HOLDS(are_summed_up(desk, NULL, 0, NULL, 0));
-    HOLDS(histdesk_waits_finish(desk, &own.read, &count) == HISTDESK_OK && are_summed_up(desk, moved, 2, idle, 2));
+    for (size_t i = 0; i < 3; i++) {
+        const char *idle_text = (const char *[]){IDLE_TEXT("10"), IDLE_TEXT("20"), IDLE_TEXT("25")}[i];
+        HOLDS(histdesk_waits_new(desk, false) == HISTDESK_OK && histdesk_waits_sum_up(desk) == HISTDESK_OK);
+        HOLDS(histdesk_waits_sum_up(desk) == HISTDESK_OK);
+        HOLDS(histdesk_waits_feed(desk, (const uint8_t *)idle_text, strlen(idle_text), &count) == HISTDESK_OK && count == 2);
+        HOLDS(are_summed_up(desk, NULL, 0, NULL, 0));
+        HOLDS(histdesk_waits_finish(desk, &own.read, &count) == HISTDESK_OK && are_summed_up(desk, moved, 2, idle[i], 2));
+    }
     histdesk_waits_free(desk);
     HOLDS(are_summed_up(desk, NULL, 0, NULL, 0));
 }

@@ -1,7 +1,7 @@
 #!/usr/bin/env python3
 """Holds that documents show what their commands print.
 
-    shown.py HISTDESK HISTWATCH [PAGE]..
+    sessions.py HISTDESK HISTWATCH [PAGE]..
 
 The pages are all that pages.py knows; the script of a page of READ reads its other blocks. By the kind of a block:
 
@@ -63,9 +63,9 @@ def steps(block):
     return [(command.replace("\n> ", "\n"), output) for command, output in STEP.findall(block)]
 
 
-def shows(wanted, output):
+def shows(expected, output):
     """Whether the output is what the document shows: pieces of whole lines, in order, `...` for what is left out."""
-    pieces = re.split(r"^\.\.\.\n", wanted, flags=re.MULTILINE)
+    pieces = re.split(r"^\.\.\.\n", expected, flags=re.MULTILINE)
     form = r"(?:.*\n)*?".join(map(re.escape, pieces))
     return re.fullmatch(form, output) is not None
 
@@ -74,10 +74,10 @@ def blocks(text):
     """Each block of a document: the line on which it begins, why it isn't run, its kind, its text, and whether it stands
     right after the one before it, with one line of words between them at most."""
     end = 0
-    for found in BLOCK.finditer(text):
-        between = [line for line in text[end : found.start()].split("\n") if line.strip()]
-        yield text.count("\n", 0, found.start()) + 1, found[1], found[2], found[3], end > 0 and len(between) < 2
-        end = found.end()
+    for match in BLOCK.finditer(text):
+        between = [line for line in text[end : match.start()].split("\n") if line.strip()]
+        yield text.count("\n", 0, match.start()) + 1, match[1], match[2], match[3], end > 0 and len(between) < 2
+        end = match.end()
 
 
 # ---- what it prints
@@ -100,9 +100,9 @@ class Place:
         state = {"XDG_STATE_HOME": folder, "PAGER": "cat", "TERM": "dumb", "PYTHONDONTWRITEBYTECODE": "1"}
         self.environment = {**os.environ, "PATH": path, "PYTHONPATH": "python", "HISTDESK": histdesk, **state}
 
-    def printed(self, *words, given=""):
+    def printed(self, *words, text=""):
         """What a command prints, and its status."""
-        streams = {"input": given.encode(), "stdout": subprocess.PIPE, "stderr": subprocess.STDOUT}
+        streams = {"input": text.encode(), "stdout": subprocess.PIPE, "stderr": subprocess.STDOUT}
         done = subprocess.run(words, cwd=self.folder, env=self.environment, timeout=LIMIT, check=False, **streams)
         return done.stdout.decode(), done.returncode
 
@@ -113,14 +113,14 @@ class Place:
         words = ["setsid", "-c", *shlex.split(command)]
         process = subprocess.Popen(words, cwd=self.folder, env=self.environment, stdin=slave, stdout=slave, stderr=slave)
         os.close(slave)
-        shown = up_to_prompt(master)
+        screen = up_to_prompt(master)
         for line in lines:
             os.write(master, f"{line}\n".encode())
-            shown += up_to_prompt(master)
+            screen += up_to_prompt(master)
         os.write(master, b"\x04")
         status = process.wait(LIMIT)
         os.close(master)
-        return shown.replace("\r\n", "\n").removesuffix(PROMPT), status
+        return screen.replace("\r\n", "\n").removesuffix(PROMPT), status
 
 
 def up_to_prompt(terminal):
@@ -150,15 +150,15 @@ def lacking(kind, text):
 
 
 class Count:
-    """How many things hold, and what is told of the others."""
+    """How many things hold, and what is message of the others."""
 
     def __init__(self):
         self.things, self.wrong, self.missing, self.left = 0, [], Counter(), Counter()
 
-    def hold(self, good, told):
+    def hold(self, good, message):
         self.things += 1
         if not good:
-            self.wrong.append(told)
+            self.wrong.append(message)
 
     def can_try(self, kind, text):
         missing = lacking(kind, text)
@@ -167,52 +167,52 @@ class Count:
         return not missing
 
 
-def try_command(place, title, command, wanted, count):
+def try_command(place, title, command, expected, count):
     """Whether a command of a session prints what it should; what it prints."""
-    lines = [line[len(PROMPT) :] for line in wanted.splitlines() if line.startswith(PROMPT)]
-    told, status = place.typed(command, lines) if lines else place.printed("bash", "-c", command)
-    good = shows(wanted, told) and (status == 0 or "refused" in told)
-    count.hold(good, f"{title}: {command}ends with {status} and prints\n{told}")
-    return told
+    lines = [line[len(PROMPT) :] for line in expected.splitlines() if line.startswith(PROMPT)]
+    output, status = place.typed(command, lines) if lines else place.printed("bash", "-c", command)
+    good = shows(expected, output) and (status == 0 or "refused" in output)
+    count.hold(good, f"{title}: {command}ends with {status} and prints\n{output}")
+    return output
 
 
-def try_ended(place, title, wanted, count, words, given=""):
+def try_run(place, title, expected, count, words, text=""):
     """Whether a command ends well and prints just that."""
-    told, status = place.printed(*words, given=given)
-    count.hold(status == 0 and shows(wanted, told), f"{title}: ends with {status} and prints\n{told}")
+    output, status = place.printed(*words, text=text)
+    count.hold(status == 0 and shows(expected, output), f"{title}: ends with {status} and prints\n{output}")
 
 
 def try_page(place, page, count):
     """Runs the blocks of a page."""
-    session, found = "", list(blocks(text_of(page)))
-    for at, (line, why, kind, text, is_next) in enumerate(found):
-        title, before = f"{page}:{line}", found[at - 1] if at and is_next else (0, None, None, "", False)
+    session, parts = "", list(blocks(text_of(page)))
+    for at, (line, why, kind, text, is_next) in enumerate(parts):
+        title, before = f"{page}:{line}", parts[at - 1] if at and is_next else (0, None, None, "", False)
         if why:
             count.left[why] += 1
         elif kind == "console":
-            for command, wanted in steps(text):
+            for command, expected in steps(text):
                 if count.can_try(kind, command):
-                    try_command(place, title, command, wanted, count)
+                    try_command(place, title, command, expected, count)
         elif kind == "pycon":
             session += text + "\n"
         elif kind == "python":
-            follows = found[at + 1 : at + 2]
-            wanted = follows[0][3] if follows and follows[0][2] == "" and follows[0][4] else ""
+            follows = parts[at + 1 : at + 2]
+            expected = follows[0][3] if follows and follows[0][2] == "" and follows[0][4] else ""
             if count.can_try(kind, text):
-                try_ended(place, title, wanted, count, [sys.executable, "-B", "-c", text])
+                try_run(place, title, expected, count, [sys.executable, "-B", "-c", text])
         elif kind == "c":
-            try_ended(place, title, "", count, COMPILE, text)
+            try_run(place, title, "", count, COMPILE, text)
         elif kind == "sh":
             count.left["sh"] += 1
-            try_ended(place, title, "", count, ["bash", "-n", "-c", text])
+            try_run(place, title, "", count, ["bash", "-n", "-c", text])
         elif kind == "":
-            told = f"{title}: stands after commands that are not run, and looks like their output"
-            count.hold(before[2] != "sh" or before[1] is not None, told)
+            message = f"{title}: stands after commands that are not run, and looks like their output"
+            count.hold(before[2] != "sh" or before[1] is not None, message)
         else:
             count.left[kind] += 1
             count.hold(kind in CODE or page in READ, f"{title}: a block of the kind {kind}")
     if session and count.can_try("pycon", session):
-        try_ended(place, page, "", count, [sys.executable, "-B", "-c", DOCTEST, session])
+        try_run(place, page, "", count, [sys.executable, "-B", "-c", DOCTEST, session])
 
 
 def main():

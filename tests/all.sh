@@ -1,0 +1,14 @@
+#!/usr/bin/env bash
+# all.sh: all tests of the programs and of the library that stand in this checkout's folders out: program.sh, then library.sh.
+# It prints what went wrong, what was skipped and why, and a last line with the counts of both.
+set -uo pipefail
+
+tests=$(dirname -- "$(realpath -- "${BASH_SOURCE[0]}")")
+crates=$(realpath -- "$tests/../crates")
+. "$tests/counts.sh"
+
+histdesk=$crates/histdesk/out/histdesk
+histwatch=$crates/histwatch/out/histwatch
+part program "$tests/program.sh" "$histdesk" "$crates/plaindesk/out/plaindesk" "$crates/askagain/out/askagain" "$histwatch"
+part library "$tests/library.sh" "$crates/ft_c/out/libhistdesk.so.0" "$histdesk" "$histwatch"
+finish

@@ -1,0 +1,230 @@
+"""A plain reckoning of chains of wakings: it reads a trace's text by regular expressions and goes once through its events, and
+at each waking notes what the waker has done until then. It uses neither the package nor the program; it was written from what
+docs/REFERENCE.md says that a chain is. Chains are found from the wakings on, and not back from a wait as the package does."""
+
+from __future__ import annotations
+
+import random
+import re
+from typing import NamedTuple
+
+import recordings
+from plain_waits import LINE, SWITCH, WAKE, lines_of
+
+# A chain has no more steps.
+STEPS = 32
+INTERRUPT = re.compile(r"\] +[^ ]{2}[hHszZ]")
+# A waking of a simulated machine, with its CPU.
+WAKING = re.compile(r" *<idle>-0 \[([0-9]+)\] d\.h2\. (.* sched_wak.*)")
+SWITCHED = re.compile(r".*\[([0-9]+)\] .* sched_switch: .* next_comm=(.*) next_pid=([0-9]+) next_prio=.*")
+
+
+class Step(NamedTuple):
+    """A step of a chain, in microseconds; `slept` is None if it isn't known."""
+
+    pid: int
+    cpu: int
+    since: int
+    until: int
+    waited: int
+    ran: int
+    preemptions: int
+    slept: int | None
+
+
+class Known(NamedTuple):
+    """The steps of a chain, and why it ends."""
+
+    steps: list[Step]
+    end: str
+
+
+class Link(NamedTuple):
+    """A step, whether it begins with a creation, and what it follows from: another link, or why there is none."""
+
+    step: Step
+    is_new: bool
+    cause: Link | str
+
+
+class Begin(NamedTuple):
+    """A waking or creation of a task: when it was, and what it follows from; and how long the task had slept."""
+
+    stamp: int
+    cause: Link | str
+    slept: int | None
+
+
+class Task:
+    """What is known of a task at a moment."""
+
+    def __init__(self) -> None:
+        # Since it last ran: the last waking, the last creation, and when it was left and whether it could run on.
+        self.waking: Begin | None = None
+        self.creation: Begin | None = None
+        self.left: tuple[int, bool] | None = None
+        # Its last switch: whether it was one to it, and when.
+        self.act: tuple[bool, int] | None = None
+        # Since when it runs, if it does.
+        self.runs_since: int | None = None
+        self.starts(0, "start", None)
+
+    def starts(self, since: int, cause: Link | str, slept: int | None, is_new: bool = False) -> None:
+        """It is runnable from now on, since something that is known or not."""
+        self.since, self.cause, self.slept, self.is_new = since, cause, slept, is_new
+        self.waited = self.ran = self.preemptions = 0
+
+    def link(self, pid: int, cpu: int, now: int) -> Link:
+        """What it has done until now."""
+        ran = self.ran + (0 if self.runs_since is None else now - self.runs_since)
+        step = Step(pid, cpu, self.since, now, self.waited, ran, self.preemptions, self.slept)
+        return Link(step, self.is_new, self.cause)
+
+
+class Machine:
+    """Goes through the events of a trace."""
+
+    def __init__(self) -> None:
+        self.tasks: dict[int, Task] = {}
+        self.running: dict[int, int] = {}
+        # The waits that have ended, by the places of the switches.
+        self.links: dict[tuple[int, int, int], Link] = {}
+
+    def task(self, pid: int) -> Task:
+        return self.tasks.setdefault(pid, Task())
+
+    def at_event(self, cpu: int, pid: int, now: int) -> None:
+        """A task runs at an event. If nothing was known of the CPU, it has run since before the recording."""
+        if cpu not in self.running and pid:
+            self.task(pid).starts(now, "start", None)
+            self.task(pid).runs_since = now
+        self.running[cpu] = pid
+
+    def wakes(self, cpu: int, waker: int, pid: int, now: int, is_new: bool, has_interrupt: bool) -> None:
+        task = self.task(pid)
+        if has_interrupt and not is_new:
+            cause: Link | str = "interrupt"
+        elif not waker:
+            cause = "idle"
+        else:
+            cause = "interrupt" if waker == pid else self.task(waker).link(waker, cpu, now)
+        if is_new:
+            task.creation = Begin(now, cause, None)
+            return
+        slept = None if task.act is None else 0 if task.act[0] else now - task.act[1]
+        task.waking = Begin(now, cause, slept)
+
+    def leaves(self, pid: int, now: int, is_runnable: bool) -> None:
+        """A CPU is taken from a task."""
+        task = self.task(pid)
+        if task.runs_since is not None:
+            task.ran += now - task.runs_since
+        task.runs_since, task.left, task.act = None, (now, is_runnable), (False, now)
+
+    def runs(self, cpu: int, pid: int, now: int, line: int) -> None:
+        """A CPU goes to a task."""
+        task = self.task(pid)
+        creation, waking = task.creation, task.waking
+        if task.left and task.left[1] and not (creation and creation.stamp > task.left[0]):
+            task.waited += now - task.left[0]
+            task.preemptions += 1
+        elif creation and not (waking and waking.stamp > creation.stamp):
+            task.starts(creation.stamp, creation.cause, None, True)
+            task.waited = now - creation.stamp
+        elif waking:
+            task.starts(waking.stamp, waking.cause, waking.slept)
+            task.waited = now - waking.stamp
+        else:
+            task.starts(now, "missing" if task.act else "start", None)
+            task.waited = -1
+        if task.waited >= 0:
+            self.links[now, cpu, line] = task.link(pid, cpu, now)
+        task.waited = max(task.waited, 0)
+        task.waking = task.creation = task.left = None
+        task.runs_since, task.act = now, (True, now)
+
+
+def machine_of(text: bytes) -> Machine:
+    """The machine after all events of a text, which are in the order of time."""
+    machine, counts = Machine(), {}
+    for found in filter(None, map(LINE.fullmatch, lines_of(text))):
+        cpu, pid, now = int(found["cpu"]), int(found["runs"]), int(found["s"]) * 1000000 + int(found["us"])
+        counts[cpu] = counts.get(cpu, 0) + 1
+        machine.at_event(cpu, pid, now)
+        wake, switch = WAKE.fullmatch(found["rest"]), SWITCH.fullmatch(found["rest"])
+        if found["event"] in ("sched_waking", "sched_wakeup_new") and wake:
+            is_new = found["event"] == "sched_wakeup_new"
+            machine.wakes(cpu, pid, int(wake[2]), now, is_new, bool(INTERRUPT.search(found[0])))
+        elif found["event"] == "sched_switch" and switch:
+            if int(switch[1]):
+                machine.leaves(int(switch[1]), now, switch[2] in ("R", "R+"))
+            if int(switch[4]):
+                machine.runs(cpu, int(switch[4]), now, counts[cpu])
+            machine.running[cpu] = int(switch[4])
+    return machine
+
+
+def chains_of(text: bytes, beyond: bool) -> dict[tuple[int, int, int], Known]:
+    """The chain of each wait, by stamp, CPU and line of the switch that ends it."""
+    return {place: chain_of(link, beyond) for place, link in machine_of(text).links.items()}
+
+
+def chain_of(link: Link, beyond: bool) -> Known:
+    """The chain that begins with a link."""
+    first, steps = link, [link.step]
+    slept = 0 if first.is_new else first.step.slept
+    while True:
+        if link.cause in ("interrupt", "idle"):
+            return Known(steps, str(link.cause))
+        is_awake = link is not first and slept is not None and link.step.since <= first.step.since - slept
+        if is_awake and not beyond:
+            return Known(steps, "awake")
+        if not isinstance(link.cause, Link):
+            return Known(steps, link.cause)
+        if len(steps) == STEPS:
+            return Known(steps, "limit")
+        link = link.cause
+        steps.append(link.step)
+
+
+# ---- recordings
+
+
+def simulated(seed: int, steps: int, wakes_preempted: bool = True) -> bytes:
+    """What a simulated machine writes down, with each waking by the task that runs on its CPU, or by an interrupt there. Of
+    every other machine the first quarter is cut off. If it isn't asked for, no task is woken that was preempted: that changes
+    nothing, but if the switch is lost nobody can know it."""
+    chance, running, preempted, lines = random.Random(seed), {}, set(), []
+    for text in recordings.simulated(seed, steps).text.decode("utf-8", "surrogateescape").split("\n"):
+        waking, switch, wake = WAKING.fullmatch(text), SWITCHED.fullmatch(text), WAKE.search(text)
+        if switch:
+            running[switch[1]] = f"{switch[2]}-{switch[3]}"
+            left = SWITCH.search(text)
+            preempted -= {left[4]}
+            preempted |= {left[1]} if left[2] in ("R", "R+") else set()
+        elif wake and wake[2] in preempted and not wakes_preempted:
+            continue
+        elif waking and not running.get(waking[1], "-0").endswith("-0"):
+            flags = chance.choice(["d..2.", "d..2.", "d..2.", "d..2.", "d..2.", "d.h2.", "d.s2."])
+            text = f"{running[waking[1]]:>23} [{waking[1]}] {flags} {waking[2]}"
+        lines.append(text)
+    events = [text for text in lines if ": sched_" in text]
+    return "\n".join(events[len(events) // 4 * (seed % 2) :] + [""]).encode("utf-8", "surrogateescape")
+
+
+def damaged(text: bytes, seed: int) -> tuple[bytes, dict[int, list[int]]]:
+    """A text that has lost events of some CPUs, and says so; and of each CPU which lines it had before."""
+    chance, lines = random.Random(seed), text.decode("utf-8", "surrogateescape").split("\n")[:-1]
+    lanes: dict[int, list[int]] = {}
+    for at, line in enumerate(lines):
+        lanes.setdefault(int(line.partition("[")[2][:3]), []).append(at)
+    lost: dict[int, str] = {}
+    for cpu, lane in lanes.items():
+        for _ in range(2):
+            first, count = chance.randrange(1, len(lane) - 12), chance.randrange(1, 10)
+            if not any(at in lost for at in lane[first - 1 : first + count + 1]):
+                lost.update({at: "" for at in lane[first : first + count]})
+                lost[lane[first + count]] = f"CPU:{cpu} [LOST {count} EVENTS]\n{lines[lane[first + count]]}"
+    kept = {cpu: [number for number, at in enumerate(lane, 1) if lost.get(at, "x")] for cpu, lane in lanes.items()}
+    rest = [lost.get(at, line) for at, line in enumerate(lines)]
+    return "".join(f"{line}\n" for line in rest if line).encode("utf-8", "surrogateescape"), kept
