@@ -137,6 +137,21 @@ class Answers(unittest.TestCase):
         self.assertEqual(tuple(both), ("a", 2, 130, 4, 2, 90, 45.0, 70, 70, 1000130, 1, 4, 10, 1, 1, 1, 1, 0))
         self.assertEqual(tuple(other), ("b", 1, *TASKS[1][2:12], 11, 0, 0, 1, 0, 0))
 
+    def test_a_waking_before_sleep_is_no_waiting(self):
+        """A task that is woken while it runs, and then sleeps, waits only from its next waking."""
+        lines = [
+            switch(0, 1000000, "<idle>-0", "a-10", state="R"),
+            waking(1, 1000010, 10, name="a"),
+            switch(0, 1000020, "a-10", "<idle>-0", state="S"),
+            waking(1, 1080020, 10, name="a"),
+            switch(0, 1080023, "<idle>-0", "a-10", state="R"),
+            switch(0, 1080030, "a-10", "<idle>-0", state="S"),
+        ]
+        answer = histdesk.summary(text_of(lines))
+        (cpu,) = answer.cpus
+        self.assertEqual((cpu.idle, cpu.idle_with_waiters, cpu.longest, cpu.longest_from), (80003, 3, 3, 1000020))
+        self.assertEqual([(row.pid, row.waits, row.total) for row in answer.tasks], [(10, 1, 3)])
+
     def test_tasks_beside_plain_sums(self):
         for name, text in texts().items():
             for doubtful in (False, True):

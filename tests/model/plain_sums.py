@@ -52,23 +52,19 @@ def runs_of(events: List[Event]) -> List[Run]:
 
 
 def spans_with_waiters(events: List[Event]) -> List[Tuple[int, int]]:
-    """The stretches from the stamp of one event to that of the next in which some task waits: it doesn't run, and was woken or
-    created since it last ran, or was able to run when it was left."""
+    """The stretches from the stamp of one event to that of the next in which some task waits: it doesn't run, and the last event
+    that names it woke it, created it, or left it in a state in which it can run."""
     running: Set[int] = set()
-    awoken: Set[int] = set()
-    left: Set[int] = set()
+    runnable: Set[int] = set()
     found = []
     for event, later in zip(events, [*events[1:], None]):
         if event.event != "sched_switch":
-            awoken.add(event.pid)
+            runnable.add(event.pid)
         else:
             running.discard(event.before)
-            left.discard(event.before)
-            left |= {event.before} if event.state in ("R", "R+") else set()
+            (runnable.add if event.state in ("R", "R+") else runnable.discard)(event.before)
             running.add(event.pid)
-            awoken.discard(event.pid)
-            left.discard(event.pid)
-        if later and (awoken | left) - running - {0}:
+        if later and runnable - running - {0}:
             found.append((event.place.stamp, later.place.stamp))
     return found
 

@@ -6,11 +6,10 @@ use Rattle.std.specs.Ordering.{int_eq}
 use Rattle.std.proofs.Common.{ap, cond, refl, sym, ◌∙◌}
 use Rattle.ft_fields.specs.declared.pos.Pos.{Pos}
 use Rattle.ft_dispatch.specs.Acts.{Act, Waking, Creation, Switch, Handover}
-use Rattle.ft_dispatch.specs.Dispatches.{last_since_run, runnable_since}
 use Rattle.ft_summary.specs.Figures.{last_cpu, task_sum}
 use Rattle.ft_summary.specs.Runs.{total}
 use Rattle.ft_summary.specs.Telling.{is_named, standing, standing_if_named}
-use Rattle.ft_summary.specs.Waiting.{is_counted, is_running, tasks_of}
+use Rattle.ft_summary.specs.Waiting.{is_counted, is_runnable, is_running, tasks_of}
 use Rattle.ft_summary.specs.inner.Changes.{awoken_now, changed, changed_in, none, ran_on}
 use Rattle.ft_summary.specs.declared.standing.Change.{Change}
 use Rattle.ft_summary.specs.declared.standing.Change.TheVariants as changes
@@ -112,7 +111,7 @@ none-turned : (b d : Bool) (pid : ℤ) (place : Pos) (turn : Handover) (before :
 none-turned b d pid place turn before s n p q e = ap (λ x. left_and_run x d (leaving place turn before) place.cpu s) p ∙ ap (λ x. left_and_run false x (leaving place turn before) place.cpu s) q ∙ e
 
 pub unnamed : (q : ℤ) (acts : List Entry) → is_counted q ≡ true → is_named q acts ≡ false → standing q acts ≡ none q
-unfolding standing task_sum total last_cpu is_running runnable_since last_since_run tasks_of
+unfolding standing task_sum total last_cpu is_running is_runnable tasks_of
 unnamed q [] counted h = refl
 unnamed q ((place, Waking woken) ∷ before) counted h =
     let k = sym (named-woken place woken q before) ∙ h in

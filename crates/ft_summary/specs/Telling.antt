@@ -1,16 +1,13 @@
 -- What a summary tells after acts, which stand with their places, newest first.
-use Rattle.std.specs.Prelude.{◌≡◌, ℕ, ◌-◌, ℤ, Bool, ◌||◌, List, ◌∷◌, ◌++◌, reverse, Option, Some, None, is_some, option_map, if◌then◌else◌}
+use Rattle.std.specs.Prelude.{◌≡◌, ℕ, ◌-◌, ℤ, Bool, List, ◌∷◌, ◌++◌, reverse, Option, Some, None, option_map, if◌then◌else◌}
 use Rattle.std.specs.BTreeMap.{IsOrdered}
 use Rattle.std.specs.List.{list_any}
 use Rattle.std.specs.Ordering.{int_eq, nat_cmp}
 use Rattle.ft_fields.specs.declared.pos.Pos.{Pos}
 use Rattle.ft_dispatch.specs.Acts.{Act, Handover}
-use Rattle.ft_dispatch.specs.Began.{runnable_place}
-use Rattle.ft_dispatch.specs.Dispatches.{runnable_since}
-use Rattle.ft_dispatch.specs.declared.dispatch.Since.{Since}
 use Rattle.ft_summary.specs.Figures.{task_sum, task_sums, last_cpu, cpu_sum, cpu_sums}
 use Rattle.ft_summary.specs.Runs.{total, last_switch}
-use Rattle.ft_summary.specs.Waiting.{tasks_of, is_running, latest, waited_up_to, waited_since_switch}
+use Rattle.ft_summary.specs.Waiting.{tasks_of, is_runnable, is_running, latest, waited_up_to, waited_since_switch}
 use Rattle.ft_summary.specs.inner.Changes.{task_cmp, found_task, number_waiting, found_cpu}
 use Rattle.ft_summary.specs.declared.cpus.Cpu.{Cpu}
 use Rattle.ft_summary.specs.declared.standing.Standing.{Standing}
@@ -19,18 +16,13 @@ use Rattle.ft_summary.specs.declared.sums.Sums.{Sums}
 
 -- ---- tasks
 
--- whether a task was woken or created since it last ran
-abbrev pub is_awoken : Since → Bool
-is_awoken since = is_some since.woken || is_some since.created
-
 -- how a task stands
 unfoldable pub standing : ℤ → List (Pos × Act) → Standing
 standing pid acts = record {
   sum = task_sum pid acts;
   cpu = last_cpu pid acts;
   running = is_running pid acts;
-  awoken = is_awoken (runnable_since pid acts);
-  left_runnable = is_some (runnable_place (runnable_since pid acts).left);
+  runnable = is_runnable pid acts;
 }
 
 -- whether acts name a task; task 0 isn't counted

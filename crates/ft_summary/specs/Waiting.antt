@@ -1,11 +1,10 @@
 -- Which tasks wait for a processor after acts, and how long some task waited. Acts stand with their places, newest first.
-use Rattle.std.specs.Prelude.{ℕ, ◌+◌, ◌-◌, ℤ, pos, Bool, true, false, not, ◌&&◌, List, [], ◌∷◌, ◌++◌, is_some, max, filter, if◌then◌else◌}
+use Rattle.std.specs.Prelude.{ℕ, ◌+◌, ◌-◌, ℤ, pos, Bool, true, false, not, ◌&&◌, ◌||◌, List, [], ◌∷◌, ◌++◌, is_some, max, filter, if◌then◌else◌}
 use Rattle.std.specs.List.{list_any}
 use Rattle.std.specs.Ordering.{int_eq}
 use Rattle.ft_fields.specs.declared.pos.Pos.{Pos}
 use Rattle.ft_dispatch.specs.Acts.{Act, Waking, Creation, Switch}
-use Rattle.ft_dispatch.specs.Dispatches.{leaves, runs, runnable_since}
-use Rattle.ft_dispatch.specs.Began.{waiting_since}
+use Rattle.ft_dispatch.specs.Dispatches.{creates, leaves, leaves_runnable, runs, wakes}
 use Rattle.ft_summary.specs.Runs.{switch_on}
 
 -- ---- tasks
@@ -32,9 +31,17 @@ is_running pid (entry ∷ before) =
     if runs pid entry.1 then true
     else (if leaves pid entry.1 then false else is_running pid before)
 
--- whether a task waits for a processor: it doesn't run, and something made it runnable since it last ran
+-- whether a task can run: the last act that names it runs it, wakes it or creates it, or takes the CPU from it while it can still run. So a waking counts for nothing once the task was left asleep after it
+unfoldable pub is_runnable : ℤ → List (Pos × Act) → Bool
+is_runnable pid [] = false
+is_runnable pid (entry ∷ before) =
+    if runs pid entry.1 then true
+    else (if leaves pid entry.1 then leaves_runnable entry.1
+    else (if wakes pid entry.1 || creates pid entry.1 then true else is_runnable pid before))
+
+-- whether a task waits for a processor: it can run, and doesn't
 unfoldable pub waits : ℤ → List (Pos × Act) → Bool
-waits pid acts = is_counted pid && (not (is_running pid acts) && is_some (waiting_since (runnable_since pid acts)))
+waits pid acts = is_counted pid && (is_runnable pid acts && not (is_running pid acts))
 
 -- whether some task waits
 unfoldable pub some_task_waits : List (Pos × Act) → Bool

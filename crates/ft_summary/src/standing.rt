@@ -17,10 +17,8 @@ pub(crate) struct Standing {
     pub(crate) cpu: Option<u16>,
     /// Whether it runs.
     pub(crate) running: bool,
-    /// Whether it was woken or created since it last ran.
-    pub(crate) awoken: bool,
-    /// Whether the CPU was taken from it since it last ran, and it could run the last time.
-    pub(crate) left_runnable: bool,
+    /// Whether it can run: the last act that named it ran, woke or created it, or left it while it could run.
+    pub(crate) runnable: bool,
 }
 
 /// How a switch leaves a task.
@@ -121,8 +119,7 @@ impl Standing {
             },
             cpu: None,
             running: false,
-            awoken: false,
-            left_runnable: false,
+            runnable: false,
         }
     }
 
@@ -131,7 +128,7 @@ impl Standing {
     pub(crate) fn waits(&self) -> bool
         ensures { result ≡ standing_waits self.now }
     {
-        !self.running && (self.awoken || self.left_runnable)
+        self.runnable && !self.running
     }
 
     /// A switch leaves the task.
@@ -154,8 +151,7 @@ impl Standing {
             sum,
             cpu: Some(leaving.cpu),
             running: false,
-            awoken: self.awoken,
-            left_runnable: can_run,
+            runnable: can_run,
         }
     }
 
@@ -177,8 +173,7 @@ impl Standing {
             sum,
             cpu: Some(cpu),
             running: true,
-            awoken: false,
-            left_runnable: false,
+            runnable: true,
         }
     }
 
@@ -188,7 +183,7 @@ impl Standing {
         ensures { self.new ≡ changed change self.old }
     {
         match change {
-            Change::Awoken => self.awoken = true,
+            Change::Awoken => self.runnable = true,
             Change::Left(leaving) => *self = self.left_by(&leaving),
             Change::Run(cpu) => *self = self.ran_on(cpu),
         }

@@ -1,5 +1,5 @@
 -- What an act changes of what is kept of tasks and CPUs.
-use Rattle.std.specs.Prelude.{◌≡◌, ℕ, ◌+◌, ◌-◌, ◌^◌, ℤ, pos, Bool, true, false, not, ◌&&◌, ◌||◌, Option, Some, None, max, min, nat_eq, nat_lt, if◌then◌else◌}
+use Rattle.std.specs.Prelude.{◌≡◌, ℕ, ◌+◌, ◌-◌, ◌^◌, ℤ, pos, Bool, true, false, not, ◌&&◌, Option, Some, None, max, min, nat_eq, nat_lt, if◌then◌else◌}
 use Rattle.std.specs.List.{count_by}
 use Rattle.std.specs.Map.{lookup}
 use Rattle.std.specs.Option.{unwrap_or}
@@ -33,17 +33,16 @@ none pid = record {
   sum = record { pid = pid; run_time = 0; switches = 0; preempted = 0; slept = 0; blocked = 0; moved = 0 };
   cpu = None;
   running = false;
-  awoken = false;
-  left_runnable = false;
+  runnable = false;
 }
 
 -- it waits for a processor
 abbrev pub standing_waits : Standing → Bool
-standing_waits standing = not standing.running && (standing.awoken || standing.left_runnable)
+standing_waits standing = standing.runnable && not standing.running
 
 -- it was woken or created
 abbrev pub awoken_now : Standing → Standing
-awoken_now standing = record { sum = standing.sum; cpu = standing.cpu; running = standing.running; awoken = true; left_runnable = standing.left_runnable }
+awoken_now standing = record { sum = standing.sum; cpu = standing.cpu; running = standing.running; runnable = true }
 
 -- a switch left it
 abbrev pub sum_left : Leaving → TaskSum → TaskSum
@@ -58,7 +57,7 @@ sum_left leaving sum = record {
 }
 
 abbrev pub left_by : Leaving → Standing → Standing
-left_by leaving standing = record { sum = sum_left leaving standing.sum; cpu = Some leaving.cpu; running = false; awoken = standing.awoken; left_runnable = can_run leaving.state }
+left_by leaving standing = record { sum = sum_left leaving standing.sum; cpu = Some leaving.cpu; running = false; runnable = can_run leaving.state }
 
 -- a CPU went to it
 abbrev pub sum_run : ℕ → Option ℕ → TaskSum → TaskSum
@@ -73,7 +72,7 @@ sum_run cpu last sum = record {
 }
 
 abbrev pub ran_on : ℕ → Standing → Standing
-ran_on cpu standing = record { sum = sum_run cpu standing.cpu standing.sum; cpu = Some cpu; running = true; awoken = false; left_runnable = false }
+ran_on cpu standing = record { sum = sum_run cpu standing.cpu standing.sum; cpu = Some cpu; running = true; runnable = true }
 
 abbrev pub changed : Change → Standing → Standing
 changed changes.Awoken standing = awoken_now standing
