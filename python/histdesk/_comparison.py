@@ -52,8 +52,11 @@ class RecordingWaits(Protocol):
     def counts(self, by: str = "task", doubtful: bool = False) -> Counts:
         """The waits by key."""
 
+    def omissions(self) -> list[str]:
+        """What the figures lack."""
+
     def remarks(self) -> list[str]:
-        """What has to be known before the numbers are believed."""
+        """What has to be known besides that before the numbers are believed."""
 
 
 @public
@@ -105,7 +108,13 @@ class Comparison:
         before, after = (sum(seconds_of(one) > 0 for one in side) for side in (self.before, self.after))
         return Splits(before, after)
 
-    def only(self, *, kinds: str | Collection[str] | None = None, cpus: int | Collection[int] | None = None) -> Comparison:
+    def only(
+        self,
+        *,
+        kinds: str | Collection[str] | None = None,
+        cpus: int | Collection[int] | None = None,
+        tasks: str | int | Collection[str | int] | None = None,
+    ) -> Comparison:
         """Return the comparison of some of the waits.
 
         Parameters
@@ -114,6 +123,8 @@ class Comparison:
             Only waits of these kinds; None for all.
         cpus
             Only waits that ended on these CPUs; None for all.
+        tasks
+            Only waits of tasks with these names or PIDs; None for all.
 
         Returns
         -------
@@ -127,7 +138,8 @@ class Comparison:
         TypeError
             If the waits were counted, and not kept.
         """
-        sides = [[one.only(kinds=kinds, cpus=cpus) for one in side if isinstance(one, Waits)] for side in self.sides()]
+        waits = [[one for one in side if isinstance(one, Waits)] for side in self.sides()]
+        sides = [[one.only(kinds=kinds, cpus=cpus, tasks=tasks) for one in side] for side in waits]
         if sum(map(len, sides)) < sum(map(len, self.sides())):
             raise TypeError("these waits were counted and not kept, so none of them can be selected")
         return Comparison(*sides)
@@ -274,10 +286,10 @@ class Comparison:
         ]
 
     def _output(self) -> tuple[list[str], list[_tables.Table], list[str]]:
-        """Return what is printed: lines, the tables, and what was lost."""
+        """Return what is printed: lines, the tables, and what they lack."""
         tables = [whole_table(self.whole()), rows_table(self, self.table(), most=SHOWN)]
-        losses = [_tables.printable(f"{title}: {one.warning}") for title, one in self._titles() if one.warning]
-        return self.lines(), tables, losses
+        omissions = [_tables.printable(f"{title}: {told}") for title, one in self._titles() for told in one.omissions()]
+        return self.lines(), tables, omissions
 
     def __repr__(self) -> str:
         lines, tables, foot = self._output()

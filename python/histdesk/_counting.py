@@ -4,7 +4,7 @@ from __future__ import annotations
 
 import contextlib
 import functools
-from collections.abc import Collection, Iterator
+from collections.abc import Iterator
 from typing import TYPE_CHECKING, NamedTuple
 
 import numpy as np
@@ -15,24 +15,24 @@ from ._desk import Trace
 from ._parallel import call_at_once
 from ._stream import ReadText
 from ._tally import LastNames, Tally
-from ._wait_records import KINDS, Aside, Besides, mask_of
+from ._wait_records import KINDS, Aside, Besides, Chosen
 from ._wait_answer import About, WaitAnswer
 from ._waits import ReadOptions, about_text, answer_of, unknown_of
 from .native import layout
 
 if TYPE_CHECKING:
+    from numpy.typing import NDArray
+
     from ._text import Text
     from ._wait_records import Structs
 
 
 class Choice(NamedTuple):
-    """By what waits are counted, and whether doubtful ones are; of which kinds they are, and on which CPUs they ended (None is
-    all)."""
+    """By what waits are counted, whether doubtful ones are, and which waits are chosen."""
 
     by: str
     doubtful: bool = False
-    kinds: Collection[str] | None = None
-    cpus: Collection[int] | None = None
+    chosen: Chosen = Chosen()
 
 
 class CountedWaits(WaitAnswer):
@@ -114,7 +114,7 @@ def count_waits(trace: Trace, choice: Choice, options: ReadOptions = ReadOptions
         return count_text(text, choice, options.path)
 
     answer = answer_of(count, put_aside, trace, options._replace(keeps=False))
-    return answer if isinstance(answer, CountedWaits) else answer.only(kinds=choice.kinds, cpus=choice.cpus)
+    return answer if isinstance(answer, CountedWaits) else answer.only(**choice.chosen._asdict())
 
 
 def put_aside() -> Aside:
@@ -129,15 +129,15 @@ class Portion:
         self._choice = choice
         self.tally, self.last, self.kinds = Tally(choice.by, choice.doubtful), LastNames(), Kinds(choice)
 
-    def add(self, parts: Iterator[tuple[Structs, Besides]], text: ReadText) -> None:
-        """Count the waits of a text that was read."""
-        kinds, cpus = self._choice.kinds, self._choice.cpus
+    def add(self, parts: Iterator[tuple[Structs, Besides]], text: ReadText, names: NDArray[np.object_]) -> None:
+        """Count the waits of a text that was read. `names` are those of tasks, by their numbers in records."""
+        chosen = self._choice.chosen
         for records, besides in parts:
             if text.read.losses.holes:
                 text.feed.judge(records, besides)
             self.kinds.add_all(records)
-            if not (kinds is None and cpus is None):
-                records = records[mask_of(records, kinds, cpus)]
+            if not chosen.is_all():
+                records = records[chosen.mask(records, names)]
             self.kinds.add_chosen(records)
             self.tally.add(records)
             if text.read.losses.holes:
@@ -149,7 +149,7 @@ def count_text(text: ReadText, choice: Choice, path: str | None) -> CountedWaits
     with contextlib.closing(text.feed):
         names = text.waits.names()
         portions = [(Portion(choice), parts) for parts in text.waits.portions()]
-        call_at_once([functools.partial(portion.add, parts, text) for portion, parts in portions])
+        call_at_once([functools.partial(portion.add, parts, text, names) for portion, parts in portions])
     counts = Counts.merged([portion.tally.counts(names) for portion, _ in portions])
     kinds, last = Kinds(choice), {}
     for portion, _ in portions:

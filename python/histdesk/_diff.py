@@ -172,7 +172,13 @@ class Difference:
         before, after = (((side.held.last or 0) - (side.held.first or 0)) / MICROS for side in (self.before, self.after))
         return before, before if self.struck is not None else after
 
-    def only(self, *, kinds: str | Collection[str] | None = None, cpus: int | Collection[int] | None = None) -> Difference:
+    def only(
+        self,
+        *,
+        kinds: str | Collection[str] | None = None,
+        cpus: int | Collection[int] | None = None,
+        tasks: str | int | Collection[str | int] | None = None,
+    ) -> Difference:
         """Return the difference of some of the waits.
 
         Parameters
@@ -181,6 +187,8 @@ class Difference:
             Only waits of these kinds; None for all.
         cpus
             Only waits that ended on these CPUs; None for all.
+        tasks
+            Only waits of tasks with these names or PIDs; None for all.
 
         Returns
         -------
@@ -192,7 +200,7 @@ class Difference:
         ValueError
             If there is no such kind.
         """
-        before, after = (side.only(kinds=kinds, cpus=cpus) for side in (self.before, self.after))
+        before, after = (side.only(kinds=kinds, cpus=cpus, tasks=tasks) for side in (self.before, self.after))
         return Difference(before, after, self.struck)
 
     # ---- the answers
@@ -370,12 +378,12 @@ class Difference:
         return list(map(_tables.printable, lines))
 
     def _output(self) -> tuple[list[str], _tables.Table, list[str]]:
-        """Return what is printed: lines, the table, what it means, and what was lost."""
+        """Return what is printed: lines, the table, what it means, and what it lacks."""
         parts, rows = self.parts(), self.table()
         table = table_of(self, rows, most=SHOWN, parts=parts)
         sides = [("before: ", self.before), ("after: ", self.after)] if self.struck is None else [("", self.before)]
-        losses = [f"{name}{side.warning}" for name, side in sides if side.warning]
-        return self.lines(), table, [*(parts_lines("waited") if parts else []), *losses]
+        omissions = [f"{name}{told}" for name, side in sides for told in side.omissions()]
+        return self.lines(), table, [*(parts_lines("waited") if parts else []), *omissions]
 
     def __repr__(self) -> str:
         lines, table, foot = self._output()

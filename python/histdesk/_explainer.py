@@ -302,16 +302,11 @@ def explainer_with(waits: Waits, trace: Trace | Recording, lenient: bool = False
 # ---- waits
 
 
-def select(waits: Waits, at: int | None, task: str | None) -> Waits:
-    """Return those that last or end at a stamp, and those of tasks with a name or number; None is all."""
-    if at is not None:
-        waits = waits[(waits._column("begin_stamp") <= at) & (at <= waits._column("end_stamp"))]
-    if task is not None:
-        mask = waits.names == task
-        if task.isdecimal() and task == str(int(task)):
-            mask |= waits._column("pid") == int(task)
-        waits = waits[mask]
-    return waits
+def lasting_at(waits: Waits, stamp: int | None) -> Waits:
+    """Return those that last or end at a stamp; None is all."""
+    if stamp is None:
+        return waits
+    return waits[(waits._column("begin_stamp") <= stamp) & (stamp <= waits._column("end_stamp"))]
 
 
 def greatest(waits: Waits, most: int | None, doubtful: bool) -> Waits:

@@ -13,6 +13,7 @@ from ._recording import Part, Recording, choice_of, read_text
 from ._rows import Rows
 from ._text import text_again
 from ._wait_answer import WaitAnswer
+from ._wait_records import Chosen
 from ._waits import SPARE, ReadOptions, Waits, cpu_numbers, kind_names, waits, waits_of_recording
 
 
@@ -273,7 +274,7 @@ class AskWaits:
             3 if a line can't be read.
         """
         if all(value is None for value in choice.values()):
-            counts_choice = _counting.Choice(self.by, self.doubtful, self.kinds, self.cpus)
+            counts_choice = _counting.Choice(self.by, self.doubtful, Chosen(self.kinds, self.cpus))
             answer = _counting.count_waits(path, counts_choice, ReadOptions(lenient, jobs=self.jobs))
             return self._about(path, answer, answer.counts(self.by, self.doubtful))
         words: dict[str, Any] = {**self.reading, **choice}

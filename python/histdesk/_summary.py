@@ -342,9 +342,9 @@ class Summary(Answer):
         return remarks
 
     def _shown(self) -> tuple[list[str], list[_tables.Table], list[str]]:
-        """Return what is shown: lines, tables, and what was lost."""
+        """Return what is shown: lines, tables, and what these lack."""
         tables = [table_of("task", self.tasks, MOST_ROWS), table_of("cpu", self.cpus, MOST_ROWS)]
-        return self.lines(), tables, [self.warning] if self.warning else []
+        return self.lines(), tables, self.omissions()
 
     def __repr__(self) -> str:
         lines, tables, foot = self._shown()
@@ -352,7 +352,7 @@ class Summary(Answer):
 
     def _repr_html_(self) -> str:
         lines, tables, foot = self._shown()
-        return _tables.in_html("; ".join(lines), tables, "".join(foot))
+        return _tables.in_html("; ".join(lines), tables, "; ".join(foot))
 
 
 def table_of(by: str, rows: Sequence[Row], most: int | None) -> _tables.Table:

@@ -115,6 +115,14 @@ def remarks_of(about: About) -> list[str]:
     return lines
 
 
+def bad_lines_remark(count: int, first: int | None) -> str:
+    """Return the remark that so many lines were left out, of which this is the first; empty if none were."""
+    if not count:
+        return ""
+    which = first if count == 1 else f"the first is {first}"
+    return f"{_tables.count_of(count, 'line')} can't be read and {_tables.are(count)} left out: {which}"
+
+
 def missing_remark(count: int, first: Place) -> str:
     """Return the remark that so many switches are missing, of which this is the first."""
     what = "1 switch was" if count == 1 else f"{count} switches were"
@@ -178,8 +186,13 @@ class Answer:
         """Where the first event stands that shows such a switch; None if there is none."""
         return self._about.first_missing
 
+    def omissions(self) -> list[str]:
+        """Return what the figures lack, a line each: the events that were lost, and the lines that were left out because they
+        can't be read."""
+        return list(filter(None, [self.warning, bad_lines_remark(self.bad_lines, self.first_bad_line)]))
+
     def remarks(self) -> list[str]:
-        """Return what a reader has to know before the figures are believed, a line each."""
+        """Return what a reader has to know besides that before the figures are believed, a line each."""
         return remarks_of(self._about)
 
     def heading(self) -> str:

@@ -5,7 +5,7 @@ from __future__ import annotations
 import functools
 import tempfile
 from collections.abc import Collection, Iterator
-from typing import TYPE_CHECKING, Any, TypeAlias
+from typing import TYPE_CHECKING, Any, NamedTuple, TypeAlias
 
 import numpy as np
 
@@ -43,14 +43,30 @@ RECORD_FIELDS = [
 ALIKE = {"ends": ("V32", "ended_stamp", "end_stamp"), "task": ("V8", "pid")}
 
 
-def mask_of(records: Structs, kinds: Collection[str] | None, cpus: Collection[int] | None) -> NDArray[np.bool_]:
-    """Return which records are of these kinds and ended on these CPUs, as a mask; None is all."""
-    mask = np.ones(len(records), bool)
-    if kinds is not None:
-        mask &= np.isin(records["kind"], [KINDS.index(kind) for kind in kinds])
-    if cpus is not None:
-        mask &= np.isin(records["end_cpu"], list(cpus))
-    return mask
+class Chosen(NamedTuple):
+    """Which waits are chosen: those of these kinds, that ended on these CPUs, and of these tasks, by name or number. None is
+    all."""
+
+    kinds: Collection[str] | None = None
+    cpus: Collection[int] | None = None
+    tasks: Collection[str | int] | None = None
+
+    def is_all(self) -> bool:
+        """Return whether all waits are chosen."""
+        return self == Chosen()
+
+    def mask(self, records: Structs, names: NDArray[np.object_]) -> NDArray[np.bool_]:
+        """Return which records are chosen, as a mask. `names` are those of tasks, by their numbers in records."""
+        mask = np.ones(len(records), bool)
+        if self.kinds is not None:
+            mask &= np.isin(records["kind"], [KINDS.index(kind) for kind in self.kinds])
+        if self.cpus is not None:
+            mask &= np.isin(records["end_cpu"], list(self.cpus))
+        if self.tasks is not None:
+            numbers = [number for number, name in enumerate(names.tolist()) if name in self.tasks]
+            pids = [task for task in self.tasks if isinstance(task, int)]
+            mask &= np.isin(records["name"], numbers) | np.isin(records["pid"], pids)
+        return mask
 
 
 class WaitSink:

@@ -73,7 +73,8 @@ class Waits(WaitAnswer):
     | `waits.names`, `waits.name(3)` | the names of the tasks, as given by the switches that run them |
     | `waits.table("task")` | a row for each task and kind, the greatest wait first; or `"name"`, `"cpu"`, `"prio"`, `"kind"` |
     | `waits.counts("task")` | `Counts`, which add up exactly over many recordings, and have other percentiles and histograms |
-    | `waits.only(kinds=["woken"], cpus=[2])` | those of a kind, or that ended on a CPU; `waits[mask]` those of a numpy mask |
+    | `waits.only(kinds="woken", cpus=[2], tasks="init")` | those of a kind, that ended on a CPU, or of a task |
+    | `waits[mask]` | those of a numpy mask |
     | `waits.to_pandas()` | a DataFrame of the waits one by one; with a word, of that table |
 
     The fields of the array are `kind`, `pid`, `prio`, `begin_stamp`, `begin_cpu`, `begin_line`, the same of `end_`, `micros`,
@@ -205,7 +206,13 @@ class Waits(WaitAnswer):
                 is_doubtful, is_likely = doubt != layout.SURE, doubt == layout.LIKELY
                 yield Wait(name, pid, prio, KINDS[kind], begin, end, end.stamp - begin.stamp, is_doubtful, is_likely)
 
-    def only(self, *, kinds: str | Collection[str] | None = None, cpus: int | Collection[int] | None = None) -> Waits:
+    def only(
+        self,
+        *,
+        kinds: str | Collection[str] | None = None,
+        cpus: int | Collection[int] | None = None,
+        tasks: str | int | Collection[str | int] | None = None,
+    ) -> Waits:
         """Return some of the waits.
 
         Parameters
@@ -214,6 +221,8 @@ class Waits(WaitAnswer):
             Their kinds, or one kind; None for all.
         cpus
             The CPUs on which they ended, or one CPU; None for all.
+        tasks
+            The names or PIDs of their tasks, or one of these; None for all.
 
         Returns
         -------
@@ -224,10 +233,11 @@ class Waits(WaitAnswer):
         ------
         ValueError
             If there is no such kind.
+        TypeError
+            If a CPU is no number, or a task neither a name nor a number.
         """
-        if kinds is None and cpus is None:
-            return self
-        return self[_wait_records.mask_of(self._records, kind_names(kinds), cpu_numbers(cpus))]
+        chosen = _wait_records.Chosen(kind_names(kinds), cpu_numbers(cpus), task_names(tasks))
+        return self if chosen.is_all() else self[chosen.mask(self._records, self._names)]
 
     # ---- counted
 
@@ -280,8 +290,8 @@ class Waits(WaitAnswer):
     # ---- how they are shown
 
     def _display(self) -> tuple[list[str], list[_tables.Table], list[str]]:
-        """Return what is shown: lines, the table, and what was lost."""
-        return self.lines(), [table_of("task", self.table(), MOST_ROWS)], [self.warning] if self.warning else []
+        """Return what is shown: lines, the table, and what it lacks."""
+        return self.lines(), [table_of("task", self.table(), MOST_ROWS)], self.omissions()
 
     def __repr__(self) -> str:
         lines, tables, foot = self._display()
@@ -289,7 +299,7 @@ class Waits(WaitAnswer):
 
     def _repr_html_(self) -> str:
         lines, tables, foot = self._display()
-        return _tables.in_html("; ".join(lines), tables, "".join(foot))
+        return _tables.in_html("; ".join(lines), tables, "; ".join(foot))
 
 
 # ---- how they are read
@@ -312,6 +322,14 @@ def cpu_numbers(cpus: int | Collection[int] | None) -> list[int] | None:
         return None
     numbers = cpus if isinstance(cpus, Iterable) else [cpus]
     return [operator.index(cpu) for cpu in numbers]
+
+
+def task_names(tasks: str | int | Collection[str | int] | None) -> list[str | int] | None:
+    """Return names and PIDs of tasks that were asked for, as a list; None for all. Raises `TypeError` if one is neither."""
+    if tasks is None:
+        return None
+    several = [tasks] if isinstance(tasks, str) or not isinstance(tasks, Iterable) else tasks
+    return [task if isinstance(task, str) else operator.index(task) for task in several]
 
 
 @public

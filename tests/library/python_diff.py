@@ -185,7 +185,11 @@ class TwoRecordings(Case):
             [wait for wait in plain_waits.waits_of(text) if wait.kind != "preempted" and wait.end.cpu in (0, 2)]
             for text in texts
         ]
-        self.holds(found, Reckoned(some, [seconds_of(text) for text in texts]))
+        seconds = [seconds_of(text) for text in texts]
+        self.holds(found, Reckoned(some, seconds))
+        pid = some[0][0].pid
+        of_one = [[wait for wait in plain_waits.waits_of(text) if wait.pid == pid] for text in texts]
+        self.holds(diff(*texts).only(tasks=pid), Reckoned(of_one, seconds))
 
     @unittest.skipUnless(pandas, "pandas is missing")
     def test_to_pandas(self):
@@ -422,6 +426,8 @@ class Tool(Case):
             self.run_tool(good, "--without", "sched_switch if pid > 1", status=2)[1], "^diff: the filter can't be read"
         )
         self.assertRegex(self.run_tool(good, "missing", status=2)[1], "^diff: missing: No such file or directory\n$")
+        difference = histdesk.diff(*(histdesk.waits(path, lenient=True) for path in (good, bad)))
+        self.assertRegex(repr(difference), "\nafter: 1 line can't be read and is left out: [0-9]+$")
         told, errors = self.run_tool(good, bad, "--lenient")
         self.assertRegex(errors, f"^diff: {bad}: 1 line can't be read and is left out: [0-9]+\n$")
         self.assertTrue(told.endswith("nothing changed\n"))

@@ -395,6 +395,10 @@ class Several(Case):
         self.assertEqual([row.key for row in only.table("cpu")], [(1, "woken")])
         whole = {row.key: row for row in compare(texts[:2], texts[2:]).table("cpu")}
         self.assertEqual(only.table("cpu"), [whole[1, "woken"]])
+        by_task = {row.key: row for row in compare(texts[:2], texts[2:]).table("task")}
+        pid = max(by_task)[0]
+        only_task = compare(texts[:2], texts[2:]).only(tasks=[pid]).table("task")
+        self.assertEqual({row.key for row in only_task}, {key for key in by_task if key[0] == pid})
         for wrong in ({"by": "colour"}, {"sort": "p99"}):
             with self.assertRaises(ValueError):
                 compare(texts[:2], texts[2:]).table(**wrong)

@@ -338,6 +338,7 @@ class Parts(unittest.TestCase):
         self.assertEqual((caught.exception.number, caught.exception.line), (3, text.count(b"\n")))
         answer = histdesk.summary(text, lenient=True)
         self.assertEqual((answer.bad_lines, answer.first_bad_line), (1, text.count(b"\n")))
+        self.assertTrue(repr(answer).endswith(f"1 line can't be read and is left out: {answer.first_bad_line}"))
         self.assertEqual([tuple(row) for row in answer.tasks], TASKS)
 
     def test_losses(self):

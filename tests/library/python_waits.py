@@ -20,6 +20,7 @@ import sys
 import tempfile
 import unittest
 import warnings
+from collections import Counter
 from unittest import mock
 
 # Nothing is written beside the sources.
@@ -145,6 +146,13 @@ class Waits(unittest.TestCase):
         self.assertEqual(told(found[found.array.micros > 29]), [wait for wait in all_of_them if wait.micros > 29])
         self.assertEqual((told(found[2:4]), found.name(7), len(found.only(kinds=[]))), (all_of_them[2:4], "renamed", 0))
         self.assertEqual(told(found.only(kinds="woken", cpus=2)), told(found.only(kinds=["woken"], cpus=[2])))
+        self.assertEqual(told(found.only(tasks=10)), [wait for wait in all_of_them if wait.pid == 10])
+        self.assertEqual(told(found.only(tasks="renamed")), [wait for wait in all_of_them if wait.name == "renamed"])
+        chosen = [wait for wait in all_of_them if wait.pid == 12 or wait.name == "a"]
+        self.assertEqual(told(found.only(tasks=["a", 12, "nobody", 99])), chosen)
+        self.assertEqual(len(found.only(tasks=[])), 0)
+        with self.assertRaisesRegex(TypeError, "integer"):
+            found.only(tasks=[1.5])
         for kinds in (["old"], "old", ["woken", 7]):
             with self.assertRaisesRegex(ValueError, "is no kind of wait; the kinds are woken, new, preempted"):
                 found.only(kinds=kinds)
@@ -292,6 +300,11 @@ class Streams(unittest.TestCase):
         self.assertEqual((refused.exception.line, refused.exception.number), (21, 3))
         found = histdesk.waits(text, lenient=True)
         self.assertEqual((told(found), found.bad_lines, found.first_bad_line), (list(known.waits), 2, 21))
+        omission = "2 lines can't be read and are left out: the first is 21"
+        self.assertEqual(found.omissions(), [omission])
+        self.assertIn(omission, repr(found))
+        self.assertIn("left out: the first is 21", found._repr_html_())
+        self.assertEqual(histdesk.waits(known.text).omissions(), [])
 
     def test_losses(self):
         for known in (recordings.hole_at_start(), recordings.lost_in_middle(), recordings.simulated(7, holes=3)):
@@ -770,6 +783,14 @@ class Tool(unittest.TestCase):
         text, _ = self.run_tool(self.path("kinds"), "--kind", "new,woken", "--cpu", "2-3", "--csv")
         rows = [(row["pid"], row["kind"], row["count"]) for row in csv.DictReader(io.StringIO(text))]
         self.assertEqual(rows, [("13", "new", "2"), ("10", "woken", "1"), ("14", "woken", "1")])
+        for task, pids in (("10", {"10"}), ("a", {"10"}), ("renamed", {"10"})):
+            text, _ = self.run_tool(self.path("kinds"), "--task", task, "--csv")
+            rows = list(csv.DictReader(io.StringIO(text)))
+            counts = Counter(wait.kind for wait in self.known["kinds"].waits if task in (str(wait.pid), wait.name))
+            self.assertEqual({row["kind"]: int(row["count"]) for row in rows}, counts)
+            self.assertEqual({row["pid"] for row in rows}, pids)
+        text, _ = self.run_tool(self.path("kinds"), "--task", "12", "--histogram", "--csv")
+        self.assertEqual(sum(int(row["count"]) for row in csv.DictReader(io.StringIO(text))), 1)
         text, _ = self.run_tool(self.path("kinds"), "--from", "1.0003", "--until", "1.0005", "--csv")
         self.assertEqual([row["max"] for row in csv.DictReader(io.StringIO(text))], ["40"])
 
@@ -794,6 +815,7 @@ class Tool(unittest.TestCase):
         cases = [
             ([path, "--cpu", "9"], "no wait ended on CPU 9; its events are on CPUs 0-3"),
             ([path, "--cpu", "3", "--kind", "woken"], "no wait of kind woken ended on CPU 3"),
+            ([path, "--task", "nobody", "--kind", "new"], "no wait of kind new of task nobody ended in it"),
             ([path, "--from", "9999"], "no event is from 9999.000000; its events are from 1.000000 to 1.000803"),
             ([path, "--until", "1"], "no event is before 1.000000; its events are from 1.000000 to 1.000803"),
             ([path, "--from", "1.0008", "--until", "1.000801"], "no wait ended in it"),

@@ -89,6 +89,12 @@ def add_kinds(to: argparse._ActionsContainer, help: str) -> None:
     to.add_argument("--kind", dest="kinds", metavar="KINDS", type=wait_kinds, help=help)
 
 
+def add_task(to: argparse._ActionsContainer) -> None:
+    """Add the option that chooses tasks."""
+    help = "only those of tasks with this name or number"
+    to.add_argument("--task", dest="tasks", metavar="TASK", type=named_tasks, help=help)
+
+
 def add_table_size(to: argparse.ArgumentParser, in_terminal: int) -> None:
     """Add the option that says how many rows of a table are printed."""
     help = f"the first N rows, or all ({in_terminal} in a terminal, else all)"
@@ -143,6 +149,11 @@ def wait_kinds(text: str) -> list[str]:
         if kind not in WAIT_KINDS:
             raise fault(f"there is no kind {kind}; the kinds are {', '.join(WAIT_KINDS)}")
     return kinds
+
+
+def named_tasks(text: str) -> list[str | int]:
+    """Return a task's name, and its number if it may be one."""
+    return [text, int(text)] if text.isdecimal() and text == str(int(text)) else [text]
 
 
 def row_count(text: str) -> int:

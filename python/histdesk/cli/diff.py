@@ -181,11 +181,12 @@ def comparison_of(options: argparse.Namespace, by: str) -> Comparison:
 def counts_in(options: argparse.Namespace, path: str, by: str) -> RecordingWaits:
     """Return the waits of a trace, counted."""
     from .. import _counting
+    from .._wait_records import Chosen
     from . import traces
 
     if options.events is not None:
         return waits_in(options, path).only(kinds=options.kinds, cpus=options.cpus)
-    return traces.counted_waits(options, path, "diff", _counting.Choice(by, kinds=options.kinds, cpus=options.cpus))
+    return traces.counted_waits(options, path, "diff", _counting.Choice(by, chosen=Chosen(options.kinds, options.cpus)))
 
 
 def difference_without(options: argparse.Namespace) -> Difference:

@@ -12,7 +12,7 @@ from typing import IO, TYPE_CHECKING, Any, TypeVar, cast
 from .._file_kind import FRONT_ROOM, why_no_trace
 from .._losses import seconds
 from .._recording import Choice, Recording, counted_from, read_text
-from .._tables import are, count_of
+from .._tables import are, count_of, printable
 from .._text import Piece, Text, text_again
 from . import conversion
 from .process import Stop, say
@@ -140,7 +140,7 @@ def counted_waits(arguments: argparse.Namespace, path: str, tool: str, choice: C
 
     if arguments.start is None and arguments.until is None:
         return read_watched(read, path, tool)
-    return whole_waits(arguments, path, tool, keeps=False).only(kinds=choice.kinds, cpus=choice.cpus)
+    return whole_waits(arguments, path, tool, keeps=False).only(**choice.chosen._asdict())
 
 
 def summary_of(arguments: argparse.Namespace, path: str, tool: str) -> Summary:
@@ -181,17 +181,8 @@ def read_watched(read: Callable[[Watch], SomeAnswer], path: str, tool: str) -> S
 
 def report_losses(answer: Answer, path: str, tool: str) -> None:
     """Report what was lost or left out of the trace of an answer."""
-    for remark in filter(None, [answer.warning, bad_lines_of(answer)]):
-        say(tool, f"{path}: {remark}")
-
-
-def bad_lines_of(answer: Answer) -> str:
-    """Return how many lines were left out because they can't be read; empty if there are none."""
-    if not answer.bad_lines:
-        return ""
-    first = "" if answer.bad_lines == 1 else "the first is "
-    count = f"{count_of(answer.bad_lines, 'line')} can't be read and {are(answer.bad_lines)} left out"
-    return f"{count}: {first}{answer.first_bad_line}"
+    for omission in answer.omissions():
+        say(tool, f"{path}: {omission}")
 
 
 def why_empty(answer: Answer, options: argparse.Namespace, what: str) -> str:
@@ -202,7 +193,7 @@ def why_empty(answer: Answer, options: argparse.Namespace, what: str) -> str:
     answer
         The answer.
     options
-        Those of `arguments.add_choice`, `trace`, and perhaps `kinds`.
+        Those of `arguments.add_choice`, `trace`, and perhaps `kinds` and `tasks`.
     what
         What there is none of, such as `no wait ended`.
     """
@@ -212,10 +203,11 @@ def why_empty(answer: Answer, options: argparse.Namespace, what: str) -> str:
         return f"{options.trace}: {why_no_events(options)}"
     kinds, cpus = getattr(options, "kinds", None), sorted(set(options.cpus or ()))
     kind = f" of kind {' or '.join(kinds)}" if kinds else ""
+    task = f" of task {printable(options.tasks[0])}" if getattr(options, "tasks", None) else ""
     place = f" on CPU{'s' * (len(cpus) > 1)} {ranges(cpus)}" if cpus else " in it"
     has_other = cpus and not set(cpus) & set(answer.held.cpus)
     hint = f"; its events are on CPU{'s' * (len(answer.held.cpus) > 1)} {ranges(answer.held.cpus)}" if has_other else ""
-    return f"{options.trace}: {what.replace('no wait', f'no wait{kind}')}{place}{hint}"
+    return f"{options.trace}: {what.replace('no wait', f'no wait{kind}{task}')}{place}{hint}"
 
 
 def why_no_events(options: argparse.Namespace) -> str:

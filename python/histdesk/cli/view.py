@@ -59,13 +59,14 @@ def parsed(argv: Sequence[str] | None) -> argparse.Namespace:
 def side_of(options: argparse.Namespace, path: str) -> Side:
     """Return a recording, and what the user has to know of it."""
     from .. import _waits
+    from .._wait_answer import bad_lines_remark
     from ..view.model import Side
     from . import traces
 
     if options.events is None:
         waits = traces.whole_waits(options, path, "view")
         if waits.source is not None:
-            return Side(waits, filter(None, [traces.bad_lines_of(waits)]))
+            return Side(waits, filter(None, [bad_lines_remark(waits.bad_lines, waits.first_bad_line)]))
         if path == "-":
             raise process.Stop("standard input: its events aren't in the order of time; such a trace must be a file")
     # A desk holds what is chosen.

@@ -37,6 +37,7 @@ def parsed(argv: Sequence[str] | None) -> argparse.Namespace:
     parser.add_argument("--by", choices=WAIT_GROUPS, help="what to group waits by (task; for --histogram, all together)")
     kinds_help = "only waits of these kinds, such as woken,new; or all, for all kinds in one row"
     parser.add_argument("--kind", dest="kinds", metavar="KINDS", type=kinds_or_all, help=kinds_help)
+    arguments.add_task(parser)
     sort_help = "sort rows by this column: figures descending, names and numbers ascending (otherwise by max)"
     parser.add_argument("--sort", metavar="COLUMN", help=sort_help)
     parser.add_argument("--doubtful", action="store_true", help="also count waits that may be false")
@@ -168,14 +169,16 @@ def about(answer: WaitAnswer) -> dict[str, Any]:
 def answer_of(options: argparse.Namespace) -> WaitAnswer:
     """Return the waits of the trace, or of the events that are chosen."""
     from .. import _counting, _waits
+    from .._wait_records import Chosen
     from . import traces
 
+    chosen = Chosen(options.kinds, options.cpus, options.tasks)
     if options.events is None:
         by = options.by or ("kind" if options.histogram else "task")
-        choice = _counting.Choice(by, options.doubtful, options.kinds, options.cpus)
+        choice = _counting.Choice(by, options.doubtful, chosen)
         return traces.counted_waits(options, options.trace, "waits", choice)
     recording = traces.recording(options, options.trace, "waits", cpus=None, spare=_waits.SPARE)
-    return _waits.waits(recording).only(kinds=options.kinds, cpus=options.cpus)
+    return _waits.waits(recording).only(**chosen._asdict())
 
 
 def work(argv: Sequence[str] | None) -> int:

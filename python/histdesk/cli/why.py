@@ -62,7 +62,7 @@ def parsed(argv: Sequence[str] | None) -> argparse.Namespace:
     chosen.add_argument("--worst", metavar="N", type=arguments.positive, help="the N longest (1, or all with --at)")
     at_help = "those in progress or ending at this timestamp"
     chosen.add_argument("--at", metavar="STAMP", type=arguments.stamp, help=at_help)
-    chosen.add_argument("--task", metavar="TASK", help="only those of tasks with this name or number")
+    arguments.add_task(chosen)
     arguments.add_kinds(chosen, "only of these kinds, such as woken,new")
     chosen.add_argument("--doubtful", action="store_true", help="also waits that may be false")
     arguments.add_choice(parser, cpus="only waits that ended on these CPUs, such as 0,2,4-7")
@@ -93,8 +93,8 @@ def longest(options: argparse.Namespace, explainer: Explainer) -> Waits:
     from .. import _explainer
     from .._tables import are, count_of
 
-    waits = explainer.waits.only(kinds=options.kinds, cpus=options.cpus)
-    waits = _explainer.select(waits, options.at, options.task)
+    waits = explainer.waits.only(kinds=options.kinds, cpus=options.cpus, tasks=options.tasks)
+    waits = _explainer.lasting_at(waits, options.at)
     doubtful = waits.doubtful
     if doubtful and not options.doubtful:
         them = "it" if doubtful == 1 else "them"
