@@ -2,6 +2,7 @@
 
 from __future__ import annotations
 
+import operator
 from collections.abc import Callable, Iterator
 from typing import TYPE_CHECKING, Any
 
@@ -34,7 +35,13 @@ class Explainer:
 
     def explain_at(self, cpu: int, line: int) -> Why:
         """Explain the wait of the event of a CPU at a line. Raises what `wait_at` raises."""
-        return self.explain(self.wait_at(cpu, line))
+        return self.explain(self.wait_at(operator.index(cpu), operator.index(line)))
+
+    def explain_longest(self) -> Why:
+        """Explain the longest of its waits that aren't doubtful. Raises `LookupError` if there is none."""
+        for why in self.explain_each(greatest(self.waits, 1, doubtful=False)):
+            return why
+        raise LookupError("it has no wait, or doubtful ones only")
 
     def wait_at(self, cpu: int, line: int) -> Wait:
         """Return the wait that the event of a CPU at a line ends, or begins, or in which the task that it wakes is waiting.

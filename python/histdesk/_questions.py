@@ -9,12 +9,12 @@ from . import _counting
 from ._counts import Counts
 from ._desk import Desk
 from ._public import public
-from ._recording import Part, Recording, choice_of, read_text
+from ._recording import Part, Recording, choice_of, cpu_numbers, read_text
 from ._rows import Rows
 from ._text import text_again
 from ._wait_answer import WaitAnswer
 from ._wait_records import Chosen
-from ._waits import SPARE, ReadOptions, Waits, cpu_numbers, kind_names, waits, waits_of_recording
+from ._waits import SPARE, ReadOptions, Waits, kind_names, waits, waits_of_recording
 
 
 class Answer(NamedTuple):

@@ -2,9 +2,10 @@
 
 from __future__ import annotations
 
+import operator
 import os
 import warnings
-from collections.abc import Collection, Sequence
+from collections.abc import Collection, Iterable, Sequence
 from typing import TYPE_CHECKING, Any, NamedTuple, cast
 
 from ._file_kind import check_kind
@@ -338,8 +339,8 @@ def read(
     *,
     start: Time | None = None,
     until: Time | None = None,
-    cpus: Collection[int] | None = None,
-    events: Collection[str] | None = None,
+    cpus: int | Collection[int] | None = None,
+    events: str | Collection[str] | None = None,
     lenient: bool = False,
     spare: Collection[str] = (),
 ) -> Recording:
@@ -360,9 +361,9 @@ def read(
         `2217.6`, `"2217.600000"`, `Decimal("2217.6")`, `2218`. A `timedelta` of the standard library, of numpy or of pandas
         counts from the clock's zero. Timestamps in answers, such as `taken.rest`, are a `Stamp`, which is taken as it is.
     cpus
-        Only events of these CPUs.
+        Only events of these CPUs, or of one.
     events
-        Only events of these names; `other` is for all but `sched_waking`, `sched_wakeup`, `sched_wakeup_new` and
+        Only events of these names, or of one; `other` is for all but `sched_waking`, `sched_wakeup`, `sched_wakeup_new` and
         `sched_switch`.
     lenient
         Whether lines that can't be read are left out; `bad_lines` has their numbers.
@@ -388,7 +389,7 @@ def read(
         If no trace has such a timestamp, or a whole number can only be microseconds of this trace; if more events than a desk
         holds have one timestamp; or if it is a recording of perf or trace-cmd, with the tool that converts it.
     TypeError
-        If a timestamp is none of these.
+        If a timestamp is none of these, or a CPU is no number.
     """
     if isinstance(trace, Recording):
         return trace
@@ -402,12 +403,20 @@ def read(
     return recording
 
 
+def cpu_numbers(cpus: int | Collection[int] | None) -> list[int] | None:
+    """Return CPUs that were asked for, as a list; None for all. Raises `TypeError` if one is no number."""
+    if cpus is None:
+        return None
+    numbers = cpus if isinstance(cpus, Iterable) else [cpus]
+    return [operator.index(cpu) for cpu in numbers]
+
+
 def choice_of(
     text: Text,
     start: Time | None = None,
     until: Time | None = None,
-    cpus: Collection[int] | None = None,
-    events: Collection[str] | None = None,
+    cpus: int | Collection[int] | None = None,
+    events: str | Collection[str] | None = None,
     spare: Collection[str] = (),
 ) -> Choice:
     """Return which events of a text are wanted, by the parameters of `read`, which also says what is raised."""
@@ -418,7 +427,8 @@ def choice_of(
         from ._time_range import check_seconds
 
         check_seconds(text, plain)
-    return Choice(micros["start"], micros["until"], cpus, events, spare)
+    names = [events] if isinstance(events, str) else events
+    return Choice(micros["start"], micros["until"], cpu_numbers(cpus), names, spare)
 
 
 def read_text(path: str | None, text: Text, choice: Choice, lenient: bool) -> Recording:

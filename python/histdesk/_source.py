@@ -40,7 +40,7 @@ def content_of(trace: Trace) -> Buffer:
         with open(trace, "rb", buffering=0) as file:
             return unpack(file.readall())
     if is_buffer(trace) or not hasattr(trace, "read"):
-        return unpack(cast("Buffer", trace))
+        return unpack(buffer_of(trace))
     content = cast("IO[bytes] | IO[str]", trace).read()
     return unpack(layout.encode(content) if isinstance(content, str) else content)
 
@@ -70,6 +70,14 @@ def is_buffer(trace: object) -> bool:
     except TypeError:
         return False
     return True
+
+
+def buffer_of(trace: object) -> Buffer:
+    """Return a trace that is neither a path nor an open file, which has to be a buffer. Raises `TypeError` if it is none."""
+    if is_buffer(trace):
+        return cast("Buffer", trace)
+    several = "; histdesk.many asks about several traces" if isinstance(trace, (list, tuple)) else ""
+    raise TypeError(f"a trace is a path, bytes, or a file that is open for reading, and not {type(trace).__name__}{several}")
 
 
 def unpack(content: Buffer) -> Buffer:

@@ -16,7 +16,7 @@ from pathlib import Path
 from typing import IO, TYPE_CHECKING, NamedTuple, TypeAlias, cast
 
 from ._file_kind import GZIP
-from ._source import is_buffer
+from ._source import buffer_of, is_buffer
 from .native import layout
 
 if TYPE_CHECKING:
@@ -65,7 +65,7 @@ def read_pieces(trace: Trace) -> Iterator[Piece]:
         with open(trace, "rb", buffering=0) as file:
             yield from file_pieces(file)
     elif is_buffer(trace) or not hasattr(trace, "read"):
-        with memoryview(cast("Buffer", trace)).cast("B") as content:
+        with memoryview(buffer_of(trace)).cast("B") as content:
             for start in range(0, len(content), PIECE):
                 yield content[start : start + PIECE]
     else:
@@ -373,7 +373,7 @@ def text_again(trace: Trace | Text) -> Text:
             is_packed = file.read(len(GZIP)) == GZIP
         text: Text = FileText(os.fsdecode(trace))
     else:
-        buffer = cast("Buffer", trace)
+        buffer = buffer_of(trace)
         with memoryview(buffer).cast("B") as content:
             is_packed = bytes(content[: len(GZIP)]) == GZIP
         text = BufferText(buffer)

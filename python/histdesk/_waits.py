@@ -16,7 +16,7 @@ from ._file_kind import check_kind
 from ._frames import Times, finished, from_codes
 from ._losses import Hole, Losses, LossWarning
 from ._public import public
-from ._recording import Choice, Recording, path_of, read_whole
+from ._recording import Choice, Recording, cpu_numbers, path_of, read_whole
 from ._refusal import MOST_SHOWN, Refused, at_later_line
 from ._schema import SPARE_EVENTS
 from ._slices import Slice, Source
@@ -314,14 +314,6 @@ def kind_names(kinds: str | Collection[str] | None) -> list[str] | None:
     if unknown:
         raise ValueError(f"{min(unknown, key=str)!r} is no kind of wait; the kinds are {', '.join(KINDS)}")
     return names
-
-
-def cpu_numbers(cpus: int | Collection[int] | None) -> list[int] | None:
-    """Return CPUs that were asked for, as a list; None for all. Raises `TypeError` if one is no number."""
-    if cpus is None:
-        return None
-    numbers = cpus if isinstance(cpus, Iterable) else [cpus]
-    return [operator.index(cpu) for cpu in numbers]
 
 
 def task_names(tasks: str | int | Collection[str | int] | None) -> list[str | int] | None:

@@ -181,18 +181,18 @@ class Why(Fields):
 
 
 @public
-def why(trace: Desk | Trace | Recording | Waits, cpu: int, line: int) -> Why:
+def why(trace: Desk | Trace | Recording | Waits, cpu: int | None = None, line: int | None = None) -> Why:
     """Explain a wait.
 
-    It is the wait that an event ends, or else the one that it begins, or in which the task that it wakes is waiting already. If
-    events were lost, a `LossWarning` is issued, as by `waits`.
+    It is the wait that an event ends, or else the one that it begins, or in which the task that it wakes is waiting already;
+    without an event, the longest wait that isn't doubtful. If events were lost, a `LossWarning` is issued, as by `waits`.
 
     Parameters
     ----------
     trace
         What `waits` takes, of any length; or the `Waits` of a trace, of which only the events around the wait are read then.
     cpu, line
-        The event: its CPU, and its line there, as `Waits` and the tools print places.
+        The event: its CPU, and its line there, as `Waits` and the tools print places. Both or neither.
 
     Returns
     -------
@@ -202,7 +202,10 @@ def why(trace: Desk | Trace | Recording | Waits, cpu: int, line: int) -> Why:
     Raises
     ------
     LookupError
-        If no event is there, or it belongs to no wait; the message has the reason.
+        If no event is there, or it belongs to no wait; the message has the reason. Without an event, if there is no wait that
+        isn't doubtful.
+    TypeError
+        If only one of `cpu` and `line` is there, or one is no number.
     ValueError
         If `trace` is `Waits` that have no `source`.
 
@@ -221,13 +224,15 @@ def why(trace: Desk | Trace | Recording | Waits, cpu: int, line: int) -> Why:
     from ._explainer import explainer_of
     from ._waits import Waits
 
+    if (cpu is None) != (line is None):
+        raise TypeError("an event has both a CPU and a line; without both, the longest wait is explained")
     has_warned = isinstance(trace, (Desk, Waits))
     if isinstance(trace, Recording):
         has_warned, trace.is_reported = trace.is_reported, True
     explainer = explainer_of(trace)
     if explainer.waits.warning and not has_warned:
         warnings.warn(explainer.waits.warning, LossWarning, stacklevel=2)
-    return explainer.explain_at(cpu, line)
+    return explainer.explain_longest() if cpu is None or line is None else explainer.explain_at(cpu, line)
 
 
 def scene_in(source: Source, wait: Wait) -> Scene:

@@ -247,6 +247,17 @@ class Parts(unittest.TestCase):
         self.assertEqual(histdesk.Desk().load(recording), 10)
         self.assertEqual(_recording.LIMIT, 1048576)
 
+    def test_one_of_several(self):
+        """One CPU or one name is taken as a list of it; a CPU is a number."""
+        text = waking(0, "1.000000") + waking(2, "2.000000")
+        self.assertEqual(self.part(text, cpus=2).taken, self.part(text, cpus=[2]).taken)
+        self.assertEqual(self.part(text, cpus=2).taken.events, 1)
+        self.assertEqual(self.part(text, events="sched_waking").taken, self.part(text, events=["sched_waking"]).taken)
+        self.assertEqual(self.part(text, events="sched_waking").taken.events, 2)
+        for wrong in ("2", ["2"], 2.0):
+            with self.assertRaises(TypeError):
+                self.part(text, cpus=wrong)
+
     def test_lenient(self):
         text = (
             "torn\n" + waking(0, "1.000000") + "a-1 [000] 1.000000: sched_waking: comm=x\n\n# c\n" + waking(0, "2.000000") + "x"

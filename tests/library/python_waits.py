@@ -279,8 +279,12 @@ class Streams(unittest.TestCase):
         for torn in (packed[:-12], packed[:40], packed + b"x"):
             with self.assertRaises(gzip.BadGzipFile):
                 waits_of(torn)
-        with self.assertRaises(TypeError):
-            histdesk.waits(7)
+        for wrong in (7, None, ["a.trace"]):
+            for call in (histdesk.waits, histdesk.summary, histdesk.read, histdesk.Desk().load):
+                with self.assertRaisesRegex(TypeError, f"^a trace is a path, .* and not {type(wrong).__name__}"):
+                    call(wrong)
+        with self.assertRaisesRegex(TypeError, "histdesk.many asks about several"):
+            histdesk.waits(["a.trace", "b.trace"])
 
     def test_order(self):
         """A text that isn't in the order of time is read too, if it can be read again, or was kept."""

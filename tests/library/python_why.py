@@ -465,6 +465,29 @@ class Lost(unittest.TestCase):
         self.assertIn("a-10   120   0  0     1  |" + " " * 60 + "|", why.text(width=200))
 
 
+class Longest(unittest.TestCase):
+    """Without an event, the longest wait is explained."""
+
+    def test_longest(self):
+        for name, known in all_known().items():
+            sure = [wait for wait in known.waits if not wait.doubtful]
+            if sure and not name.startswith("damaged"):
+                longest = max(sure, key=lambda wait: wait.micros)
+                first = min((wait for wait in sure if wait.micros == longest.micros), key=lambda wait: wait.end)
+                why = told(known.text)
+                self.assertEqual((why.micros, why.pid, why.begin[:3]), (first.micros, first.pid, first.begin))
+
+    def test_none(self):
+        with self.assertRaisesRegex(LookupError, "no wait, or doubtful ones only"):
+            told(b"")
+        for place in ((0,), (None, 1)):
+            with self.assertRaisesRegex(TypeError, "both a CPU and a line"):
+                told(trace(*BUSY), *place)
+        for place in (("2", 4), (2, "4")):
+            with self.assertRaises(TypeError):
+                told(trace(*BUSY), *place)
+
+
 class Nothing(unittest.TestCase):
     """Events that belong to no wait."""
 
