@@ -58,7 +58,8 @@ export const timeline = {
     this.pictures = null;
     const { busy, waited } = this.overview.shares();
     const what = `${percent(busy)} busy, ${percent(waited)} idle though a task waited`;
-    this.title = `${plural(this.overview.cpus.length, "CPU")} from ${stamp(from)} to ${stamp(until)}: ${what}`;
+    // What doesn't fit is cut off, and the axis has the times too.
+    this.title = `${what}: ${plural(this.overview.cpus.length, "CPU")} from ${stamp(from)} to ${stamp(until)}`;
     this.list();
     this.drawLegend();
     this.canvas.setAttribute("aria-label", `${this.title}. Enter explains the longest wait in sight.`);
