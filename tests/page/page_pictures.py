@@ -29,13 +29,17 @@ def light(page):
 
 
 def dark(page):
-    """Waits over time, with a trigger's table."""
+    """The longest wait among all CPUs, with a trigger's table."""
     page.choose("#theme", "dark")
     page.choose("#heights", "log")
     page.typed("#filter", "next_prio <= 120")
     page.until(lambda: page.js("return state.filter !== ''"))
     page.find("#tab-table").click()
     page.until(lambda: page.rows("#table-rows"))
+    page.js("worst.choose(0, true)")
+    page.until(lambda: page.js("return lanes.scene !== null"))
+    page.find("#wait-place").click()
+    page.until(lambda: "idle though" in page.text("#view-title"))
 
 
 def main():

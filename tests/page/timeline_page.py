@@ -81,6 +81,20 @@ class AllCpus(Timeline):
         self.assertEqual(self.ask("[...timeline.overview.most]"), cells.most.tolist())
         self.assertIn(f"{len(runs.lanes)} CPUs from ", self.text("#view-title"))
 
+    def test_marks_of_the_axis_differ(self):
+        """They have one unit, and the digits in which they differ."""
+        marks = {
+            (0, 100000, 200000): ["0 ms", "100 ms", "200 ms"],
+            (2112000, 2114000, 2116000): ["2.112 s", "2.114 s", "2.116 s"],
+            (1999998, 1999999, 2000000): ["1.999998 s", "1.999999 s", "2.000000 s"],
+            (-500, 0, 500): ["-500 µs", "0 µs", "500 µs"],
+            (0, 500, 1000, 1500): ["0.0 ms", "0.5 ms", "1.0 ms", "1.5 ms"],
+            (0,): ["0 µs"],
+        }
+        script = "const { durations } = await import(`${path}numbers.js`); return durations(arguments[0]);"
+        for times, texts in marks.items():
+            self.assertEqual(self.js(script, list(times)), texts)
+
     def test_zoom_and_move(self):
         from selenium.webdriver.common.keys import Keys
 

@@ -1,7 +1,7 @@
 // Drawing on canvases, with the sizes and colours of the style sheet.
 
 import { byId } from "./elements.js";
-import { duration, ticks } from "./numbers.js";
+import { durations, ticks } from "./numbers.js";
 
 // So many groups of waits have a colour of their own; all others share one.
 export const COLOURS = 6;
@@ -74,8 +74,10 @@ export function hatch(context, x, y, width, height) {
 
 // The marks of a time axis below its picture, with the time at each.
 export function drawTimes(context, axis, bottom) {
-  for (const at of ticks(axis.low, axis.high, Math.floor(axis.width / (6 * rem())))) {
+  const times = ticks(axis.low, axis.high, Math.floor(axis.width / (6 * rem())));
+  const texts = durations(times);
+  times.forEach((at, number) => {
     line(context, axis.x(at), bottom, axis.x(at), bottom + 4);
-    write(context, duration(at), axis.x(at), bottom + 1.1 * rem(), "center");
-  }
+    write(context, texts[number], axis.x(at), bottom + 1.1 * rem(), "center");
+  });
 }

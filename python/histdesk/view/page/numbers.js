@@ -22,6 +22,15 @@ function inUnits(value, units) {
   return `${+(value / size).toPrecision(3)}${unit}`;
 }
 
+// Durations that are equally far apart, in one unit and with the digits in which they differ.
+export function durations(times) {
+  const most = Math.max(...times.map(Math.abs));
+  const [size, unit] = TIMES.findLast(([least]) => most >= least) || TIMES[0];
+  const step = times.length > 1 ? times[1] - times[0] : size;
+  const places = Math.max(Math.ceil(-Math.log10(step / size) - 1e-9), 0);
+  return times.map((time) => `${(time / size).toFixed(places)}${unit}`);
+}
+
 // The least of 1, 2 and 5 times a power of ten that is not below a number.
 export function roundUp(number) {
   const power = 10 ** Math.floor(Math.log10(number));
