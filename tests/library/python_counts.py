@@ -34,6 +34,7 @@ from recordings import switch, text_of, waking
 import numpy
 
 from histdesk import _counting, _counts, _wait_records, _numbering, _text, _stream, _tally, _waits
+from histdesk._wait_records import Chosen
 
 BYS = ("task", "name", "cpu", "prio", "kind")
 SEEDS = range(12)
@@ -126,18 +127,20 @@ class Plain(unittest.TestCase):
                             self.check(found.counts(by, with_doubtful), waits, by, with_doubtful)
 
     def test_counted(self):
-        """As tools/waits does it: all waits, and those of some kinds and CPUs."""
+        """As tools/waits does it: all waits, and those of some kinds, CPUs and tasks."""
         choices = [{}, {"kinds": ["woken", "preempted"]}, {"cpus": [0, 3]}, {"kinds": ["new"], "cpus": [1]}, {"kinds": []}]
         for seed in SEEDS:
             text, waits, chance = crowded(seed), plain_waits.waits_of(crowded(seed)), random.Random(seed)
             kept = quietly_found(text)
-            for choice in choices:
+            tasks = [waits[0].pid, waits[-1].name]
+            for choice in [*choices, {"tasks": tasks}, {"tasks": tasks[1:], "kinds": ["woken"]}, {"tasks": []}]:
                 some = [wait for wait in waits if wait.kind in choice.get("kinds", [wait.kind])]
                 some = [wait for wait in some if wait.end.cpu in choice.get("cpus", [wait.end.cpu])]
+                some = [wait for wait in some if {wait.pid, wait.name} & set(choice.get("tasks", [wait.pid]))]
                 for by in BYS:
                     with_doubtful = chance.random() < 0.5
                     with cut(chance.choice([7, 64, 1 << 14])):
-                        found = _counting.count_waits(text, _counting.Choice(by, with_doubtful, **choice))
+                        found = _counting.count_waits(text, _counting.Choice(by, with_doubtful, Chosen(**choice)))
                     self.assertIsInstance(found, _counting.CountedWaits)
                     self.check(found.counts(by, with_doubtful), some, by, with_doubtful)
                     chosen = kept.only(**choice)
@@ -176,7 +179,7 @@ class Counted(unittest.TestCase):
     def test_order(self):
         """Of a text that isn't in the order of time a desk holds the events."""
         lines = [switch(0, 30, "a-1", "w-7"), waking(0, 20, 7), waking(0, 5, 8), switch(1, 9, "a-1", "v-8")]
-        choice = _counting.Choice("task", cpus=[1])
+        choice = _counting.Choice("task", chosen=Chosen(cpus=[1]))
         found = _counting.count_waits(text_of(lines), choice)
         self.assertEqual([(row.pid, row.max) for row in found.table("task")], [(8, 4)])
 

@@ -52,8 +52,8 @@ def runs_of(events: List[Event]) -> List[Run]:
 
 
 def spans_with_waiters(events: List[Event]) -> List[Tuple[int, int]]:
-    """The stretches from the stamp of one event to that of the next in which some task waits: it doesn't run, and the last event
-    that names it woke it, created it, or left it in a state in which it can run."""
+    """The stretches from the stamp of one event to that of the next in which some task waits: it doesn't run, and the last
+    event that names it woke it, created it, or left it in a state in which it can run."""
     running: Set[int] = set()
     runnable: Set[int] = set()
     found = []
