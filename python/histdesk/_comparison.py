@@ -11,7 +11,7 @@ from ._noise import FIGURES, ComparisonRow, FigureComparison, Sample, Splits
 from ._public import public
 from ._schema import DIFFERENCE_ORDERS, WAIT_GROUPS
 from ._wait_answer import BY, Held
-from ._waits import Waits
+from ._waits import Waits, chosen_of
 
 if TYPE_CHECKING:
     import pandas  # type: ignore[import]
@@ -56,7 +56,7 @@ class RecordingWaits(Protocol):
         """What the figures lack."""
 
     def remarks(self) -> list[str]:
-        """What has to be known besides that before the numbers are believed."""
+        """What has to be known besides `omissions` before the numbers are believed."""
 
 
 @public
@@ -69,7 +69,7 @@ class Comparison:
     | `comparison.whole()` | a `ComparisonRow` of all waits together |
     | `comparison.table("name")` | a `ComparisonRow` for each name and kind, or by another word of `Waits.table` |
     | `comparison.can_tell` | whether there are enough recordings for a test |
-    | `comparison.only(kinds=["woken"], cpus=[2])` | the comparison of some of the waits; see `Waits.only` |
+    | `comparison.only(kinds="woken", cpus=[2], tasks="init")` | the comparison of some of the waits; see `Waits.only` |
     | `comparison.to_pandas("name")` | a DataFrame of that table |
 
     The figures of a row are tested by a permutation test (Fisher and Pitman): all recordings are split anew into two sides of
@@ -136,10 +136,11 @@ class Comparison:
         ValueError
             If there is no such kind.
         TypeError
-            If the waits were counted, and not kept.
+            If the waits were counted, and not kept; if a CPU is no number, or a task neither a name nor a number.
         """
+        chosen = chosen_of(kinds, cpus, tasks)
         waits = [[one for one in side if isinstance(one, Waits)] for side in self.sides()]
-        sides = [[one.only(kinds=kinds, cpus=cpus, tasks=tasks) for one in side] for side in waits]
+        sides = [[one.only(**chosen._asdict()) for one in side] for side in waits]
         if sum(map(len, sides)) < sum(map(len, self.sides())):
             raise TypeError("these waits were counted and not kept, so none of them can be selected")
         return Comparison(*sides)

@@ -4,7 +4,7 @@ from __future__ import annotations
 
 import contextlib
 import functools
-from collections.abc import Iterator
+from collections.abc import Collection, Iterator
 from typing import TYPE_CHECKING, NamedTuple
 
 import numpy as np
@@ -21,8 +21,6 @@ from ._waits import ReadOptions, about_text, answer_of, unknown_of
 from .native import layout
 
 if TYPE_CHECKING:
-    from numpy.typing import NDArray
-
     from ._text import Text
     from ._wait_records import Structs
 
@@ -129,15 +127,15 @@ class Portion:
         self._choice = choice
         self.tally, self.last, self.kinds = Tally(choice.by, choice.doubtful), LastNames(), Kinds(choice)
 
-    def add(self, parts: Iterator[tuple[Structs, Besides]], text: ReadText, names: NDArray[np.object_]) -> None:
-        """Count the waits of a text that was read. `names` are those of tasks, by their numbers in records."""
+    def add(self, parts: Iterator[tuple[Structs, Besides]], text: ReadText, numbers: Collection[int]) -> None:
+        """Count the waits of a text that was read. `numbers` are those of the chosen names."""
         chosen = self._choice.chosen
         for records, besides in parts:
             if text.read.losses.holes:
                 text.feed.judge(records, besides)
             self.kinds.add_all(records)
             if not chosen.is_all():
-                records = records[chosen.mask(records, names)]
+                records = records[chosen.mask(records, numbers)]
             self.kinds.add_chosen(records)
             self.tally.add(records)
             if text.read.losses.holes:
@@ -149,7 +147,8 @@ def count_text(text: ReadText, choice: Choice, path: str | None) -> CountedWaits
     with contextlib.closing(text.feed):
         names = text.waits.names()
         portions = [(Portion(choice), parts) for parts in text.waits.portions()]
-        call_at_once([functools.partial(portion.add, parts, text, names) for portion, parts in portions])
+        numbers = choice.chosen.name_numbers(names)
+        call_at_once([functools.partial(portion.add, parts, text, numbers) for portion, parts in portions])
     counts = Counts.merged([portion.tally.counts(names) for portion, _ in portions])
     kinds, last = Kinds(choice), {}
     for portion, _ in portions:

@@ -111,6 +111,8 @@ class Desk:
             3 if a line can't be read, 4 if events of one of its CPUs are held, 7 if there is no room.
         OSError
             If the file can't be read.
+        TypeError
+            If it is no trace.
         """
         self._session.check()
         content = trace.text if isinstance(trace, Recording) else content_of(trace)

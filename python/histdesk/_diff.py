@@ -18,7 +18,7 @@ from ._public import public
 from ._recording import Recording
 from ._schema import DIFFERENCE_ORDERS
 from ._wait_answer import BY
-from ._waits import Waits, waits
+from ._waits import Waits, chosen_of, waits
 from ._without import Chosen, check, parse, waits_without
 
 if TYPE_CHECKING:
@@ -140,7 +140,7 @@ class Difference:
     | `difference.whole()` | a `DifferenceRow` of all waits together |
     | `difference.table("name")` | a `DifferenceRow` for each name and kind that changed, or by another word of `Waits.table` |
     | `difference.parts("name")` | how much 8 parts of each recording differ among themselves |
-    | `difference.only(kinds=["woken"], cpus=[2])` | that of some of the waits; see `Waits.only` |
+    | `difference.only(kinds="woken", cpus=[2], tasks="init")` | that of some of the waits; see `Waits.only` |
     | `difference.to_pandas("name")` | a DataFrame of that table |
     """
 
@@ -199,8 +199,11 @@ class Difference:
         ------
         ValueError
             If there is no such kind.
+        TypeError
+            If a CPU is no number, or a task neither a name nor a number.
         """
-        before, after = (side.only(kinds=kinds, cpus=cpus, tasks=tasks) for side in (self.before, self.after))
+        chosen = chosen_of(kinds, cpus, tasks)
+        before, after = (side.only(**chosen._asdict()) for side in (self.before, self.after))
         return Difference(before, after, self.struck)
 
     # ---- the answers

@@ -41,7 +41,7 @@ class Explainer:
         """Explain the longest of its waits that aren't doubtful. Raises `LookupError` if there is none."""
         for why in self.explain_each(greatest(self.waits, 1, doubtful=False)):
             return why
-        raise LookupError("it has no wait, or doubtful ones only")
+        raise LookupError("there is no wait that isn't doubtful")
 
     def wait_at(self, cpu: int, line: int) -> Wait:
         """Return the wait that the event of a CPU at a line ends, or begins, or in which the task that it wakes is waiting.

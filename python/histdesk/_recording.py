@@ -389,7 +389,7 @@ def read(
         If no trace has such a timestamp, or a whole number can only be microseconds of this trace; if more events than a desk
         holds have one timestamp; or if it is a recording of perf or trace-cmd, with the tool that converts it.
     TypeError
-        If a timestamp is none of these, or a CPU is no number.
+        If it is no trace, a timestamp is none of these, or a CPU is no number.
     """
     if isinstance(trace, Recording):
         return trace
@@ -407,7 +407,7 @@ def cpu_numbers(cpus: int | Collection[int] | None) -> list[int] | None:
     """Return CPUs that were asked for, as a list; None for all. Raises `TypeError` if one is no number."""
     if cpus is None:
         return None
-    numbers = cpus if isinstance(cpus, Iterable) else [cpus]
+    numbers: Iterable[Any] = cpus if isinstance(cpus, Iterable) and not isinstance(cpus, bytes) else [cpus]
     return [operator.index(cpu) for cpu in numbers]
 
 
@@ -427,7 +427,7 @@ def choice_of(
         from ._time_range import check_seconds
 
         check_seconds(text, plain)
-    names = [events] if isinstance(events, str) else events
+    names = None if events is None else [events] if isinstance(events, str) else list(events)
     return Choice(micros["start"], micros["until"], cpu_numbers(cpus), names, spare)
 
 

@@ -210,7 +210,8 @@ class Summary(Answer):
     | `answer.table("name", sort="max")` | the same, in another order |
     | `answer.to_pandas("cpu")` | a DataFrame of them |
     | `answer.doubtful`, `answer.likely` | how many waits are doubtful, and how many of these are likely true |
-    | `answer.held`, `answer.holes`, `answer.warning`, `answer.remarks()` | what was read, and what has to be known of it |
+    | `answer.held`, `answer.holes`, `answer.warning` | what was read, and what was lost |
+    | `answer.omissions()`, `answer.remarks()` | what was lost or left out, and what else has to be known |
 
     docs/REFERENCE.md, Sums, has the exact meaning of each figure.
     """
@@ -630,7 +631,7 @@ def summary(trace: Trace | Recording, *, doubtful: bool = False, lenient: bool =
         If it is a recording of perf or trace-cmd, with the tool that converts it; if its events aren't in time order; or if a
         `Recording` holds only some CPUs or events.
     TypeError
-        If it is a `Desk`: what a desk holds isn't summed up.
+        If it is a `Desk`, since what a desk holds isn't summed up, or no trace.
     ImportError
         If there is no numpy.
 

@@ -192,7 +192,7 @@ class Answer:
         return list(filter(None, [self.warning, bad_lines_remark(self.bad_lines, self.first_bad_line)]))
 
     def remarks(self) -> list[str]:
-        """Return what a reader has to know besides that before the figures are believed, a line each."""
+        """Return what a reader has to know besides `omissions` before the figures are believed, a line each."""
         return remarks_of(self._about)
 
     def heading(self) -> str:

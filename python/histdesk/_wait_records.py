@@ -55,17 +55,21 @@ class Chosen(NamedTuple):
         """Return whether all waits are chosen."""
         return self == Chosen()
 
-    def mask(self, records: Structs, names: NDArray[np.object_]) -> NDArray[np.bool_]:
-        """Return which records are chosen, as a mask. `names` are those of tasks, by their numbers in records."""
+    def name_numbers(self, names: NDArray[np.object_]) -> list[int]:
+        """Return the numbers of the chosen names. `names` are those of tasks, by their numbers in records."""
+        chosen = {task for task in self.tasks or () if isinstance(task, str)}
+        return [number for number, name in enumerate(names.tolist()) if name in chosen] if chosen else []
+
+    def mask(self, records: Structs, numbers: Collection[int]) -> NDArray[np.bool_]:
+        """Return which records are chosen, as a mask. `numbers` are what `name_numbers` returns."""
         mask = np.ones(len(records), bool)
         if self.kinds is not None:
             mask &= np.isin(records["kind"], [KINDS.index(kind) for kind in self.kinds])
         if self.cpus is not None:
             mask &= np.isin(records["end_cpu"], list(self.cpus))
         if self.tasks is not None:
-            numbers = [number for number, name in enumerate(names.tolist()) if name in self.tasks]
             pids = [task for task in self.tasks if isinstance(task, int)]
-            mask &= np.isin(records["name"], numbers) | np.isin(records["pid"], pids)
+            mask &= np.isin(records["name"], list(numbers)) | np.isin(records["pid"], pids)
         return mask
 
 

@@ -27,6 +27,7 @@ from ._text import KeptText, Piece, Text, is_read_once, pieces_of, text_again
 from ._times import Stamp
 from ._values import Place, Wait
 from ._wait_answer import KINDS, NAMES, About, Held, WaitAnswer, table_of
+from ._wait_records import Chosen
 from .native import layout
 from .native.arrays import PLACE_TYPE
 from .native.library import library
@@ -74,6 +75,7 @@ class Waits(WaitAnswer):
     | `waits.table("task")` | a row for each task and kind, the greatest wait first; or `"name"`, `"cpu"`, `"prio"`, `"kind"` |
     | `waits.counts("task")` | `Counts`, which add up exactly over many recordings, and have other percentiles and histograms |
     | `waits.only(kinds="woken", cpus=[2], tasks="init")` | those of a kind, that ended on a CPU, or of a task |
+    | `waits.warning`, `waits.omissions()`, `waits.remarks()` | what was lost or left out, and what else has to be known |
     | `waits[mask]` | those of a numpy mask |
     | `waits.to_pandas()` | a DataFrame of the waits one by one; with a word, of that table |
 
@@ -236,8 +238,8 @@ class Waits(WaitAnswer):
         TypeError
             If a CPU is no number, or a task neither a name nor a number.
         """
-        chosen = _wait_records.Chosen(kind_names(kinds), cpu_numbers(cpus), task_names(tasks))
-        return self if chosen.is_all() else self[chosen.mask(self._records, self._names)]
+        chosen = chosen_of(kinds, cpus, tasks)
+        return self if chosen.is_all() else self[chosen.mask(self._records, chosen.name_numbers(self._names))]
 
     # ---- counted
 
@@ -320,8 +322,15 @@ def task_names(tasks: str | int | Collection[str | int] | None) -> list[str | in
     """Return names and PIDs of tasks that were asked for, as a list; None for all. Raises `TypeError` if one is neither."""
     if tasks is None:
         return None
-    several = [tasks] if isinstance(tasks, str) or not isinstance(tasks, Iterable) else tasks
+    several: Iterable[Any] = [tasks] if isinstance(tasks, (str, bytes)) or not isinstance(tasks, Iterable) else tasks
     return [task if isinstance(task, str) else operator.index(task) for task in several]
+
+
+def chosen_of(
+    kinds: str | Collection[str] | None, cpus: int | Collection[int] | None, tasks: str | int | Collection[str | int] | None
+) -> Chosen:
+    """Return which waits are chosen. Raises what `kind_names`, `cpu_numbers` and `task_names` raise."""
+    return Chosen(kind_names(kinds), cpu_numbers(cpus), task_names(tasks))
 
 
 @public
@@ -361,6 +370,8 @@ def waits(trace: Trace | Recording | Desk, *, lenient: bool = False, jobs: int |
     ValueError
         If it is a recording of perf or trace-cmd, with the tool that converts it; or if a `Recording` holds only some CPUs,
         since tasks are woken from any.
+    TypeError
+        If it is no trace.
     ImportError
         If there is no numpy.
 

@@ -69,7 +69,8 @@ class Why(Fields):
     until
         The timestamp at which the wait ends, or the trace.
     waker
-        The task that woke or forked it, or that ran in its place.
+        The task that woke or forked it, or that ran in its place. If an interrupt woke it (`context`), this is the task that was
+        interrupted, which need not have to do with it.
     context
         `task`, `softirq`, `hardirq` or `nmi`: where the waking came from, by the flags of its line. None if the line has no
         flags, and for a desk, which has no text.
@@ -207,7 +208,7 @@ def why(trace: Desk | Trace | Recording | Waits, cpu: int | None = None, line: i
     TypeError
         If only one of `cpu` and `line` is there, or one is no number.
     ValueError
-        If `trace` is `Waits` that have no `source`.
+        If `trace` is `Waits` that have no `source`; or without an event, if it is a `Recording` of some CPUs only.
 
     It also raises what `waits` raises.
 
@@ -226,6 +227,8 @@ def why(trace: Desk | Trace | Recording | Waits, cpu: int | None = None, line: i
 
     if (cpu is None) != (line is None):
         raise TypeError("an event has both a CPU and a line; without both, the longest wait is explained")
+    if cpu is None and isinstance(trace, Recording) and trace.choice.cpus is not None:
+        raise ValueError("the longest wait needs the events of all CPUs, since tasks are woken from any; pass a CPU and a line")
     has_warned = isinstance(trace, (Desk, Waits))
     if isinstance(trace, Recording):
         has_warned, trace.is_reported = trace.is_reported, True

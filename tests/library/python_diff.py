@@ -190,6 +190,8 @@ class TwoRecordings(Case):
         pid = some[0][0].pid
         of_one = [[wait for wait in plain_waits.waits_of(text) if wait.pid == pid] for text in texts]
         self.holds(diff(*texts).only(tasks=pid), Reckoned(of_one, seconds))
+        # What can be gone through only once chooses of both.
+        self.holds(diff(*texts).only(tasks=iter([pid])), Reckoned(of_one, seconds))
 
     @unittest.skipUnless(pandas, "pandas is missing")
     def test_to_pandas(self):

@@ -249,12 +249,13 @@ class Parts(unittest.TestCase):
 
     def test_one_of_several(self):
         """One CPU or one name is taken as a list of it; a CPU is a number."""
-        text = waking(0, "1.000000") + waking(2, "2.000000")
+        text = waking(0, "1.000000") + waking(2, "2.000000") + waking(2, "3.000000").replace("sched_waking", "sched_wakeup")
         self.assertEqual(self.part(text, cpus=2).taken, self.part(text, cpus=[2]).taken)
-        self.assertEqual(self.part(text, cpus=2).taken.events, 1)
+        self.assertEqual(self.part(text, cpus=2).taken.events, 2)
         self.assertEqual(self.part(text, events="sched_waking").taken, self.part(text, events=["sched_waking"]).taken)
         self.assertEqual(self.part(text, events="sched_waking").taken.events, 2)
-        for wrong in ("2", ["2"], 2.0):
+        self.assertEqual(self.part(text, events=iter(["sched_waking"])).taken.events, 2)
+        for wrong in ("2", ["2"], 2.0, b"2"):
             with self.assertRaises(TypeError):
                 self.part(text, cpus=wrong)
 

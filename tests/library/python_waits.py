@@ -151,8 +151,18 @@ class Waits(unittest.TestCase):
         chosen = [wait for wait in all_of_them if wait.pid == 12 or wait.name == "a"]
         self.assertEqual(told(found.only(tasks=["a", 12, "nobody", 99])), chosen)
         self.assertEqual(len(found.only(tasks=[])), 0)
+        for tasks in ({10, 12}, numpy.array([10, 12]), iter([numpy.int64(10), 12])):
+            self.assertEqual(told(found.only(tasks=tasks)), [wait for wait in all_of_them if wait.pid in (10, 12)])
+        for wrong in ([1.5], b"a", [b"a"]):
+            with self.assertRaisesRegex(TypeError, "integer"):
+                found.only(tasks=wrong)
         with self.assertRaisesRegex(TypeError, "integer"):
-            found.only(tasks=[1.5])
+            found.only(cpus=b"2")
+        # A name isn't a number, and a number no name.
+        lines = [waking(0, 5, 7), switch(0, 9, "a-1", "12-7"), waking(0, 20, 12), switch(0, 30, "12-7", "b-12")]
+        named = waits_of(text_of(lines))
+        self.assertEqual([wait.pid for wait in told(named.only(tasks="12"))], [7])
+        self.assertEqual([wait.pid for wait in told(named.only(tasks=12))], [12])
         for kinds in (["old"], "old", ["woken", 7]):
             with self.assertRaisesRegex(ValueError, "is no kind of wait; the kinds are woken, new, preempted"):
                 found.only(kinds=kinds)
@@ -787,12 +797,13 @@ class Tool(unittest.TestCase):
         text, _ = self.run_tool(self.path("kinds"), "--kind", "new,woken", "--cpu", "2-3", "--csv")
         rows = [(row["pid"], row["kind"], row["count"]) for row in csv.DictReader(io.StringIO(text))]
         self.assertEqual(rows, [("13", "new", "2"), ("10", "woken", "1"), ("14", "woken", "1")])
-        for task, pids in (("10", {"10"}), ("a", {"10"}), ("renamed", {"10"})):
+        for task in ("10", "a", "renamed", "renamed-10", "a-10"):
             text, _ = self.run_tool(self.path("kinds"), "--task", task, "--csv")
             rows = list(csv.DictReader(io.StringIO(text)))
-            counts = Counter(wait.kind for wait in self.known["kinds"].waits if task in (str(wait.pid), wait.name))
+            names = (task, task.rpartition("-")[2])
+            counts = Counter(wait.kind for wait in self.known["kinds"].waits if str(wait.pid) in names or wait.name == task)
             self.assertEqual({row["kind"]: int(row["count"]) for row in rows}, counts)
-            self.assertEqual({row["pid"] for row in rows}, pids)
+            self.assertEqual({row["pid"] for row in rows}, {"10"})
         text, _ = self.run_tool(self.path("kinds"), "--task", "12", "--histogram", "--csv")
         self.assertEqual(sum(int(row["count"]) for row in csv.DictReader(io.StringIO(text))), 1)
         text, _ = self.run_tool(self.path("kinds"), "--from", "1.0003", "--until", "1.0005", "--csv")

@@ -477,8 +477,17 @@ class Longest(unittest.TestCase):
                 why = told(known.text)
                 self.assertEqual((why.micros, why.pid, why.begin[:3]), (first.micros, first.pid, first.begin))
 
+    def test_of_what(self):
+        """Of a desk, of waits, and of what was read of a trace; not of some CPUs."""
+        text = all_known()["kinds"].text
+        why = told(text)
+        for source in (desk_of(text), histdesk.waits(text), histdesk.read(text)):
+            self.assertEqual(told(source).begin, why.begin)
+        with self.assertRaisesRegex(ValueError, "all CPUs"):
+            told(histdesk.read(text, cpus=why.cpu))
+
     def test_none(self):
-        with self.assertRaisesRegex(LookupError, "no wait, or doubtful ones only"):
+        with self.assertRaisesRegex(LookupError, "no wait that isn't doubtful"):
             told(b"")
         for place in ((0,), (None, 1)):
             with self.assertRaisesRegex(TypeError, "both a CPU and a line"):

@@ -116,6 +116,17 @@ class Places(Command):
         self.assertEqual((status, out), (0, BUSY_TEXT + "\n"))
         self.assertEqual(told, "why: TRACE: 2 lines can't be read and are left out: the first is 1\n")
 
+    def test_options_that_would_do_nothing(self):
+        """They are refused: a place names one wait, and some options are of chains."""
+        for words in ("--task w", "--kind woken", "--worst 2", "--cpu 2", "--doubtful", "--at 1.0003"):
+            status, out, told = self.ran(trace(*BUSY), "2:4", *words.split())
+            self.assertEqual((status, out), (2, ""))
+            self.assertIn("a place names one wait", told)
+        for words in (["--beyond"], ["--steps", "3"]):
+            status, out, told = self.ran(trace(*BUSY), "2:4", *words)
+            self.assertEqual((status, out), (2, ""))
+            self.assertIn("go with --chain", told)
+
     def test_closed_pipe(self):
         path = os.path.join(self.folder, "long")
         with open(path, "wb") as file:

@@ -90,6 +90,7 @@ class AllCpus(Timeline):
             (-500, 0, 500): ["-500 µs", "0 µs", "500 µs"],
             (0, 500, 1000, 1500): ["0.0 ms", "0.5 ms", "1.0 ms", "1.5 ms"],
             (0,): ["0 µs"],
+            (2112500,): ["2.112500 s"],
         }
         script = "const { durations } = await import(`${path}numbers.js`); return durations(arguments[0]);"
         for times, texts in marks.items():

@@ -91,7 +91,7 @@ def add_kinds(to: argparse._ActionsContainer, help: str) -> None:
 
 def add_task(to: argparse._ActionsContainer) -> None:
     """Add the option that chooses tasks."""
-    help = "only those of tasks with this name or number"
+    help = "only waits of tasks with this name or PID; NAME-PID is one task"
     to.add_argument("--task", dest="tasks", metavar="TASK", type=named_tasks, help=help)
 
 
@@ -152,8 +152,9 @@ def wait_kinds(text: str) -> list[str]:
 
 
 def named_tasks(text: str) -> list[str | int]:
-    """Return a task's name, and its number if it may be one."""
-    return [text, int(text)] if text.isdecimal() and text == str(int(text)) else [text]
+    """Return a task's name, and its PID if the text may be one or ends with one, as in `make-24658`."""
+    last = text.rpartition("-")[2]
+    return [text, int(last)] if last.isdecimal() and last == str(int(last)) else [text]
 
 
 def row_count(text: str) -> int:

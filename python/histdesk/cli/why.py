@@ -56,7 +56,7 @@ def parsed(argv: Sequence[str] | None) -> argparse.Namespace:
     beyond_help = "with --chain: also what came before the waiting task fell asleep"
     parser.add_argument("--beyond", action="store_true", help=beyond_help)
     steps_help = f"with --chain: at most N steps ({STEPS})"
-    parser.add_argument("--steps", metavar="N", type=arguments.positive, default=STEPS, help=steps_help)
+    parser.add_argument("--steps", metavar="N", type=arguments.positive, help=steps_help)
     parser.add_argument("--json", action="store_true", help="one JSON object, with an object for each wait")
     chosen = parser.add_argument_group("which waits to explain if no place is given")
     chosen.add_argument("--worst", metavar="N", type=arguments.positive, help="the N longest (1, or all with --at)")
@@ -67,7 +67,19 @@ def parsed(argv: Sequence[str] | None) -> argparse.Namespace:
     chosen.add_argument("--doubtful", action="store_true", help="also waits that may be false")
     arguments.add_choice(parser, cpus="only waits that ended on these CPUs, such as 0,2,4-7")
     arguments.add_jobs(parser)
-    return parser.parse_intermixed_args(argv)
+    options = parser.parse_intermixed_args(argv)
+    check(parser, options)
+    options.steps = options.steps or STEPS
+    return options
+
+
+def check(parser: arguments.Parser, options: argparse.Namespace) -> None:
+    """End the tool if an option would do nothing."""
+    choosing = (options.worst, options.at, options.tasks, options.kinds, options.cpus)
+    if options.places and (options.doubtful or any(value is not None for value in choosing)):
+        parser.error("a place names one wait: --worst, --at, --task, --kind, --cpu and --doubtful go without one")
+    if not options.chain and (options.beyond or options.steps is not None):
+        parser.error("--beyond and --steps go with --chain")
 
 
 def explainer_of(options: argparse.Namespace) -> Explainer:

@@ -26,7 +26,7 @@ function inUnits(value, units) {
 export function durations(times) {
   const most = Math.max(...times.map(Math.abs));
   const [size, unit] = TIMES.findLast(([least]) => most >= least) || TIMES[0];
-  const step = times.length > 1 ? times[1] - times[0] : size;
+  const step = times.length > 1 ? times[1] - times[0] : 1;
   const places = Math.max(Math.ceil(-Math.log10(step / size) - 1e-9), 0);
   return times.map((time) => `${(time / size).toFixed(places)}${unit}`);
 }

@@ -58,7 +58,7 @@ export const timeline = {
     this.pictures = null;
     const { busy, waited } = this.overview.shares();
     const what = `${percent(busy)} busy, ${percent(waited)} idle though a task waited`;
-    // What doesn't fit is cut off, and the axis has the times too.
+    // What doesn't fit is cut off: the shares come first.
     this.title = `${what}: ${plural(this.overview.cpus.length, "CPU")} from ${stamp(from)} to ${stamp(until)}`;
     this.list();
     this.drawLegend();
