@@ -204,6 +204,9 @@ class Counts:
         ValueError
             If they aren't counted by one of these fields.
         """
+        unknown = set(fields) - set(self.fields)
+        if unknown:
+            raise ValueError(f"these waits aren't counted by {min(unknown)!r}; they are by {', '.join(self.fields)}")
         places = [self.fields.index(field) for field in fields]
         return combine(fields, [(self, [tuple(key[at] for at in places) for key in self.keys])])
 
@@ -261,6 +264,11 @@ class Counts:
         -------
         CountsRow or None
             Its row; None if there is no such key.
+
+        Raises
+        ------
+        ValueError
+            If it is no tuple of as many parts as there are fields.
         """
         part = self._part(key)
         return next(part._rows(), None)
@@ -294,7 +302,7 @@ class Counts:
         Raises
         ------
         ValueError
-            If `percent` isn't in that range.
+            If `percent` isn't in that range, or the key is no tuple of as many parts as there are fields.
         """
         part = self.by() if key is None else self._part(key)
         values = part._percentiles(percent)
@@ -314,6 +322,11 @@ class Counts:
         -------
         int
             The number of waits.
+
+        Raises
+        ------
+        ValueError
+            If the key is no tuple of as many parts as there are fields.
         """
         columns = (self if key is None else self._part(key))._columns
         return int(columns.count[columns.micros > micros].sum())
@@ -331,6 +344,11 @@ class Counts:
         list of tuples
             Pairs of n, whose `low` and `high` are the bounds in microseconds, and how many waits are at most 2^n microseconds
             long and longer than 2^(n-1). For waits of 0 and 1, n is 0.
+
+        Raises
+        ------
+        ValueError
+            If the key is no tuple of as many parts as there are fields.
         """
         columns = (self if key is None else self._part(key))._columns
         if not len(columns.micros):
@@ -345,7 +363,9 @@ class Counts:
     # ---- how
 
     def _part(self, key: Key) -> Counts:
-        """Return the counts of one key only; empty ones if it isn't there."""
+        """Return the counts of one key only; empty ones if it isn't there. Raises `ValueError` if it has other fields."""
+        if not isinstance(key, tuple) or len(key) != len(self.fields):
+            raise ValueError(f"a key of these counts is a tuple of {', '.join(self.fields) or 'nothing'}, and not {key!r}")
         at = self._number.get(key)
         if at is None:
             return Counts.empty(self.fields)

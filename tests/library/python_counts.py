@@ -158,6 +158,18 @@ class Plain(unittest.TestCase):
                 if not row.count:
                     self.assertEqual(row.task, last[row.pid])
 
+    def test_wrong_keys(self):
+        """What can't be a key is refused, where a key that isn't there has nothing."""
+        counts = quietly_found(crowded(1)).counts("name")
+        self.assertEqual((counts.percentile(99, ("nobody", "woken")), counts.histogram(("nobody", "woken"))), (None, []))
+        self.assertEqual((counts.longer(5, ("nobody", "woken")), counts.row(("nobody", "woken"))), (0, None))
+        for key in ("a", ("a",), ["a", "woken"], ()):
+            for ask, words in ((counts.row, ()), (counts.histogram, ()), (counts.percentile, (50,)), (counts.longer, (5,))):
+                with self.assertRaisesRegex(ValueError, "a tuple of name, kind, and not"):
+                    ask(*words, key)
+        with self.assertRaisesRegex(ValueError, "aren't counted by 'task'; they are by name, kind"):
+            counts.by("task")
+
 
 class Counted(unittest.TestCase):
     """Waits that are counted while a text is read."""
