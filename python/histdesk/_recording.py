@@ -407,7 +407,8 @@ def cpu_numbers(cpus: int | Collection[int] | None) -> list[int] | None:
     """Return CPUs that were asked for, as a list; None for all. Raises `TypeError` if one is no number."""
     if cpus is None:
         return None
-    numbers: Iterable[Any] = cpus if isinstance(cpus, Iterable) and not isinstance(cpus, bytes) else [cpus]
+    is_one = isinstance(cpus, bytes) or not isinstance(cpus, Iterable)
+    numbers: Iterable[Any] = [cpus] if is_one else cast("Collection[int]", cpus)
     return [operator.index(cpu) for cpu in numbers]
 
 
