@@ -31,7 +31,7 @@ is_running pid (entry ∷ before) =
     if runs pid entry.1 then true
     else (if leaves pid entry.1 then false else is_running pid before)
 
--- whether a task can run: the last act that names it runs it, wakes it or creates it, or takes the CPU from it while it can still run. So a waking counts for nothing once the task was left asleep after it
+-- whether a task can run: the last act that names it runs it, wakes it or creates it, or takes the CPU from it while it can still run. So a waking counts for nothing once a later switch leaves the task unable to run
 unfoldable pub is_runnable : ℤ → List (Pos × Act) → Bool
 is_runnable pid [] = false
 is_runnable pid (entry ∷ before) =
