@@ -36,15 +36,14 @@ use Rattle.ft_repair.proofs.MergedLanes.{absent_before, merged_one_less, merged_
 use Rattle.ft_shelves.specs.declared.sign.Sign.{Sign}
 use Rattle.ft_shelves.specs.declared.sign.Sign.TheVariants.{Insert, Retract}
 use Rattle.ft_board.specs.declared.views.Views.{Views}
-use Rattle.ft_board.specs.inner.Edits.{Edit, IsEdit, pos_at}
-use Rattle.ft_board.specs.MadeShelves.{AreMadeBy}
+use Rattle.ft_board.specs.inner.Edits.{AreAfter, AreBefore, Edit, IsEdit, pos_at}
 use Rattle.ft_board.specs.inner.Mending.{CanMendTo}
 use Rattle.ft_repair.specs.OneEvent.{AreKeptAfter, ChangeCosts, EventNeedsNoMemory, events_before, events_after}
 use Rattle.ft_board.specs.inner.Readings.{readings_on}
 use Rattle.ft_board.specs.inner.Reported.{IsReportBy, RepairsReported}
 use Rattle.ft_board.specs.inner.Views.{AreFresh, AreOf, made_in}
 use Rattle.ft_board.proofs.MendedEdits.{among_one_less}
-use Rattle.ft_board.proofs.StillMade.{AreAmong, ReadingsAre, all_told, among_same, can_mend, mended_if}
+use Rattle.ft_board.proofs.StillMade.{AreAmong, ReadingsAre, all_told, among_same, can_mend}
 
 -- an event that takes no memory is one of triggers without a variable
 pub plain_of : (sign : Sign) (triggers : Triggers) (event : Traced) → EventNeedsNoMemory sign triggers event → IsPlainHit triggers event
@@ -63,33 +62,26 @@ after_among Retract all pos = among_one_less all pos
 
 -- ---- what is kept
 
-module _ (sign : Sign) (base : Base) (pos : Pos) (edit : Edit) (is : IsEdit sign base pos edit) where
+module _ (sign : Sign) (base : Base) (pos : Pos) where
   abbrev all : Events
   all = merged base.lanes
 
-  pub was_of : (views : Views) → AreFresh edit.old views → AreOf base.triggers (events_before sign all pos) views
-  was_of views fresh = subst (λ (p : Triggers × Events). AreOf p.0 p.1 views) (λ i. (is.same_before i, is.was i)) fresh
-
-  pub fresh_of : (views : Views) → AreOf base.triggers (events_after sign all pos) views → AreFresh edit.new views
-  fresh_of views are = subst (λ (p : Triggers × Events). AreOf p.0 p.1 views) (λ i. (sym is.same_after i, sym is.is i)) are
-
-  pub later_fresh : (later : Option Shelves) → IfSome later (AreKeptAfter sign base pos) → IfSome later (AreKeptOf edit.new)
-  later_fresh later kept = subst (λ (p : Triggers × Events). IfSome later (AreKept p.0 p.1)) (λ i. (sym is.same_after i, sym is.is i)) kept
-
   -- after the repair, the tables of made events can be mended
-  pub can_change : {X : Type 0} → ReadingsAre → (views : Views) → AreFresh edit.old views → (later : Option Shelves) → (views.shelves ≡ None → later ≡ None)
+  pub can_change : {X : Type 0} → ReadingsAre → (views : Views) → AreBefore sign base pos views → (later : Option Shelves) → (views.shelves ≡ None → later ≡ None)
       → (asked before after : Told) → before ≡ record asked { keys = Some [] } → (asked.readings ≡ Some []) ⊎ ((asked.readings ≡ None) × X) → IfBoth (HasToldFew (map.entries base.triggers) before after) views.shelves later
       → IfSome later (λ shelves. CanMendTo base.triggers all after.readings (found_in (readings_on shelves)) (made_in views))
-  can_change {X} readings views fresh later gone asked before after with asks told =
+  can_change {X} readings views right later gone asked before after with asks told =
       can_mend readings base.triggers (events_before sign all pos) all (before_among sign all pos) before.readings after.readings views.shelves later (made_in views)
-      (subst (λ (t : Told). (t.readings ≡ Some []) ⊎ ((t.readings ≡ None) × X)) (sym with) asks) (was_of views fresh) gone
+      (subst (λ (t : Told). (t.readings ≡ Some []) ⊎ ((t.readings ≡ None) × X)) (sym with) asks) right gone
       (IfSome_then later told (λ shelves few. IfSome_then views.shelves few (λ old its. record { readings = its.told.readings; told = its.told.told_readings; lead = its.told.lead })))
 
-  -- mended, what is kept is that of the base afterwards
-  pub mended_fresh : ReadingsAre → (later : Option Shelves) (new : Views) → (new.shelves ≡ later) ⊎ (new.shelves ≡ None) → IfSome later (AreKeptAfter sign base pos)
-      → IfSome new.shelves (λ shelves. AreMadeBy base.triggers all (found_in (readings_on shelves)) (made_in new)) → AreFresh edit.new new
-  mended_fresh readings later new left kept are =
-      fresh_of new (mended_if readings base.triggers (events_after sign all pos) all (after_among sign all pos) later new.shelves (made_in new) left kept are)
+module _ (sign : Sign) (base : Base) (pos : Pos) (edit : Edit) (is : IsEdit sign base pos edit) where
+  -- what is kept is that of the bases before and afterwards
+  pub kept_before : (views : Views) → AreBefore sign base pos views → AreFresh edit.old views
+  kept_before views are = subst (λ (p : Triggers × Events). AreOf p.0 p.1 views) (λ i. (sym is.same_before i, sym is.was i)) are
+
+  pub kept_after : (views : Views) → AreAfter sign base pos views → AreFresh edit.new views
+  kept_after views are = subst (λ (p : Triggers × Events). AreOf p.0 p.1 views) (λ i. (sym is.same_after i, sym is.is i)) are
 
   pub costs_of : (event : Traced) (old new : Steps) → ChangeCosts sign base pos event old new → CostsOf edit.old.triggers event (merged edit.old.lanes) (merged edit.new.lanes) old new
   costs_of event old new costs =
@@ -108,13 +100,14 @@ module _ (sign : Sign) (base : Base) (pos : Pos) (edit : Edit) (is : IsEdit sign
       (reported edit.old edit.new old later told.told.keys (is.same_after ∙ sym is.same_before) was now forms told.told.hits
       (subst (λ (ts : Triggers). AreFew (role_on old) (map.entries ts) told.told.keys) (sym is.same_before) told.few)))
 
-  -- a report of the keys that were told since none were is one of the bases before and after
-  pub edit_reported : RepairsReported → (views : Views) → AreFresh edit.old views → (later mended : Option Shelves) → (mended ≡ later) ⊎ (mended ≡ None) → IfSome later (AreKeptAfter sign base pos)
+  -- a report of the keys that were told since none were is one of the bases
+  pub edit_reported : RepairsReported → (views : Views) → AreBefore sign base pos views → (later mended : Option Shelves) → (mended ≡ later) ⊎ (mended ≡ None) → IfSome later (AreKeptAfter sign base pos)
       → (views.shelves ≡ None → later ≡ None) → IfBoth FormsStay views.shelves later → (before after : Told) → before.keys ≡ Some [] → IfBoth (HasToldFew (map.entries base.triggers) before after) views.shelves later
       → (rows : List Changed) → IsReportBy base.triggers mended after.keys rows → IsReport edit.old edit.new rows
-  edit_reported reported views fresh later mended left kept gone forms before after none told rows by =
+  edit_reported reported views right later mended left kept gone forms before after none told rows by =
       let there : later ≡ Some by.shelves = ⊎_elim (λ same. sym same ∙ by.there) (λ lost. absurd (none-some by.shelves (sym lost ∙ by.there))) left in
-      let each = reported_if reported views.shelves later fresh.0 (later_fresh later kept) gone forms before after none told in
+      let now : IfSome later (AreKeptOf edit.new) = subst (λ (p : Triggers × Events). IfSome later (AreKept p.0 p.1)) (λ i. (sym is.same_after i, sym is.is i)) kept in
+      let each = reported_if reported views.shelves later (kept_before views right).0 now gone forms before after none told in
       subst (IsReport edit.old edit.new) (sym by.are)
       (subst (λ (o : Option (List KeyChange)). IfSome o (λ keys. IsReport edit.old edit.new (report_of base.triggers by.shelves keys))) by.are_told
       (subst (λ (o : Option Shelves). IfSome o (λ shelves. IfSome after.keys (λ keys. IsReport edit.old edit.new (report_of base.triggers shelves keys)))) there each))
@@ -128,46 +121,44 @@ taken_out events pos event none = same_map pos_cmp_total pos_same (map.remove (m
   from q true tie = sym (ap (map.get events) (same_from_tie pos_same q pos tie) ∙ none)
   from q false apart = get-insert pos_cmp_total events pos event q ∙ ap (λ (b : Bool). cond b (Some event) (map.get events q)) apart
 
--- an event that was put in is held, and comes by an edit
+-- an event that was put in is held at its place, and comes by an edit; what is kept is that of before
 pub record Comes (old new : Base) (pos : Pos) (event : Traced) : Type 0 where
   pub held : IsHeldAt new.lanes pos event
   pub by : IsEdit Insert new pos (record { old = old; new = new })
 
-pub inserts : (base new : Base) (event : Traced) (place : Place) → IsReachable base → after_insert base event ≡ Ok (new, place) → Comes base new (pos_at place event.stamp) event
-inserts base new event place reachable answer =
-    subst (λ (given : Base × Place). Comes base given.0 (pos_at given.1 event.stamp) event) (insert-gives base event new place answer) (record {
+pub inserts : (base new : Base) (event : Traced) (place : Place) → IsReachable base → after_insert base event ≡ Ok (new, place) → (pos : Pos) → pos ≡ pos_at place event.stamp → Comes base new pos event
+inserts base new event place reachable answer pos at =
+    subst (λ (p : Pos). Comes base new p event) (sym at)
+    (subst (λ (given : Base × Place). Comes base given.0 (pos_at given.1 event.stamp) event) (insert-gives base event new place answer) (record {
       held = (new_line_has base event, refl);
       by = record {
         same_before = refl;
         same_after = refl;
-        was = sym (taken_out (merged base.lanes) at event (absent_before base reachable event)) ∙ ap (λ (m : Events). map.remove m at) (merged_one_more base reachable event);
+        was = sym (taken_out (merged base.lanes) new_place event (absent_before base reachable event)) ∙ ap (λ (m : Events). map.remove m new_place) (merged_one_more base reachable event);
         is = refl;
       };
-    })
+    }))
   where
-    at : Pos
-    at = record { stamp = event.stamp; cpu = event.cpu; line = (lane_or_new base.lanes event.cpu).next }
+    new_place : Pos
+    new_place = record { stamp = event.stamp; cpu = event.cpu; line = (lane_or_new base.lanes event.cpu).next }
 
--- a base without the event of a line
-abbrev pub struck : Base → Place → Base
-struck base place = record base { lanes = lanes_without base.lanes place.cpu place.line }
-
--- an event that is held goes by an edit
-pub record Goes (base : Base) (place : Place) (pos : Pos) (event : Traced) : Type 0 where
+-- an event that is held goes by an edit, after which a base lacks it
+pub record Goes (base new : Base) (pos : Pos) (event : Traced) : Type 0 where
   pub held : IsHeldAt base.lanes pos event
-  pub by : IsEdit Retract base pos (record { old = base; new = struck base place })
+  pub by : IsEdit Retract base pos (record { old = base; new = new })
 
-pub strikes : (base : Base) (place : Place) (event : Traced) → event_at base.lanes place.cpu place.line ≡ Some event → Goes base place (pos_at place event.stamp) event
-strikes base place event there = record {
+pub strikes : (base new : Base) (place : Place) (event : Traced) → event_at base.lanes place.cpu place.line ≡ Some event → new ≡ record base { lanes = lanes_without base.lanes place.cpu place.line }
+    → (pos : Pos) → pos ≡ pos_at place event.stamp → Goes base new pos event
+strikes base new place event there gone pos at = subst (λ (x : Base × Pos). Goes base x.0 x.1 event) (λ i. (sym gone i, sym at i)) (record {
   held = (there, refl);
   by = record {
     same_before = refl;
     same_after = refl;
     was = refl;
-    is = merged_one_less base.lanes place.cpu place.line event there (map.remove (merged base.lanes) at) (get-remove_same pos_cmp_total (merged base.lanes) at)
-        (put_back (merged base.lanes) at event (placed_there base.lanes place.cpu place.line event there));
+    is = merged_one_less base.lanes place.cpu place.line event there (map.remove (merged base.lanes) its_place) (get-remove_same pos_cmp_total (merged base.lanes) its_place)
+        (put_back (merged base.lanes) its_place event (placed_there base.lanes place.cpu place.line event there));
   };
-}
+})
   where
-    at : Pos
-    at = pos_at place event.stamp
+    its_place : Pos
+    its_place = pos_at place event.stamp

@@ -25,7 +25,7 @@ use Rattle.ft_board.specs.MadeShelves.{MadeTables, AreMade, AreMadeBy, made_on}
 use Rattle.ft_board.specs.declared.views.Views.{Views}
 use Rattle.ft_board.specs.inner.Edits.{Edit, ReportsEdit}
 use Rattle.ft_board.specs.inner.Readings.{readings_on}
-use Rattle.ft_board.specs.inner.Updated.{AreUpdatedRows}
+use Rattle.ft_board.specs.inner.MadeRows.{AreUpdatedRows}
 use Rattle.ft_board.proofs.KeptBoardTold.{kept_shown, none_is}
 
 module _ (tallied : TablesAreTallied) where
@@ -42,7 +42,7 @@ module _ (tallied : TablesAreTallied) where
     -- rows that were told before tables were mended are a report of the bases
     rows_reported : (shelves : Shelves) (before after : MadeTables) → AreMade base before → AreMade new after
         → AreMadeBy mid.triggers (merged mid.lanes) (found_in (readings_on shelves)) after
-        → (rows : List Changed) → AreUpdatedRows mid.triggers (merged mid.lanes) shelves before rows → IsMadeReport base new rows
+        → (rows : List Changed) → AreUpdatedRows mid.triggers (merged mid.lanes) (found_in (readings_on shelves)) before rows → IsMadeReport base new rows
     rows_reported shelves before after was is updates rows told = record {
       once = told.once;
       made = λ id key some. let its = told.counted id key some in (its.0, (ap (λ (ts : Triggers). map.get ts id) (sym same_mid) ∙ its.1.0, its.1.1));
@@ -56,7 +56,7 @@ module _ (tallied : TablesAreTallied) where
     -- and so where shelves are kept all along; else none are told
     pub told_made : {V : Type 0} (rows : Option V) (items : V → List Changed) (old mended : Option Shelves) (before after : MadeTables) → IfSome old (λ _. AreMade base before) → (old ≡ None → mended ≡ None)
         → IfSome mended (λ _. AreMade new after) → IfSome mended (λ shelves. AreMadeBy mid.triggers (merged mid.lanes) (found_in (readings_on shelves)) after)
-        → IfSome rows (λ r. IfSome mended (λ shelves. AreUpdatedRows mid.triggers (merged mid.lanes) shelves before (items r)))
+        → IfSome mended (λ shelves. IfSome rows (λ r. AreUpdatedRows mid.triggers (merged mid.lanes) (found_in (readings_on shelves)) before (items r)))
         → IfSome (option_and_then (λ _. rows) mended) (λ r. IsMadeReport base new (items r))
     told_made rows items old None before after was gone is updates told = tt
     told_made None items old (Some mended) before after was gone is updates told = tt

@@ -36,44 +36,6 @@ use Rattle.ft_board.specs.MadeShelves.{MadeTables, made_on, AreMadeBy, AreMade}
 use Rattle.ft_board.specs.inner.Mending.{OtherTablesStay}
 use Rattle.ft_board.specs.inner.Readings.{readings_on}
 
--- ---- triggers one by one
-
--- each attached trigger but those that are left has a property; these are attached
-pub record AreBut (P : ℕ → Hist → Type 0) (triggers : Triggers) (rest : List (ℕ × Hist)) : Type 0 where
-  pub done : (id : ℕ) (hist : Hist) → map.get triggers id ≡ Some hist → find nat_cmp id rest ≡ None → P id hist
-  pub attached : AllByRecursion (λ e. map.get triggers e.0 ≡ Some e.1) rest
-
-pub but_all : (P : ℕ → Hist → Type 0) (triggers : Triggers) → AreBut P triggers (map.entries triggers)
-but_all P triggers = record {
-  done = λ id hist there none. let both : ◌≡◌ {A = Option Hist} (Some hist) None = sym there ∙ get-entries triggers id ∙ none in absurd cc;
-  attached = entries_found nat_cmp nat_cmp_total triggers;
-}
-
-module _ (P : ℕ → Hist → Type 0) (triggers : Triggers) (e : ℕ × Hist) (rest left : List (ℕ × Hist)) (more : left ≡ e ∷ rest) (is : AreBut P triggers left) where
-  first : AreBut P triggers (e ∷ rest)
-  first = subst (AreBut P triggers) more is
-
-  -- the first of those that are left is attached
-  pub first_attached : map.get triggers e.0 ≡ Some e.1
-  first_attached = first.attached.0
-
-  -- as it gets a property, and those that are done keep theirs, the rest are left
-  pub but_rest : (Q : ℕ → Hist → Type 0) → Q e.0 e.1 → ((id : ℕ) (hist : Hist) → eq_by_cmp nat_cmp id e.0 ≡ false → P id hist → Q id hist) → AreBut Q triggers rest
-  but_rest Q here stay = record {
-    done = λ id hist there none. elim (eq_by_cmp nat_cmp id e.0) as (λ (b : Bool). eq_by_cmp nat_cmp id e.0 ≡ b → Q id hist) [
-      | true ↦ λ tie.
-          let same : id ≡ e.0 = same_from_tie nat_cmp-IsAntisymmetric id e.0 tie in
-          let its : e.1 ≡ hist = same_Some _ _ (sym first_attached ∙ sym (ap (map.get triggers) same) ∙ there) in
-          subst (λ (x : ℕ × Hist). Q x.0 x.1) (λ i. (sym same i, its i)) here
-      | false ↦ λ apart. stay id hist apart (first.done id hist there (ap (λ (b : Bool). cond b (Some e.1) (find nat_cmp id rest)) apart ∙ none))
-    ] refl;
-    attached = first.attached.1;
-  }
-
--- none is left
-pub but_none : (P : ℕ → Hist → Type 0) (triggers : Triggers) (rest : List (ℕ × Hist)) → rest ≡ [] → AreBut P triggers rest → (id : ℕ) (hist : Hist) → map.get triggers id ≡ Some hist → P id hist
-but_none P triggers rest none is id hist there = is.done id hist there (ap (find nat_cmp id) none)
-
 -- ---- tables one by one
 
 -- the table of a trigger, by what its id has
@@ -88,22 +50,6 @@ module _ (old new : MadeTables) (id : ℕ) (table : Tabled) (put : new ≡ map.i
   -- and the others stay
   pub others_put : OtherTablesStay id old new
   others_put other apart = ap (λ (made : MadeTables). map.get made other) put ∙ get-insert nat_cmp_total old id table other ∙ ap (λ (b : Bool). cond b (Some table) (map.get old other)) apart
-
-module _ (triggers : Triggers) (events : Events) (found : Findings) where
-  -- a trigger that counts made events has its table
-  abbrev pub HasMade : MadeTables → ℕ → Hist → Type 0
-  HasMade made id hist = counts_made hist ≡ true → IsMadeTable triggers events found hist (made_on made id hist)
-
-  module _ (e : ℕ × Hist) (rest left : List (ℕ × Hist)) (more : left ≡ e ∷ rest) (old : MadeTables) (is : AreBut (HasMade old) triggers left) where
-    -- the first of the triggers that are left counts made events, and gets its table
-    pub made_more : (new : MadeTables) (table : Tabled) → IsMadeTable triggers events found e.1 table → new ≡ map.insert old e.0 table → AreBut (HasMade new) triggers rest
-    made_more new table its put = but_rest (HasMade old) triggers e rest left more is (HasMade new)
-        (λ counts. subst (IsMadeTable triggers events found e.1) (sym (table_put old new e.0 table put e.1)) its)
-        (λ id hist apart has counts. subst (IsMadeTable triggers events found hist) (sym (ap (table_by hist) (others_put old new e.0 table put id apart))) (has counts))
-
-    -- it counts none, and gets none
-    pub made_skip : counts_made e.1 ≡ false → AreBut (HasMade old) triggers rest
-    made_skip other = but_rest (HasMade old) triggers e rest left more is (HasMade old) (λ counts. absurd (true≢false (sym counts ∙ other))) (λ id hist apart has. has)
 
 -- ---- where no event is made
 
@@ -139,11 +85,6 @@ pub none_counts : (made : MadeTables) → AreMade empty_base made
 none_counts made id hist there counts = let both : ◌≡◌ {A = Option Hist} None (Some hist) = sym (get-empty {X = Hist} nat_cmp id) ∙ there in absurd cc
 
 -- ---- what shelves keep of readings is what these find
-
--- what follows of tables, where there are some
-pub if_made : {E : Type 0} (P Q : MadeTables → Type 0) (result : Result (BTreeMap ℕ Tabled) E) → ((made : MadeTables) → P made → Q made) → IfOk result (λ made. P (seen nat_cmp made)) → IfOk result (λ made. Q (seen nat_cmp made))
-if_made P Q (Ok made) more has = more (seen nat_cmp made) has
-if_made P Q (Err fault) more has = tt
 
 pub found_on : (triggers : Triggers) (events : Events) (shelves : Shelves) → AreKept triggers events shelves
     → ((id : ℕ) (hist : Hist) (shelf : Shelved) → map.get triggers id ≡ Some hist → map.get shelves id ≡ Some shelf → (at : Pos) → map.get shelf.readings at ≡ saving_found triggers events id at)

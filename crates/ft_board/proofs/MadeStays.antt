@@ -6,7 +6,7 @@ use Rattle.std.specs.Ordering.{eq_by_cmp, nat_cmp}
 use Rattle.std.specs.Cmp.{nat_cmp_total}
 use Rattle.std.specs.FinMap as map
 use Rattle.std.specs.FinMap.{FinMap, nat_cmp-IsAntisymmetric}
-use Rattle.std.proofs.lemmas.Bool.{and_parts, cases_eq, eqb-false, eqb-true, or_from, or_parts, true≢false}
+use Rattle.std.proofs.lemmas.Bool.{and_parts, cases_eq, eqb-false, eqb-true, false_from_ne_true, ne_eqb, or_from, or_parts, true≢false}
 use Rattle.std.proofs.lemmas.Option.{none-some, same_Some}
 use Rattle.ft_fields.specs.Traced.{Traced}
 use Rattle.ft_fields.specs.declared.pos.Pos.{Pos}
@@ -33,30 +33,22 @@ use Rattle.ft_replay.specs.Found.{saving_found}
 use Rattle.ft_replay.specs.Hits.{TriggerHit, found_at, hit_at, read_as}
 use Rattle.ft_replay.specs.Merged.{Events, merged}
 use Rattle.ft_made.specs.MadeEvents.{made_at}
-use Rattle.ft_made.specs.MadeTables.{IsMadeTable, found_in}
+use Rattle.ft_made.specs.MadeTables.{IsMadeTable}
 use Rattle.ft_repair.specs.ButOneTrigger.{AreKeptBut}
 use Rattle.ft_repair.specs.KeptShelves.{AreKept, AreKeptOf, HasItsShelf}
 use Rattle.ft_repair.specs.Staying.{IsReadAlike, ReadsAsBefore}
 use Rattle.ft_board.specs.Makers.{LeavesMakers, MadeStay, MakersStay, makes, makes_with, shares_read}
 use Rattle.ft_board.specs.MadeShelves.{MadeTables, AreMade, AreMadeBy, made_on}
 use Rattle.ft_board.specs.inner.Views.{AreMadeBut}
-use Rattle.ft_board.specs.inner.Readings.{readings_on}
-use Rattle.ft_board.proofs.MadeShelves.{no_event, others_put, table_by, table_put}
+use Rattle.ft_board.specs.inner.Mending.{OtherTablesStay}
+use Rattle.ft_board.proofs.MadeShelves.{no_event, table_by}
 use Rattle.ft_board.proofs.Makers.{makes_none}
-use Rattle.ft_board.proofs.StillMade.{AreRightIf, ReadingsAre, among_same, are_found, made_here, nothing_at, same_made, table_stays}
+use Rattle.ft_board.proofs.StillMade.{AreRightIf, ReadingsAre, made_here, nothing_at, table_stays}
 
 -- a reader keeps its readings, where its saver stays and those that read it stay
 abbrev pub ReadersStay : Type 0
 ReadersStay = (triggers others : Triggers) (events : Events) (old new : Shelves) → AreKept triggers events old → AreKept others events new → (saver : ℕ) → IsReadAlike triggers others saver
     → (id : ℕ) → role_at triggers id ≡ Reads saver → ReadsAsBefore id old new
-
--- what is not so is false
-not_true : (b : Bool) → (b ≡ true → ⊥) → b ≡ false
-not_true true apart = absurd (apart refl)
-not_true false apart = refl
-
-not_equal : (a b : ℕ) → (a ≡ b → ⊥) → (a == b) ≡ false
-not_equal a b apart = not_true (a == b) (λ same. apart (eqb-true a b same))
 
 -- ---- who makes events
 
@@ -90,7 +82,7 @@ reads_from_is id Saves is = let both : ◌≡◌ {A = Bool} false true = is in a
 reads_from_is id (Reads saver) is = ap (λ (k : ℕ). Reads k) (eqb-true saver id is)
 
 not_read : (saver : ℕ) (role : Role) → (role ≡ Reads saver → ⊥) → reads_from saver role ≡ false
-not_read saver role apart = not_true (reads_from saver role) (λ reads. apart (reads_from_is saver role reads))
+not_read saver role apart = false_from_ne_true (reads_from saver role) (λ reads. apart (reads_from_is saver role reads))
 
 module _ (triggers : Triggers) (id : ℕ) (leaves : LeavesMakers triggers id) (maker : ℕ) (hist : Hist) (there : map.get triggers maker ≡ Some hist) (making : makes hist ≡ true) where
   module _ (saver : ℕ) (reads : role_at triggers maker ≡ Reads saver) where
@@ -145,7 +137,7 @@ module _ (triggers : Triggers) (id : ℕ) where
       no_kin Plain is = refl
       no_kin Saves is = refl
       no_kin (Reads saver) is = or_from (id == saver) (reads_from saver (role_at triggers id))
-          (not_equal id saver (λ same. unread.unread maker (is ∙ ap (λ (k : ℕ). Reads k) (sym same))))
+          (ne_eqb id saver (λ same. unread.unread maker (is ∙ ap (λ (k : ℕ). Reads k) (sym same))))
           (not_read saver (role_at triggers id) (role saver))
 
       by_onmatch : (b : Bool) → is_some hist.onmatch ≡ b → makes_with triggers id hist ≡ false
@@ -237,7 +229,7 @@ module _ (triggers : Triggers) (events : Events) where
   nothing_here : (spot : Spot) (event : Traced) → ((hist : Hist) → map.get triggers spot.maker ≡ Some hist → makes hist ≡ true → ⊥) → made_here (saving_found triggers events) spot event (map.get triggers spot.maker) ≡ None
   nothing_here spot event none = elim (map.get triggers spot.maker) as (λ (o : Option Hist). map.get triggers spot.maker ≡ o → made_here (saving_found triggers events) spot event o ≡ None) [
     | None ↦ λ _. refl
-    | Some hist ↦ λ there. makes_nothing spot.maker hist there (not_true (makes hist) (none hist there)) spot.pos event
+    | Some hist ↦ λ there. makes_nothing spot.maker hist there (false_from_ne_true (makes hist) (none hist there)) spot.pos event
   ] refl
 
 -- ---- what is made
@@ -305,7 +297,7 @@ module _ (stay : MadeStay) where
   -- as one is attached, they keep theirs too
   module _ (old new : Base) (id : ℕ) (hist : Hist) (joins : JoinsAs id hist old new) where
     joins_made : (had has : Shelves) (made : MadeTables) → AreKeptOf old had → AreMade old made → LeavesMakers new.triggers id → AreKeptOf new has → AreMadeBut id new made
-    joins_made had has made kept are leaves will other its apart there counts =
+    joins_made had has made kept are leaves will other its there counts apart =
         let before : AreKept (map.remove new.triggers id) (merged new.lanes) had = subst (λ (b : Base). AreKept b.triggers (merged b.lanes) had) (sym joins.before) kept in
         let were : AreMade (base_without new id) made = subst (λ (b : Base). AreMade b made) (sym joins.before) are in
         same_table (map.remove new.triggers id) new.triggers (merged new.lanes)
@@ -320,7 +312,7 @@ module _ (stay : MadeStay) where
   -- and as one gets another filter
   module _ (id : ℕ) (old new : Base) (gets : GetsFilter id old new) (alike : makes gets.hist ≡ makes gets.was) where
     filter_made : (had has : Shelves) (made : MadeTables) → AreKeptOf old had → AreMade old made → LeavesMakers new.triggers id → AreKeptOf new has → AreMadeBut id new made
-    filter_made had has made kept are leaves will other its apart there counts =
+    filter_made had has made kept are leaves will other its there counts apart =
         let then : AreKept new.triggers (merged old.lanes) has = subst (λ (lanes : Lanes). AreKept new.triggers (merged lanes) has) gets.lanes will in
         subst (λ (lanes : Lanes). IsMadeTable new.triggers (merged lanes) (saving_found new.triggers (merged lanes)) its (made_on made other its)) (sym gets.lanes)
         (same_table old.triggers new.triggers (merged old.lanes) (stay old.triggers new.triggers (merged old.lanes) had has kept then (filter_stay id old new gets alike leaves)) its (made_on made other its)
@@ -343,33 +335,15 @@ pub settled : (base : Base) (id : ℕ) (kept : Option Shelves) (made : MadeTable
     → IfSome kept (λ _. AreMadeBut id base made) → IfSome kept (λ _. AreMade base made)
 settled base id None made uncounted but = tt
 settled base id (Some shelves) made uncounted but = λ other hist there counts.
-    but other hist (λ same. true≢false (sym counts ∙ uncounted hist (ap (map.get base.triggers) (sym same) ∙ there))) there counts
+    but other hist there counts (λ same. true≢false (sym counts ∙ uncounted hist (ap (map.get base.triggers) (sym same) ∙ there)))
 
--- ---- one table
-
-module _ (base : Base) (id : ℕ) (hist : Hist) (attached : map.get base.triggers id ≡ Some hist) (table : Tabled)
-    (its : IsMadeTable base.triggers (merged base.lanes) (saving_found base.triggers (merged base.lanes)) hist table) where
-  -- a trigger's table that is put among the others makes all right
-  put_right : (old new : MadeTables) → new ≡ map.insert old id table → AreMadeBut id base old → AreMade base new
-  put_right old new put but other own there counts = ⊎_elim
-      (λ same.
-      let is : hist ≡ own = same_Some _ _ (sym attached ∙ ap (map.get base.triggers) (sym same) ∙ there) in
-      subst (λ (x : ℕ × Hist). IsMadeTable base.triggers (merged base.lanes) (saving_found base.triggers (merged base.lanes)) x.1 (made_on new x.0 x.1)) (λ i. (sym same i, is i))
-      (subst (IsMadeTable base.triggers (merged base.lanes) (saving_found base.triggers (merged base.lanes)) hist) (sym (table_put old new id table put hist)) its))
-      (λ apart. subst (IsMadeTable base.triggers (merged base.lanes) (saving_found base.triggers (merged base.lanes)) own)
-      (sym (ap (table_by own) (others_put old new id table put other (not_true (eq_by_cmp nat_cmp other id) (λ tie. apart (same_from_tie nat_cmp-IsAntisymmetric other id tie))))))
-      (but other own apart there counts))
-      (cases_eq other id)
-
-  pub put_fresh : (old new : Option Shelves) (was made : MadeTables) → (new ≡ old) ⊎ (new ≡ None) → IfSome new (λ _. made ≡ map.insert was id table) → IfSome old (AreKeptOf base)
-      → IfSome old (λ _. AreMadeBut id base was) → AreRightIf base.triggers (merged base.lanes) new made
-  put_fresh old None was made stay put kept but = (tt, tt)
-  put_fresh None (Some new) was made (inl same) put kept but = let both : ◌≡◌ {A = Option Shelves} (Some new) None = same in absurd cc
-  put_fresh (Some old) (Some new) was made (inl same) put kept but = (subst (AreKeptOf base) (sym (same_Some _ _ same)) kept, put_right was made put but)
-  put_fresh old (Some new) was made (inr none) put kept but = let both : ◌≡◌ {A = Option Shelves} (Some new) None = none in absurd cc
-
--- the table that is made of what shelves keep is that of what readings find
-pub found_table : (readings : ReadingsAre) (triggers : Triggers) (events : Events) (shelves : Shelves) → AreKept triggers events shelves
-    → (hist : Hist) (table : Tabled) → IsMadeTable triggers events (found_in (readings_on shelves)) hist table → IsMadeTable triggers events (saving_found triggers events) hist table
-found_table readings triggers events shelves kept = table_stays triggers triggers events events (found_in (readings_on shelves)) (saving_found triggers events)
-    (λ spot. sym (same_made triggers events events (among_same events) (found_in (readings_on shelves)) (are_found readings triggers events shelves kept) spot))
+-- a trigger's table that is right among others that are makes all right
+pub one_right : (base : Base) (id : ℕ) (hist : Hist) → map.get base.triggers id ≡ Some hist → (old new : MadeTables) → OtherTablesStay id old new → AreMadeBut id base old
+    → IsMadeTable base.triggers (merged base.lanes) (saving_found base.triggers (merged base.lanes)) hist (made_on new id hist) → AreMade base new
+one_right base id hist attached old new stay but its other own there counts = ⊎_elim
+    (λ same. subst (λ (x : ℕ × Hist). IsMadeTable base.triggers (merged base.lanes) (saving_found base.triggers (merged base.lanes)) x.1 (made_on new x.0 x.1))
+    (λ i. (sym same i, same_Some _ _ (sym attached ∙ ap (map.get base.triggers) (sym same) ∙ there) i)) its)
+    (λ apart. subst (IsMadeTable base.triggers (merged base.lanes) (saving_found base.triggers (merged base.lanes)) own)
+    (sym (ap (table_by own) (stay other (false_from_ne_true (eq_by_cmp nat_cmp other id) (λ tie. apart (same_from_tie nat_cmp-IsAntisymmetric other id tie))))))
+    (but other own there counts apart))
+    (cases_eq other id)

@@ -16,7 +16,7 @@ use Rattle.ft_base.proofs.After.{load-gives}
 use Rattle.ft_replay.specs.Chosen.{is_among, lanes_of}
 use Rattle.ft_replay.specs.Merged.{Events, merged, held_at}
 use Rattle.ft_replay.proofs.Places.{merged_at}
-use Rattle.ft_repair.proofs.LanesCome.{chosen_at, lanes_before, there_if}
+use Rattle.ft_repair.proofs.EventLists.{chosen_at, lanes_before, there_if}
 use Rattle.ft_board.specs.declared.views.Views.{Views}
 use Rattle.ft_board.specs.inner.Views.{AreFresh, AreOf}
 use Rattle.ft_board.proofs.StillMade.{AreAmong}

@@ -30,7 +30,7 @@ use Rattle.ft_made.specs.Laws.{HeldAreCounted}
 use Rattle.ft_answers.specs.Answers.{tally_at}
 use Rattle.ft_answers.specs.Reporting.{readers_in, row_in}
 use Rattle.ft_repair.specs.KeptShelves.{AreKept, AreKeptOf, HasItsShelf}
-use Rattle.ft_repair.proofs.ShelfForms.{shelves_roles}
+use Rattle.ft_repair.proofs.KeptFor.{shelves_roles}
 use Rattle.ft_board.specs.inner.Reported.{RepairsReported}
 use Rattle.ft_board.proofs.KeptBoardTold.{tally-first}
 

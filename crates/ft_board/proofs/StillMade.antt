@@ -1,7 +1,7 @@
 -- Tables of made events as events come or go: where none is, no reading finds anything, and so none is made.
-use Rattle.std.proofs.Common.{◌≡◌, ◌⊎◌, inl, inr, ℕ, List, [], refl, sym, ap, subst, ◌∙◌, Option, Some, None}
+use Rattle.std.proofs.Common.{◌≡◌, ◌⊎◌, inl, inr, ℕ, Bool, true, false, List, [], refl, sym, ap, subst, ◌∙◌, Option, Some, None}
 use Rattle.std.specs.Prelude.{◌++◌, option_and_then, option_map}
-use Rattle.std.specs.Option.{IfSome, option_map_or}
+use Rattle.std.specs.Option.{IfSome, is_none, option_map_or}
 use Rattle.std.proofs.lemmas.Option.{IfSome_then}
 use Rattle.std.specs.FinMap as map
 use Rattle.std.specs.FinMap.{get-empty}
@@ -16,18 +16,20 @@ use Rattle.ft_changes.specs.Findings.{Findings, Lead}
 use Rattle.ft_changes.specs.declared.changed.ReadingChange.{ReadingChange}
 use Rattle.ft_kept.specs.Changes.{Tells}
 use Rattle.ft_kept.specs.Shelves.{Shelved, Shelves, kept_on}
-use Rattle.ft_base.specs.Base.{Triggers}
+use Rattle.ft_base.specs.Base.{Base, Triggers}
 use Rattle.ft_replay.specs.Found.{saving_found}
 use Rattle.ft_replay.specs.Hits.{TriggerHit, hit_at}
-use Rattle.ft_replay.specs.Merged.{Events}
+use Rattle.ft_replay.specs.Merged.{Events, merged}
 use Rattle.ft_made.specs.Laws.{AreFound}
 use Rattle.ft_made.specs.MadeEvents.{made_by}
 use Rattle.ft_made.specs.MadeHits.{values_of_made}
 use Rattle.ft_made.specs.MadeTables.{IsMadeTable, found_in}
-use Rattle.ft_repair.specs.KeptShelves.{AreKept}
+use Rattle.ft_made.specs.Updating.{CanUpdate}
+use Rattle.ft_repair.specs.KeptShelves.{AreKept, AreKeptOf}
 use Rattle.ft_repair.specs.ReadingsTold.{ReadingsTold}
 use Rattle.ft_repair.specs.Repaired.{IfBoth}
-use Rattle.ft_board.specs.MadeShelves.{MadeTables, AreMadeBy, made_on}
+use Rattle.ft_repair.proofs.Repaired.{if_there, there_if}
+use Rattle.ft_board.specs.MadeShelves.{MadeTables, AreMade, AreMadeBy, OfEachCounted, made_on}
 use Rattle.ft_board.specs.inner.Mending.{CanMendTo}
 use Rattle.ft_board.specs.inner.Readings.{readings_on}
 use Rattle.ft_board.proofs.MadeShelves.{found_on}
@@ -139,3 +141,36 @@ module _ (readings : ReadingsAre) (triggers : Triggers) (events more : Events) (
   mended_if later (Some new) made (inl same) kept are =
       let still : AreKept triggers events new = subst (λ (o : Option Shelves). IfSome o (AreKept triggers events)) (sym same) kept in
       (still, made_less triggers events more among (found_in (readings_on new)) (are_found readings triggers events new still) made are)
+
+-- ---- tables that are brought up to date
+
+-- the table of each trigger can be, where what was told leads to what shelves keep
+pub can_update : (triggers : Triggers) (events : Events) (changes : List ReadingChange) (made : MadeTables) (kept : Option Shelves) (told : Option (List ReadingChange)) → is_none kept ≡ false → told ≡ Some changes
+    → IfSome kept (λ shelves. CanMendTo triggers events told (found_in (readings_on shelves)) made) → OfEachCounted triggers (λ id hist. CanUpdate triggers events changes hist (made_on made id hist))
+can_update triggers events changes made None told up is can = let both : ◌≡◌ {A = Bool} true false = up in absurd cc
+can_update triggers events changes made (Some shelves) told up is can = λ id hist there counts. record {
+  found = can.found;
+  now = found_in (readings_on shelves);
+  lead = subst (λ (o : Option (List ReadingChange)). IfSome o (λ changes. Lead changes can.found (found_in (readings_on shelves)))) is can.lead;
+  made = can.made id hist there counts;
+}
+
+-- a table that is made of what shelves keep of readings is that of what these find
+pub found_table : ReadingsAre → (triggers : Triggers) (events : Events) (shelves : Shelves) → AreKept triggers events shelves
+    → (hist : Hist) (table : Tabled) → IsMadeTable triggers events (found_in (readings_on shelves)) hist table → IsMadeTable triggers events (saving_found triggers events) hist table
+found_table readings triggers events shelves kept = table_stays triggers triggers events events (found_in (readings_on shelves)) (saving_found triggers events)
+    (λ spot. sym (same_made triggers events events (among_same events) (found_in (readings_on shelves)) (are_found readings triggers events shelves kept) spot))
+
+-- so tables that are all made anew are right
+pub made_anew : ReadingsAre → (base : Base) (kept : Option Shelves) (shelves : Shelves) (made : MadeTables) → Some shelves ≡ kept → IfSome kept (AreKeptOf base) → AreMadeBy base.triggers (merged base.lanes) (found_in (readings_on shelves)) made
+    → AreRightIf base.triggers (merged base.lanes) kept made
+made_anew readings base kept shelves made is are anew = (
+  are,
+  if_there (λ _. AreMade base made) shelves kept is (λ id hist there counts.
+      found_table readings base.triggers (merged base.lanes) shelves (there_if (AreKeptOf base) shelves kept is are) hist (made_on made id hist) (anew id hist there counts)),
+)
+
+-- what holds of shelves holds of those that are left of them
+pub if_left : (P : Shelves → Type 0) (later new : Option Shelves) → (new ≡ later) ⊎ (new ≡ None) → IfSome later P → IfSome new P
+if_left P later new (inl same) holds = subst (λ (o : Option Shelves). IfSome o P) (sym same) holds
+if_left P later new (inr none) holds = subst (λ (o : Option Shelves). IfSome o P) (sym none) tt

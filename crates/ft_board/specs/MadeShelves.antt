@@ -20,10 +20,13 @@ MadeTables = FinMap nat_cmp Tabled
 abbrev pub made_on : MadeTables → ℕ → Hist → Tabled
 made_on made id hist = unwrap_or (map.get made id) (record { hits = map.empty; size = hist.size })
 
--- each attached trigger that counts made events has the table of those that these readings make (kernel: histogram.rst, synthetic events)
+-- what holds of each attached trigger that counts made events
+abbrev pub OfEachCounted : Triggers → (ℕ → Hist → Type 0) → Type 0
+OfEachCounted triggers Holds = (id : ℕ) (hist : Hist) → map.get triggers id ≡ Some hist → counts_made hist ≡ true → Holds id hist
+
+-- each of them has the table of those that these readings make (kernel: histogram.rst, synthetic events)
 abbrev pub AreMadeBy : Triggers → Events → Findings → MadeTables → Type 0
-AreMadeBy triggers events found made = (id : ℕ) (hist : Hist) → map.get triggers id ≡ Some hist → counts_made hist ≡ true
-    → IsMadeTable triggers events found hist (made_on made id hist)
+AreMadeBy triggers events found made = OfEachCounted triggers (λ id hist. IsMadeTable triggers events found hist (made_on made id hist))
 
 -- the tables are those of all events that a base's readings make
 abbrev pub AreMade : Base → MadeTables → Type 0

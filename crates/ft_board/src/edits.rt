@@ -16,16 +16,18 @@ ghost use Rattle.ft_repair.specs.SomeLanes.{count_coming};
 ghost use Rattle.ft_kept.specs.Repairs.{IsHeldAt};
 ghost use Rattle.ft_repair.specs.OneEvent.{ChangeCosts, EventNeedsNoMemory};
 ghost use Rattle.ft_board.specs.Makers.{LeavesMade, LeavesMakers};
-ghost use Rattle.ft_board.specs.inner.Edits.{CanChange, Edit, IsEdit, ReportsEdit, pos_at};
+ghost use Rattle.ft_board.specs.inner.Edits.{AreAfter, AreBefore, Edit, IsEdit, ReportsEdit};
+ghost use Rattle.ft_board.specs.inner.Reported.{IsReportBy, RepairsReported};
 ghost use Rattle.ft_board.specs.inner.Views.{AreFresh, AreOf, AwaitTrigger, EndsAs, made_in};
 
 use crate::laws::made_events_stay;
-use crate::report::reported_edits;
+use crate::made_rows::made_rows;
 use crate::views::Views;
 use ft_answers::{Done, Edited, Kept};
 use ft_base::{Content, Place};
+use ft_changes::Changed;
 use ft_fields::{Event, Pos};
-use ft_kept::{Delta, Sign};
+use ft_kept::{Changes, Delta, Sign, changed_rows};
 use ft_maps::take;
 use ft_repair::{join, kept_shelves, leave, let_change, let_lane_go, let_lanes_come, make_way};
 
@@ -36,29 +38,25 @@ impl Views {
     pub(crate) fn change(
         &mut self,
         sign: Sign,
-        place: Place,
+        pos: Pos,
         event: &Event,
         content: &Content,
     ) -> Done<Edited>
-        requires held { IsHeldAt content.now.lanes (pos_at place event.now.stamp) event.now }
-        requires before { CanChange sign content.now (pos_at place event.now.stamp) self.old }
-        ensures fresh { (edit : Edit) → IsEdit sign content.now (pos_at place event.now.stamp) edit
-            → AreFresh edit.old self.old → AreFresh edit.new self.new }
-        ensures place { result.value.place ≡ place }
+        requires held { IsHeldAt content.now.lanes pos event.now }
+        requires before { AreBefore sign content.now pos self.old }
+        ensures after { AreAfter sign content.now pos self.new }
+        ensures place { result.value.place ≡ record { cpu = pos.cpu; line = pos.line } }
         ensures ends { EndsAs result.kept self.old self.new }
         ensures now { EventNeedsNoMemory sign content.now.triggers event.now
             → self.new.shelves ≡ None → self.old.shelves ≡ None }
-        ensures costs { MakesNothing content.now.triggers → ChangeCosts sign content.now
-            (pos_at place event.now.stamp) event.now self.old.work self.new.work }
-        ensures reports { (edit : Edit) → IsEdit sign content.now (pos_at place event.now.stamp) edit
-            → AreFresh edit.old self.old → ReportsEdit edit self.new result.value }
+        ensures costs { MakesNothing content.now.triggers
+            → ChangeCosts sign content.now pos event.now self.old.work self.new.work }
+        ensures reports { (edit : Edit) → IsEdit sign content.now pos edit
+            → ReportsEdit edit self.new result.value }
     {
         kept_shelves();
         reported_edits();
         ft_made::made_tables();
-        let Place { cpu, line } = place;
-        let stamp = event.stamp;
-        let pos = Pos { stamp, cpu, line };
         let delta = Delta { sign, pos, event };
         let mut changes = self.changes_to_report(content).with_keys(self.alloc);
         let_change(
@@ -68,14 +66,28 @@ impl Views {
             &mut changes,
             &mut self.work,
         );
-        let mut made = Some(Vec::new(self.alloc));
-        let kept = self.mend(content, &changes, &mut made);
+        let made = made_rows(self.alloc, content, &self.made, &changes, &mut self.work);
+        let kept = self.mend(content, &changes);
+        let Pos { cpu, line, .. } = pos;
         let value = Edited {
-            place,
+            place: Place { cpu, line },
             report: self.report(content, &changes),
             made: self.shelves.as_ref().and(made),
         };
         Done { value, kept }
+    }
+
+    /// The rows that may differ with an event and without it, by the keys that were reported as it came
+    /// or went and by what is kept after it. `None` if there are no shelves, no keys were reported, or
+    /// memory runs out.
+    pub(crate) fn report(&self, content: &Content, changes: &Changes) -> Option<Vec<Changed>>
+        ensures none { self.now.shelves ≡ None → result ≡ None }
+        ensures rows { IfSome result (λ rows.
+            IsReportBy content.now.triggers self.now.shelves changes.now.keys rows.items) }
+    {
+        let tables = self.shelves.as_ref()?;
+        let keys = changes.keys()?;
+        changed_rows(self.alloc, tables, content.triggers(), keys).ok()
     }
 
     /// Adds the events of all lanes to what is kept, except for those of the CPUs whose events it has,
@@ -98,7 +110,7 @@ impl Views {
             &mut changes,
             &mut self.work,
         );
-        self.mend(content, &changes, &mut None)
+        self.mend(content, &changes)
     }
 
     /// Removes the events of a CPU's lane, which is still held, from what is kept, and returns whether
@@ -123,7 +135,7 @@ impl Views {
             &mut changes,
             &mut self.work,
         );
-        self.mend(content, &changes, &mut None)
+        self.mend(content, &changes)
     }
 
     /// Adds a trigger that was attached, or got another filter, to what is kept, with those that read
@@ -175,4 +187,14 @@ impl Views {
         leave(&mut self.shelves, self.alloc, content, id, &mut self.work);
         take(&mut self.made, &id);
     }
+}
+
+/// A law: the report that shelves give after the repair for one event has all rows of triggers that
+/// count held events and that differ from those before it, by replaying either base, and few others.
+pub(crate) fn reported_edits()
+    ensures { RepairsReported }
+{
+    kept_shelves();
+    ft_made::made_counters();
+    ft_kept::reported_rows();
 }

@@ -1,17 +1,19 @@
 //! A board that keeps its tables: an edit repairs them, or they are built anew.
 
 ghost use Rattle.std.specs.Prelude.{◌≡◌, true, false};
+ghost use Rattle.ft_board.specs.inner.Edits.{pos_at};
 
+use crate::answers::TableOf;
 use crate::laws::made_events_stay;
 use crate::making::bears_on_makers;
-use crate::readings::pairs_of;
+use crate::mend::pairs_of;
 use crate::views::Views;
 use ft_answers::{
     Board, Done, Edited, Latency, Pair, Row, TableRow, latencies_of, table_row_text,
     table_row_texts, table_rows, table_text,
 };
-use ft_base::{Content, Refused, find_trigger, is_reader};
-use ft_fields::{Event, Name};
+use ft_base::{Content, Place, Refused, find_trigger, is_reader};
+use ft_fields::{Event, Name, Pos};
 use ft_filter::Filter;
 use ft_hist::{Key, Trigger};
 use ft_kept::Sign;
@@ -68,6 +70,39 @@ impl KeptBoard {
     }
 }
 
+impl KeptBoard {
+    ghost use Rattle.std.specs.Prelude.{IfOk, IfErr, IsSome, OnOk, OnErr};
+    ghost use Rattle.std.specs.FinMap as map;
+    ghost use Rattle.ft_base.specs.declared.refused.Refused.TheVariants.{Memory, NoTrigger};
+    ghost use Rattle.ft_answers.specs.Costs.{AnswerCosts};
+    ghost use Rattle.ft_board.specs.inner.Told.{TableTells};
+
+    /// Builds all that was put off, if a trigger has this id. Refused if none has it.
+    fn catch_up(&mut self, id: u32) -> Result<(), Refused>
+        ensures same { self.new.base ≡ self.old.base }
+        ensures attached { OnOk result (IsSome (map.get self.new.base.triggers id)) }
+        ensures refused { IfErr result (λ refused. (refused ≡ NoTrigger)
+            × ((map.get self.old.base.triggers id ≡ None) × (self.new ≡ self.old))) }
+        ensures back { self.new.deferred ≡ true → self.old.deferred ≡ true }
+        ensures steps { AnswerCosts self.old self.new }
+    {
+        find_trigger(self.content.triggers(), id)?;
+        self.views.catch_up(&self.content);
+        Ok(())
+    }
+
+    /// The attached trigger with an id, and its table. Refused for memory, if that is put off.
+    fn told(&self, id: u32) -> Result<TableOf<'_>, Refused>
+        requires { IsSome (map.get self.now.base.triggers id) }
+        ensures tells { IfOk result (λ told. TableTells self.now.base id told) }
+        ensures now { OnOk result (self.now.deferred ≡ false) }
+        ensures memory { IfErr result (λ refused. refused ≡ Memory) }
+        ensures later { OnErr result (self.now.deferred ≡ true) }
+    {
+        self.views.table(id, &self.content)
+    }
+}
+
 impl Board for KeptBoard {
     ghost shown = { λ b. b };
 
@@ -104,18 +139,18 @@ impl Board for KeptBoard {
 
     fn insert(&mut self, event: Event) -> Result<Done<Edited>, Refused> {
         let place = self.content.insert(event)?;
-        let content = &self.content;
-        Ok(self.views.change(Sign::Insert, place, &event, content))
+        let pos = pos_at(place, &event);
+        Ok(self.views.change(Sign::Insert, pos, &event, &self.content))
     }
 
     fn strike(&mut self, cpu: u32, line: u32) -> Result<Done<Edited>, Refused> {
         let place = self.content.place_of(cpu, line)?;
-        let content = &self.content;
         // `place_of` found it there.
-        let Some(event) = content.lanes().get(place.cpu, place.line) else {
+        let Some(event) = self.content.lanes().get(place.cpu, place.line) else {
             return Err(Refused::NoEvent);
         };
-        let done = self.views.change(Sign::Retract, place, &event, content);
+        let pos = pos_at(place, &event);
+        let done = self.views.change(Sign::Retract, pos, &event, &self.content);
         self.content.strike(place);
         Ok(done)
     }
@@ -157,40 +192,32 @@ impl Board for KeptBoard {
     }
 
     fn hist(&mut self, id: u32) -> Result<Vec<u8>, Refused> {
-        let alloc = self.views.alloc;
-        let trigger = find_trigger(self.content.triggers(), id)?;
-        self.views.catch_up(&self.content);
-        let told = self.views.table(id, trigger, &self.content)?;
-        Ok(table_text(alloc, trigger, told.as_table())?)
+        self.catch_up(id)?;
+        let told = self.told(id)?;
+        Ok(table_text(told.alloc, told.trigger, told.as_table())?)
     }
 
     fn row_texts(&mut self, id: u32) -> Result<Vec<TableRow>, Refused> {
-        let alloc = self.views.alloc;
-        let trigger = find_trigger(self.content.triggers(), id)?;
-        self.views.catch_up(&self.content);
-        let told = self.views.table(id, trigger, &self.content)?;
-        Ok(table_row_texts(alloc, trigger, told.as_table())?)
+        self.catch_up(id)?;
+        let told = self.told(id)?;
+        Ok(table_row_texts(told.alloc, told.trigger, told.as_table())?)
     }
 
     fn rows(&mut self, id: u32) -> Result<Vec<Row>, Refused> {
-        let trigger = find_trigger(self.content.triggers(), id)?;
-        self.views.catch_up(&self.content);
-        let told = self.views.table(id, trigger, &self.content)?;
-        Ok(table_rows(trigger, told.as_table())?)
+        self.catch_up(id)?;
+        let told = self.told(id)?;
+        Ok(table_rows(told.trigger, told.as_table())?)
     }
 
     fn row_text(&mut self, id: u32, key: &Key) -> Result<Option<Vec<u8>>, Refused> {
-        let alloc = self.views.alloc;
-        let trigger = find_trigger(self.content.triggers(), id)?;
-        self.views.catch_up(&self.content);
-        let told = self.views.table(id, trigger, &self.content)?;
-        Ok(table_row_text(alloc, trigger, told.as_table(), key)?)
+        self.catch_up(id)?;
+        let told = self.told(id)?;
+        Ok(table_row_text(told.alloc, told.trigger, told.as_table(), key)?)
     }
 
     fn totals(&mut self, id: u32) -> Result<Totals, Refused> {
-        let trigger = find_trigger(self.content.triggers(), id)?;
-        self.views.catch_up(&self.content);
-        let told = self.views.table(id, trigger, &self.content)?;
+        self.catch_up(id)?;
+        let told = self.told(id)?;
         Ok(told.as_table().totals())
     }
 
@@ -216,6 +243,15 @@ impl Board for KeptBoard {
     fn is_deferred(&self) -> bool {
         self.views.shelves.is_none()
     }
+}
+
+/// The place in merged order of an event that stands at this one.
+fn pos_at(place: Place, event: &Event) -> Pos
+    ensures { result ≡ pos_at place event.now.stamp }
+{
+    let Place { cpu, line } = place;
+    let stamp = event.stamp;
+    Pos { stamp, cpu, line }
 }
 
 /// A law: this board keeps tables.

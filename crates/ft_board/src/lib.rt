@@ -42,9 +42,9 @@
 //! counted, it leaves them, takes no step, and reports nothing of readings (clauses of the private
 //! `mend` and `changes_to_report`). No clause bounds the steps of mending or of making anew if made
 //! events are counted, except as a trigger bears on none (below). If memory for either, or for the
-//! readings that changed, runs out, the shelves are given up too. If an accepted edit leaves no
-//! shelves, no table of made events is left either (clauses `ends` and `made` of the private edits
-//! of `Views`), so that what is built anew finds their memory.
+//! readings that changed, runs out, the shelves are given up too, and then no table of made events is
+//! left either (clauses `ends` and `made` of the private edits of `Views`), so that what is built anew
+//! finds their memory.
 //!
 //! **Which tables an edit touches** is how the source does it: `insert` and `strike` repair the
 //! tables by the one event, `attach` and `remove` add or take one trigger's, `refilter` builds anew
@@ -65,23 +65,21 @@
 //!
 //! **Reports.** `insert` and `strike` are one method, `Views::change`. What they name is `ft_kept`'s
 //! report of the keys that the repair told, which the private law `reported_edits` proves to be a
-//! report of the bases before and after the edit (`specs/inner/Reported.antt`), and the rows told as
-//! the tables of made events were mended (`specs/inner/Updated.antt`). Where memory for keys or rows
-//! runs out there is no report, and the repair goes on. Of a strike of a hit of triggers without a
-//! variable alone, the clause `now` says so; of others, a test that refuses each growth of memory in
-//! turn. That there is a report wherever the tables have the edit and memory for it is found is how
-//! the source does it.
+//! report of the bases before and after the edit (`specs/inner/Reported.antt`), and the rows on which
+//! the changes of readings bear, by the tables of made events before these are mended
+//! (`specs/inner/MadeRows.antt`). Where memory for keys or rows runs out there is no report, and the
+//! repair goes on. Of a strike of a hit of triggers without a variable alone, the clause `now` says
+//! so; of others, a test that refuses each growth of memory in turn. That there is a report wherever
+//! the tables have the edit and memory for it is found is how the source does it.
 #![tactic(auto)]
 
 mod answers;
 mod edits;
 mod kept;
 pub mod laws;
-mod made;
+mod made_rows;
 mod making;
 mod mend;
-mod readings;
-mod report;
 mod views;
 
 pub use ft_answers::{Board, PlainBoard};

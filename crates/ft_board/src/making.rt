@@ -1,17 +1,39 @@
-//! Which triggers bear on the events that triggers make of their readings. As any other comes, goes
-//! or gets another filter, the tables of made events stay as they are.
+//! Whether events are made of readings and counted, and which triggers bear on that. As any other
+//! comes, goes or gets another filter, the tables of made events stay as they are.
 
-ghost use Rattle.std.specs.Prelude.{◌≡◌, false, Some};
+ghost use Rattle.std.specs.Prelude.{◌≡◌, ◌⊎◌, true, false, Some, is_some};
 ghost use Rattle.std.specs.FinMap as map;
 ghost use Rattle.ft_hist.specs.Hist.{Hist};
 ghost use Rattle.ft_hist.specs.Made.{counts_made};
+ghost use Rattle.ft_made.specs.Making.{MakeNone};
+ghost use Rattle.ft_answers.specs.Counting.{CountNone, MakesNothing};
 ghost use Rattle.ft_base.specs.OneTrigger.{reads_from};
-ghost use Rattle.ft_base.specs.Roles.{role_at};
+ghost use Rattle.ft_base.specs.Roles.{is_reader, role_at};
 ghost use Rattle.ft_board.specs.Makers.{LeavesMakers, makes_with, shares_read};
 
 use ft_base::role_of;
 use ft_hist::{Trigger, Triggers};
 use ft_pairs::Role;
+
+/// Whether events are made that are counted: some attached trigger makes events of its readings,
+/// and some counts such events.
+pub(crate) fn are_made(triggers: &Triggers) -> bool
+    ensures none { result ≡ false
+        → MakeNone triggers.now ⊎ CountNone triggers.now }
+    ensures nothing { MakesNothing triggers.now → result ≡ false }
+{
+    triggers.iter().any(|(_, trigger)| makes(trigger))
+        && triggers.iter().any(|(_, trigger)| trigger.counts_made())
+}
+
+/// Whether a trigger makes events of its readings: then it reads.
+#[tactic(auto, using(crate::proofs::Makers::makers_read))]
+fn makes(trigger: &Trigger) -> bool
+    ensures makes { result ≡ is_some trigger.now.onmatch }
+    ensures reads { result ≡ true → is_reader trigger.now.variable ≡ true }
+{
+    trigger.onmatch().is_some()
+}
 
 /// Whether the trigger with an id makes events, saves what one reads that does, or reads that too:
 /// since a reading unsets its variable, what one reader finds another may miss.

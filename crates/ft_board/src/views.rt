@@ -1,6 +1,6 @@
 //! What is kept of a base, so that no answer replays its events.
 
-ghost use Rattle.std.specs.Prelude.{◌≡◌, ◌⊎◌, false, None, IfSome};
+ghost use Rattle.std.specs.Prelude.{◌≡◌, false, None, IfSome};
 ghost use Rattle.std.specs.FinMap as map;
 ghost use Rattle.std.specs.Option.{is_none};
 ghost use Rattle.ft_hist.specs.Steps.{StepsGrow};
@@ -11,14 +11,13 @@ ghost use Rattle.ft_repair.specs.KeptShelves.{AreKeptOf};
 ghost use Rattle.ft_board.specs.Makers.{LeavesMade};
 ghost use Rattle.ft_board.specs.inner.Views.{AreFresh, AreMadeBut, AwaitTrigger, EndsAs, made_in};
 
-use crate::made::{are_made, made_table_of, made_tables};
-use crate::making::{bears_on_makers, counts_made};
+use crate::making::{are_made, bears_on_makers, counts_made};
+use crate::mend::{Basis, Mending};
 use ft_answers::Kept;
 use ft_base::Content;
 use ft_hist::Work;
 use ft_kept::Tables;
-use ft_maps::put;
-use ft_repair::{renew, restore};
+use ft_repair::{kept_shelves, renew, restore};
 use ft_table::Table;
 use std::alloc::Global;
 use std::collections::BTreeMap;
@@ -98,7 +97,7 @@ impl Views {
         Kept::Later
     }
 
-    /// Gives the tables of made events up, makes them anew if there are shelves, and returns whether
+    /// Forgets the tables of made events, makes them anew if there are shelves, and returns whether
     /// there are some then. If memory runs out, the shelves are given up too. If no made event is
     /// counted, it takes neither memory nor steps.
     pub(crate) fn remake(&mut self, content: &Content) -> Kept
@@ -108,17 +107,24 @@ impl Views {
         ensures nothing { MakesNothing content.now.triggers
             → (self.new.shelves ≡ self.old.shelves) × (self.new.work ≡ self.old.work) }
     {
+        kept_shelves();
         self.made = BTreeMap::new(self.alloc);
-        let Some(tables) = self.shelves.take() else {
+        let Some(tables) = &self.shelves else {
             return Kept::Later;
         };
-        match made_tables(self.alloc, content, &tables, &mut self.work) {
-            Ok(made) => {
-                self.made = made;
-                self.shelves = Some(tables);
-                Kept::Now
-            }
-            Err(_) => Kept::Later,
+        if !are_made(content.triggers()) {
+            return Kept::Now;
+        }
+        let alloc = self.alloc;
+        let basis = Basis::Shelves(tables);
+        let making = Mending {
+            alloc,
+            content,
+            basis,
+        };
+        match making.update_all(&mut self.made, &mut self.work) {
+            Ok(()) => Kept::Now,
+            Err(_) => self.give_up(),
         }
     }
 
@@ -156,6 +162,7 @@ impl Views {
         ensures ends { EndsAs result self.old self.new }
         ensures nothing { MakesNothing content.now.triggers → self.new.work ≡ self.old.work }
     {
+        kept_shelves();
         let triggers = content.triggers();
         if !are_made(triggers) {
             return self.remake(content);
@@ -166,23 +173,15 @@ impl Views {
         let Some(tables) = &self.shelves else {
             return self.give_up();
         };
-        match made_table_of(self.alloc, content, tables, trigger, &mut self.work) {
-            Ok(table) => self.put_table(id, table),
-            Err(_) => self.give_up(),
-        }
-    }
-
-    /// Adds a trigger's table of made events to the others, and returns whether there are shelves then.
-    /// If memory runs out, they are given up.
-    fn put_table(&mut self, id: u32, table: Table) -> Kept
-        ensures shelves { (self.new.shelves ≡ self.old.shelves) ⊎ (self.new.shelves ≡ None) }
-        ensures made { IfSome self.new.shelves (λ _.
-            made_in self.new ≡ map.insert (made_in self.old) id table) }
-        ensures ends { EndsAs result self.old self.new }
-        ensures work { self.new.work ≡ self.old.work }
-    {
-        match put(&mut self.made, id, table) {
-            Ok(()) => self.settle(),
+        let alloc = self.alloc;
+        let basis = Basis::Shelves(tables);
+        let making = Mending {
+            alloc,
+            content,
+            basis,
+        };
+        match making.update_kept(&mut self.made, id, trigger, &mut self.work) {
+            Ok(()) => Kept::Now,
             Err(_) => self.give_up(),
         }
     }

@@ -1,188 +1,161 @@
--- What events without their names say in numbers: all that they said with them.
-use Rattle.std.proofs.Common.{◌≡◌, ℕ, Bool, true, false, List, [], ◌∷◌, Option, Some, None, refl, sym, ap, ◌∙◌}
-use Rattle.std.specs.Prelude.{ℤ, pos, not, ◌&&◌, option_map, slice_get, if◌then◌else◌}
-use Rattle.std.specs.Option.{is_none, option_and_then, option_map_or}
+-- What events without their names say in numbers: all that they said with them, and the keys that numbers tell.
+use Rattle.std.proofs.Common.{◌≡◌, ℕ, Bool, true, false, List, [], ◌∷◌, Option, Some, None, refl, sym, ap, ◌∙◌, cond, length, arith}
+use Rattle.std.specs.Prelude.{ℤ, pos, ◌&&◌, is_some, option_map, slice_get}
+use Rattle.std.specs.Borrow.{Bor}
 use Rattle.std.specs.List.{list_any}
+use Rattle.std.specs.Option.{option_and_then, option_copied, option_map_or}
+use Rattle.std.proofs.Math.Bool.{and-true}
 use Rattle.std.proofs.lemmas.Bool.{or_parts}
+use Rattle.std.proofs.lemmas.Option.{none-some, same_Some}
 use Rattle.ft_fields.specs.declared.event.Body.{Body}
 use Rattle.ft_fields.specs.declared.event.Body.TheVariants as bodies
-use Rattle.ft_fields.specs.declared.event.Name.{Name}
-use Rattle.ft_fields.specs.declared.event.Turn.{Turn}
-use Rattle.ft_fields.specs.declared.event.Wake.{Wake}
 use Rattle.ft_fields.specs.declared.field.Field.{Field}
 use Rattle.ft_fields.specs.declared.field.Field.TheVariants as fields
 use Rattle.ft_fields.specs.declared.field.Value.{Value}
 use Rattle.ft_fields.specs.declared.field.Value.TheVariants as values
+use Rattle.ft_fields.specs.declared.key.Part.{Part}
 use Rattle.ft_fields.specs.Fields.{wake_of, turn_of, matched_of, task_of, field_of, is_text}
 use Rattle.ft_fields.specs.Traced.{Traced, name_of}
-use Rattle.ft_hist.specs.Tree.{Tree}
 use Rattle.ft_hist.specs.declared.item.Item.{Item}
 use Rattle.ft_hist.specs.declared.item.Item.TheVariants as items
 use Rattle.ft_hist.specs.declared.item.KeyItem.{KeyItem}
 use Rattle.ft_hist.specs.Hist.{Hist}
-use Rattle.ft_hist.specs.Hit.{part_of, key_of, same_name, passes_filter, is_asked, hit}
+use Rattle.ft_hist.specs.Hit.{part_of, key_of, same_name, passes_filter, hit}
 use Rattle.ft_hist.specs.Modifiers.{value_part}
+use Rattle.ft_hist.specs.Tree.{Tree}
 use Rattle.ft_hist.specs.Values.{number_of_field, value_of, value_at, values_of}
-use Rattle.ft_fields.specs.declared.key.Part.{Part}
-use Rattle.ft_store.specs.Stored.{bare_wake, bare_turn, bare_body, bare}
-use Rattle.ft_groups.specs.inner.Numbers.{asks_text, asks_numbers}
+use Rattle.ft_store.specs.Stored.{bare_wake, bare_turn, bare_body, bare, as_number, field_number}
+use Rattle.ft_groups.specs.inner.Asks.{asks_text}
 
--- ---- what stays of a body
+-- ---- bodies
 
--- which event it is
-pub bare_name : (body : Body) → name_of (bare_body body) ≡ name_of body
-bare_name (bodies.Waking wake) = refl
-bare_name (bodies.Wakeup wake) = refl
-bare_name (bodies.WakeupNew wake) = refl
-bare_name (bodies.Switch turn) = refl
-bare_name (bodies.WakeupLatency matched) = refl
-bare_name bodies.Other = refl
+-- what stays of a body
+record Stays (body : Body) : Type 0 where
+  pub name : name_of (bare_body body) ≡ name_of body
+  pub task : task_of (bare_body body) ≡ task_of body
+  pub matched : matched_of (bare_body body) ≡ matched_of body
+  pub wake : wake_of (bare_body body) ≡ option_map bare_wake (wake_of body)
+  pub turn : turn_of (bare_body body) ≡ option_map bare_turn (turn_of body)
 
--- the task that is woken
-bare_task : (body : Body) → task_of (bare_body body) ≡ task_of body
-bare_task (bodies.Waking wake) = refl
-bare_task (bodies.Wakeup wake) = refl
-bare_task (bodies.WakeupNew wake) = refl
-bare_task (bodies.Switch turn) = refl
-bare_task (bodies.WakeupLatency matched) = refl
-bare_task bodies.Other = refl
-
--- what a trigger said of a latency
-bare_matched : (body : Body) → matched_of (bare_body body) ≡ matched_of body
-bare_matched (bodies.Waking wake) = refl
-bare_matched (bodies.Wakeup wake) = refl
-bare_matched (bodies.WakeupNew wake) = refl
-bare_matched (bodies.Switch turn) = refl
-bare_matched (bodies.WakeupLatency matched) = refl
-bare_matched bodies.Other = refl
-
--- what is told of a wake event by what stays of it
-bare_wakes : (A : Type 0) (tell : Wake → A) (body : Body) → ((wake : Wake) → tell (bare_wake wake) ≡ tell wake)
-    → option_map tell (wake_of (bare_body body)) ≡ option_map tell (wake_of body)
-bare_wakes A tell (bodies.Waking wake) same = ap (λ (a : A). Some a) (same wake)
-bare_wakes A tell (bodies.Wakeup wake) same = ap (λ (a : A). Some a) (same wake)
-bare_wakes A tell (bodies.WakeupNew wake) same = ap (λ (a : A). Some a) (same wake)
-bare_wakes A tell (bodies.Switch turn) same = refl
-bare_wakes A tell (bodies.WakeupLatency matched) same = refl
-bare_wakes A tell bodies.Other same = refl
-
--- what is told of a switch by what stays of it
-bare_turns : (A : Type 0) (tell : Turn → A) (body : Body) → ((turn : Turn) → tell (bare_turn turn) ≡ tell turn)
-    → option_map tell (turn_of (bare_body body)) ≡ option_map tell (turn_of body)
-bare_turns A tell (bodies.Waking wake) same = refl
-bare_turns A tell (bodies.Wakeup wake) same = refl
-bare_turns A tell (bodies.WakeupNew wake) same = refl
-bare_turns A tell (bodies.Switch turn) same = ap (λ (a : A). Some a) (same turn)
-bare_turns A tell (bodies.WakeupLatency matched) same = refl
-bare_turns A tell bodies.Other same = refl
+stays : (body : Body) → Stays body
+stays (bodies.Waking wake) = record { name = refl; task = refl; matched = refl; wake = refl; turn = refl }
+stays (bodies.Wakeup wake) = record { name = refl; task = refl; matched = refl; wake = refl; turn = refl }
+stays (bodies.WakeupNew wake) = record { name = refl; task = refl; matched = refl; wake = refl; turn = refl }
+stays (bodies.Switch turn) = record { name = refl; task = refl; matched = refl; wake = refl; turn = refl }
+stays (bodies.WakeupLatency matched) = record { name = refl; task = refl; matched = refl; wake = refl; turn = refl }
+stays bodies.Other = record { name = refl; task = refl; matched = refl; wake = refl; turn = refl }
 
 -- ---- fields
 
--- a field that holds a number holds the same
-pub bare_field : (event : Traced) (field : Field) → is_text field ≡ false → field_of (bare event) field ≡ field_of event field
-bare_field event fields.CommonPid number = refl
-bare_field event fields.CommonCpu number = refl
-bare_field event fields.Pid number = ap (option_map (λ task. values.Num task.pid)) (bare_task event.body)
-bare_field event fields.Prio number = ap (option_map (λ task. values.Num task.prio)) (bare_task event.body)
-bare_field event fields.TargetCpu number = bare_wakes Value (λ wake. values.Num wake.target_cpu) event.body (λ wake. refl)
-bare_field event fields.Comm number = absurd (cc number)
-bare_field event fields.PrevPid number = bare_turns Value (λ turn. values.Num turn.prev_pid) event.body (λ turn. refl)
-bare_field event fields.PrevPrio number = bare_turns Value (λ turn. values.Num turn.prev_prio) event.body (λ turn. refl)
-bare_field event fields.NextPid number = bare_turns Value (λ turn. values.Num turn.next_pid) event.body (λ turn. refl)
-bare_field event fields.NextPrio number = bare_turns Value (λ turn. values.Num turn.next_prio) event.body (λ turn. refl)
-bare_field event fields.PrevComm number = absurd (cc number)
-bare_field event fields.PrevState number = absurd (cc number)
-bare_field event fields.NextComm number = absurd (cc number)
-bare_field event fields.Lat number = ap (option_map (λ matched. values.Num matched.lat)) (bare_matched event.body)
+-- a field holds the same without names, if it holds no text, and counts the same in any case
+record IsAlike (text : Bool) (bared whole : Option Value) : Type 0 where
+  pub same : text ≡ false → bared ≡ whole
+  pub number : number_of_field bared ≡ number_of_field whole
 
--- a field of a wake event's text counts 0
-wake_text : (tell : Wake → List ℕ) (body : Body) → number_of_field (option_map (λ wake. values.Text (tell wake)) (wake_of body)) ≡ pos 0
-wake_text tell (bodies.Waking wake) = refl
-wake_text tell (bodies.Wakeup wake) = refl
-wake_text tell (bodies.WakeupNew wake) = refl
-wake_text tell (bodies.Switch turn) = refl
-wake_text tell (bodies.WakeupLatency matched) = refl
-wake_text tell bodies.Other = refl
+same_value : (bared whole : Option Value) → bared ≡ whole → IsAlike false bared whole
+same_value bared whole same = record { same = λ _. same; number = ap number_of_field same }
 
--- a field of a switch's text counts 0
-turn_text : (tell : Turn → List ℕ) (body : Body) → number_of_field (option_map (λ turn. values.Text (tell turn)) (turn_of body)) ≡ pos 0
-turn_text tell (bodies.Waking wake) = refl
-turn_text tell (bodies.Wakeup wake) = refl
-turn_text tell (bodies.WakeupNew wake) = refl
-turn_text tell (bodies.Switch turn) = refl
-turn_text tell (bodies.WakeupLatency matched) = refl
-turn_text tell bodies.Other = refl
+module _ {A : Type 0} where
+  -- what is told alike of what stays is the same
+  told : (strip : A → A) (tell : A → Value) → ((a : A) → tell (strip a) ≡ tell a) → (o bared : Option A) → bared ≡ option_map strip o
+      → IsAlike false (option_map tell bared) (option_map tell o)
+  told strip tell same None bared is = same_value _ _ (ap (option_map tell) is)
+  told strip tell same (Some a) bared is = same_value _ _ (ap (option_map tell) is ∙ ap (λ value. Some value) (same a))
 
--- the number that a field counts is the same, be it a text's or not
-bare_number : (event : Traced) (field : Field) → number_of_field (field_of (bare event) field) ≡ number_of_field (field_of event field)
-bare_number event fields.CommonPid = refl
-bare_number event fields.CommonCpu = refl
-bare_number event fields.Pid = ap number_of_field (bare_field event fields.Pid refl)
-bare_number event fields.Prio = ap number_of_field (bare_field event fields.Prio refl)
-bare_number event fields.TargetCpu = ap number_of_field (bare_field event fields.TargetCpu refl)
-bare_number event fields.Comm = wake_text (λ wake. wake.comm) (bare_body event.body) ∙ sym (wake_text (λ wake. wake.comm) event.body)
-bare_number event fields.PrevPid = ap number_of_field (bare_field event fields.PrevPid refl)
-bare_number event fields.PrevPrio = ap number_of_field (bare_field event fields.PrevPrio refl)
-bare_number event fields.NextPid = ap number_of_field (bare_field event fields.NextPid refl)
-bare_number event fields.NextPrio = ap number_of_field (bare_field event fields.NextPrio refl)
-bare_number event fields.PrevComm = turn_text (λ turn. turn.prev_comm) (bare_body event.body) ∙ sym (turn_text (λ turn. turn.prev_comm) event.body)
-bare_number event fields.PrevState = turn_text (λ turn. turn.prev_state) (bare_body event.body) ∙ sym (turn_text (λ turn. turn.prev_state) event.body)
-bare_number event fields.NextComm = turn_text (λ turn. turn.next_comm) (bare_body event.body) ∙ sym (turn_text (λ turn. turn.next_comm) event.body)
-bare_number event fields.Lat = ap number_of_field (bare_field event fields.Lat refl)
+  -- a text counts 0
+  text_counts : (text : A → List ℕ) (o : Option A) → number_of_field (option_map (λ a. values.Text (text a)) o) ≡ pos 0
+  text_counts text (Some a) = refl
+  text_counts text None = refl
+
+  texts : (text : A → List ℕ) (bared o : Option A) → IsAlike true (option_map (λ a. values.Text (text a)) bared) (option_map (λ a. values.Text (text a)) o)
+  texts text bared o = record { same = λ e. absurd (cc e); number = text_counts text bared ∙ sym (text_counts text o) }
+
+alike : (event : Traced) (field : Field) → IsAlike (is_text field) (field_of (bare event) field) (field_of event field)
+alike event fields.CommonPid = same_value _ _ refl
+alike event fields.CommonCpu = same_value _ _ refl
+alike event fields.Pid = same_value _ _ (ap (option_map (λ task. values.Num task.pid)) (stays event.body).task)
+alike event fields.Prio = same_value _ _ (ap (option_map (λ task. values.Num task.prio)) (stays event.body).task)
+alike event fields.TargetCpu = told bare_wake (λ wake. values.Num wake.target_cpu) (λ wake. refl) (wake_of event.body) _ (stays event.body).wake
+alike event fields.Comm = texts (λ wake. wake.comm) (wake_of (bare_body event.body)) (wake_of event.body)
+alike event fields.PrevPid = told bare_turn (λ turn. values.Num turn.prev_pid) (λ turn. refl) (turn_of event.body) _ (stays event.body).turn
+alike event fields.PrevPrio = told bare_turn (λ turn. values.Num turn.prev_prio) (λ turn. refl) (turn_of event.body) _ (stays event.body).turn
+alike event fields.NextPid = told bare_turn (λ turn. values.Num turn.next_pid) (λ turn. refl) (turn_of event.body) _ (stays event.body).turn
+alike event fields.NextPrio = told bare_turn (λ turn. values.Num turn.next_prio) (λ turn. refl) (turn_of event.body) _ (stays event.body).turn
+alike event fields.PrevComm = texts (λ turn. turn.prev_comm) (turn_of (bare_body event.body)) (turn_of event.body)
+alike event fields.PrevState = texts (λ turn. turn.prev_state) (turn_of (bare_body event.body)) (turn_of event.body)
+alike event fields.NextComm = texts (λ turn. turn.next_comm) (turn_of (bare_body event.body)) (turn_of event.body)
+alike event fields.Lat = same_value _ _ (ap (option_map (λ matched. values.Num matched.lat)) (stays event.body).matched)
 
 -- ---- values
 
-bare_value : (event : Traced) (own : ℤ) (item : Item) → value_of (bare event) own item ≡ value_of event own item
-bare_value event own (items.Num field) = bare_number event field
-bare_value event own items.Own = refl
-
 bare_worth : (event : Traced) (own : ℤ) (item : Option Item) → option_map_or (value_of (bare event) own) item (pos 0) ≡ option_map_or (value_of event own) item (pos 0)
-bare_worth event own (Some item) = bare_value event own item
+bare_worth event own (Some (items.Num field)) = (alike event field).number
+bare_worth event own (Some items.Own) = refl
 bare_worth event own None = refl
 
 -- an event adds the same to a trigger's sums
 pub bare_values : (hist : Hist) (event : Traced) (own : ℤ) → values_of hist (bare event) own ≡ values_of hist event own
 bare_values hist event own =
     let at : (n : ℕ) → value_at hist (bare event) own n ≡ value_at hist event own n = λ n. bare_worth event own (slice_get hist.values n) in
-    ap (λ (a : ℤ). a ∷ value_at hist (bare event) own 1 ∷ value_at hist (bare event) own 2 ∷ []) (at 0)
-    ∙ ap (λ (a : ℤ). value_at hist event own 0 ∷ a ∷ value_at hist (bare event) own 2 ∷ []) (at 1)
-    ∙ ap (λ (a : ℤ). value_at hist event own 0 ∷ value_at hist event own 1 ∷ a ∷ []) (at 2)
-
--- ---- keys
-
--- where numbers alone are made parts of, a key item makes the same part
-bare_part : (item : KeyItem) (event : Traced) → asks_text item ≡ false → part_of item (bare event) ≡ part_of item event
-bare_part item event number = ap (λ (value : Option Value). option_and_then (value_part item.mode) value) (bare_field event item.field number)
-
--- and key items make the same key
-bare_key : (items : List KeyItem) (event : Traced) → list_any asks_text items ≡ false → key_of items (bare event) ≡ key_of items event
-bare_key [] event numbers = refl
-bare_key (item ∷ items) event numbers =
-    let parts = or_parts (asks_text item) (list_any asks_text items) numbers in
-    ap (λ (key : Option (List Part)). option_and_then (λ part. option_map (λ rest. part ∷ rest) key) (part_of item (bare event))) (bare_key items event parts.1)
-    ∙ ap (option_and_then (λ part. option_map (λ rest. part ∷ rest) (key_of items event))) (bare_part item event parts.0)
+    λ i. at 0 i ∷ at 1 i ∷ at 2 i ∷ []
 
 -- ---- hits
 
--- it is a hit under the same key, where there is no filter and no key of a text
-pub bare_hit : (hist : Hist) (event : Traced) → hist.filter ≡ None → list_any asks_text hist.keys ≡ false → hit hist (bare event) ≡ hit hist event
-bare_hit hist event unfiltered numbers =
-    let passes : passes_filter hist.filter (bare event) ≡ passes_filter hist.filter event =
-    ap (λ (tree : Option Tree). passes_filter tree (bare event)) unfiltered ∙ ap (λ (tree : Option Tree). passes_filter tree event) (sym unfiltered) in
-    let asks : is_asked hist (bare event) ≡ is_asked hist event =
-    ap (λ (name : Name). same_name hist.event name && passes_filter hist.filter (bare event)) (bare_name event.body)
-    ∙ ap (λ (passes : Bool). same_name hist.event (name_of event.body) && passes) passes in
-    ap (λ (asks : Bool). if asks then key_of hist.keys (bare event) else None) asks
-    ∙ ap (λ (key : Option (List Part)). if is_asked hist event then key else None) (bare_key hist.keys event numbers)
+-- key items of numbers make the same key of an event without its names
+bare_key : (keys : List KeyItem) (event : Traced) → list_any asks_text keys ≡ false → key_of keys (bare event) ≡ key_of keys event
+bare_key [] event numbers = refl
+bare_key (item ∷ keys) event numbers =
+    let each = or_parts (asks_text item) (list_any asks_text keys) numbers in
+    let part : part_of item (bare event) ≡ part_of item event = ap (λ (value : Option Value). option_and_then (value_part item.mode) value) ((alike event item.field).same each.0) in
+    λ i. option_and_then (λ part. option_map (λ rest. part ∷ rest) (bare_key keys event each.1 i)) (part i)
 
--- no filter, and no key of a text
-pub numbers_mean : (filter : Option Tree) (texts : Bool) → (is_none filter && not texts) ≡ true → (filter ≡ None) × (texts ≡ false)
-numbers_mean (Some tree) texts is = absurd (cc is)
-numbers_mean None true is = absurd (cc is)
-numbers_mean None false is = (refl, refl)
+-- what is a number is that number
+value_of_number : (o : Option Value) (number : ℤ) → option_and_then as_number o ≡ Some number → o ≡ Some (values.Num number)
+value_of_number None number is = absurd (none-some number is)
+value_of_number (Some (values.Num n)) number is = ap (λ z. Some (values.Num z)) (same_Some n number is)
+value_of_number (Some (values.Text text)) number is = absurd (none-some number is)
 
--- a trigger that asks for numbers alone counts an event under the same key without its names
-pub hit_of_bare : (hist : Hist) (event : Traced) → asks_numbers hist ≡ true → hit hist (bare event) ≡ hit hist event
-hit_of_bare hist event is =
-    let means = numbers_mean hist.filter (list_any asks_text hist.keys) is in
-    bare_hit hist event means.0 means.1
+-- the key that a number alone tells
+abbrev key_by : KeyItem → ℤ → Option (List Part)
+key_by item number = option_and_then (λ part. Some (part ∷ [])) (value_part item.mode (values.Num number))
+
+-- the only key item makes the key that its number tells
+only_key : (keys : List KeyItem) (item : KeyItem) → slice_get keys 0 ≡ Some item → length keys ≡ 1 → (event : Traced) (number : ℤ)
+    → field_number event item.field ≡ Some number → key_of keys event ≡ key_by item number
+only_key [] item first one event number is = absurd (none-some item first)
+only_key (key ∷ []) item first one event number is =
+    ap (λ (k : KeyItem). key_of (k ∷ []) event) (same_Some key item first)
+    ∙ ap (λ (value : Option Value). option_and_then (λ part. Some (part ∷ [])) (option_and_then (value_part item.mode) value)) (value_of_number (field_of event item.field) number is)
+only_key (key ∷ other ∷ keys) item first one event number is = absurd (omega (arith, one))
+
+-- a trigger whose filter is none has no filter
+pub no_filter : {X : Type 0} (f : Tree → X) (filter : Option (Bor X)) (tree : Option Tree) → option_copied filter ≡ option_map f tree → is_some filter ≡ false → tree ≡ None
+no_filter f None None is none = refl
+no_filter f None (Some tree) is none = absurd (none-some (f tree) is)
+no_filter f (Some filter) tree is none = absurd (cc none)
+
+module _ (hist : Hist) (unfiltered : hist.filter ≡ None) where
+  -- the events that are hits are those of the name
+  by_name : (event : Traced) → hit hist event ≡ cond (same_name hist.event (name_of event.body)) (key_of hist.keys event) None
+  by_name event =
+      ap (λ (tree : Option Tree). cond (same_name hist.event (name_of event.body) && passes_filter tree event) (key_of hist.keys event) None) unfiltered
+      ∙ ap (λ b. cond b (key_of hist.keys event) None) (and-true (same_name hist.event (name_of event.body)))
+
+  -- it asks an event for numbers alone, where no key is of a text
+  pub bare_hit : list_any asks_text hist.keys ≡ false → (event : Traced) → hit hist (bare event) ≡ hit hist event
+  bare_hit numbers event =
+      by_name (bare event)
+      ∙ (λ i. cond (same_name hist.event ((stays event.body).name i)) (bare_key hist.keys event numbers i) None)
+      ∙ sym (by_name event)
+
+  -- where there is one key item, events that it holds the same number of come under the same key
+  module _ (keys : List KeyItem) (are : keys ≡ hist.keys) (item : KeyItem) (first : slice_get keys 0 ≡ Some item) (one : length keys ≡ 1) where
+    told_by : (event : Traced) (number : ℤ) (b : Bool) → cond b (field_number event item.field) None ≡ Some number → cond b (key_of keys event) None ≡ key_by item number
+    told_by event number true is = only_key keys item first one event number is
+    told_by event number false is = absurd (none-some number is)
+
+    pub number_hit : (event : Traced) (number : ℤ) → cond (same_name hist.event (name_of event.body)) (field_number event item.field) None ≡ Some number → hit hist event ≡ key_by item number
+    number_hit event number is =
+        by_name event
+        ∙ (λ i. cond (same_name hist.event (name_of event.body)) (key_of (sym are i) event) None)
+        ∙ told_by event number (same_name hist.event (name_of event.body)) is

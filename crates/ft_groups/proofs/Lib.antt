@@ -1,4 +1,2 @@
-mod Adding
 pub mod Bare
-mod Meeting
 mod Placing

@@ -25,6 +25,7 @@
 
 mod groups;
 mod hints;
+mod keys;
 mod met;
 mod sorted;
 

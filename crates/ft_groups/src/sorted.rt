@@ -1,14 +1,15 @@
 //! Sorting events by key, one after the other.
 
-ghost use Rattle.std.specs.Prelude.{◌≡◌, ◌<◌, List, [], length, Some, None, slice_get, IfSome, IfOk, OnOk};
+ghost use Rattle.std.specs.Prelude.{◌≡◌, ◌<◌, List, [], length, Some, slice_get, IfOk, OnOk};
 ghost use Rattle.std.specs.FinMap as map;
 ghost use Rattle.ft_fields.specs.Parts.{key_cmp};
 ghost use Rattle.ft_fields.specs.declared.key.Part.{Part};
+ghost use Rattle.ft_hist.specs.Hist.{Hist};
 ghost use Rattle.ft_maps.specs.Seen.{seen};
 ghost use Rattle.ft_store.specs.Stored.{held};
-ghost use Rattle.ft_groups.specs.Grouped.{referenced_events, run_of};
-ghost use Rattle.ft_groups.specs.inner.Adding.{AddsEvent};
-ghost use Rattle.ft_groups.specs.inner.Sorted.{IsSorted, groups_of};
+ghost use Rattle.ft_groups.specs.Grouped.{referenced_events, run_of, AreGrouped};
+ghost use Rattle.ft_groups.specs.inner.Adding.{Adds, Notes};
+ghost use Rattle.ft_groups.specs.inner.Sorted.{IsSorted, Stay, groups_of};
 
 use crate::hints::{Hints, hash_of};
 use ft_fields::Pos;
@@ -34,8 +35,8 @@ impl<'a> Sorted<'a> {
     /// No keys, with room for hints at so many events. Refused for memory.
     pub(crate) fn new(alloc: Global, events: usize) -> Result<Sorted<'a>, AllocError>
         ensures placed { IfOk result IsSorted }
-        ensures none { IfOk result (λ sorted.
-            groups_of sorted ≡ record { keys = []; runs = map.empty }) }
+        ensures none { IfOk result (λ sorted. (hist : Hist)
+            → AreGrouped hist [] (groups_of sorted)) }
     {
         let hints = Hints::new(alloc, events)?;
         Ok(Sorted {
@@ -55,23 +56,17 @@ impl<'a> Sorted<'a> {
     ) -> Result<usize, AllocError>
         requires { IsSorted self.old }
         ensures placed { OnOk result (IsSorted self.new) }
-        ensures adds { OnOk result (AddsEvent key (event.now.0, held event.now.1)
+        ensures adds { OnOk result (Adds (Some key) (event.now.0, held event.now.1)
             (groups_of self.old) (groups_of self.new)) }
         ensures stands { IfOk result (λ place.
             slice_get self.new.keys.items place ≡ Some key) }
+        ensures stay { OnOk result (Stay self.old.keys.items self.new.keys.items) }
     {
         let hash = hash_of(&key);
-        match self.place_of(&key, hash) {
-            Some(place) => {
-                self.hints.note(hash, place);
-                self.push(place, event)?;
-                Ok(place)
-            }
-            None => {
-                self.hints.note(hash, self.keys.len());
-                self.add_key(key, event)
-            }
-        }
+        let place = self.place_for(key, hash)?;
+        self.hints.note(hash, place);
+        self.push(place, event)?;
+        Ok(place)
     }
 
     /// Adds an event of the key at a place. Refused for memory.
@@ -86,7 +81,7 @@ impl<'a> Sorted<'a> {
         ensures keys { OnOk result (self.new.keys.items ≡ self.old.keys.items) }
         ensures adds { OnOk result ((key : List Part)
             → slice_get self.old.keys.items place ≡ Some key
-            → AddsEvent key (event.now.0, held event.now.1) (groups_of self.old) (groups_of self.new)) }
+            → Adds (Some key) (event.now.0, held event.now.1) (groups_of self.old) (groups_of self.new)) }
     {
         self.runs[place].push(event)?;
         Ok(())
@@ -108,38 +103,29 @@ impl<'a> Sorted<'a> {
         requires { IsSorted self.now }
         ensures { result ≡ map.get (seen key_cmp self.now.places) key.now }
     {
-        match self.hinted(key, hash) {
-            Some(place) => Some(place),
-            None => self.places.get(key).copied(),
-        }
-    }
-
-    /// The place of a key, where the hint for its hash tells it.
-    fn hinted(&self, key: &Key, hash: u64) -> Option<usize>
-        ensures { IfSome result (λ place. slice_get self.now.keys.items place ≡ Some key.now) }
-    {
         let place = self.hints.get(hash);
         match self.keys.get(place) {
             Some(other) if other == key => Some(place),
-            _ => None,
+            _ => self.places.get(key).copied(),
         }
     }
 
-    /// Adds a key that isn't there yet, with its first event: its place. Refused for memory.
-    fn add_key(&mut self, key: Key, event: &'a (Pos, Stored<'a>)) -> Result<usize, AllocError>
-        requires placed { IsSorted self.old }
-        requires new { map.get (seen key_cmp self.old.places) key ≡ None }
+    /// The place of a key with a hash, which is noted after the others if it isn't there yet.
+    /// Refused for memory.
+    fn place_for(&mut self, key: Key, hash: u64) -> Result<usize, AllocError>
+        requires { IsSorted self.old }
         ensures placed { OnOk result (IsSorted self.new) }
-        ensures adds { OnOk result (AddsEvent key (event.now.0, held event.now.1)
-            (groups_of self.old) (groups_of self.new)) }
         ensures stands { IfOk result (λ place.
             slice_get self.new.keys.items place ≡ Some key) }
+        ensures notes { OnOk result (Notes key (groups_of self.old) (groups_of self.new)) }
+        ensures stay { OnOk result (Stay self.old.keys.items self.new.keys.items) }
     {
+        if let Some(place) = self.place_of(&key, hash) {
+            return Ok(place);
+        }
         let place = self.keys.len();
-        let mut run = Vec::new(self.alloc);
-        run.push(event)?;
+        self.runs.push(Vec::new(self.alloc))?;
         put(&mut self.places, key, place)?;
-        self.runs.push(run)?;
         self.keys.push(key)?;
         Ok(place)
     }

@@ -1,333 +1,480 @@
--- What look-ups find in a run of events, and what follows for a trigger all of whose acts come at once.
-use Rattle.std.proofs.Common.{◌≡◌, ℕ, ℤ, Bool, true, false, cond, List, refl, sym, ap, subst, ◌∙◌, Some, None, Option, inl, inr}
-use Rattle.std.specs.Prelude.{◌&&◌, ◌⊎◌, option_and_then, option_map}
-use Rattle.std.specs.Option.{option_map_or}
+-- A trigger all of whose acts come at once: if its own hits, readings and operations are those of its acts, and all else stays, what is kept is right.
+use Rattle.std.proofs.Common.{◌≡◌, ℕ, Bool, true, false, cond, List, refl, sym, ap, subst, ◌∙◌, Some, None, Option, inl, inr}
+use Rattle.std.specs.Prelude.{◌&&◌, ◌⊎◌, option_and_then, option_map, is_some}
 use Rattle.std.specs.Ordering.{nat_cmp, eq_by_cmp}
 use Rattle.std.specs.FinMap as map
-use Rattle.std.specs.FinMap.{FinMap, find, entries_sorted, get-empty, get-entries, get-from_entries, nat_cmp-IsAntisymmetric}
+use Rattle.std.specs.FinMap.{get-empty, nat_cmp-IsAntisymmetric}
 use Rattle.std.specs.Cmp.{nat_cmp_total, tied_then}
-use Rattle.std.proofs.lemmas.Bool.{true≢false}
-use Rattle.ft_fields.specs.Places.{pos_cmp, pos_same}
 use Rattle.ft_fields.specs.Traced.{Traced}
-use Rattle.ft_fields.specs.declared.pos.Pos.{Pos}
-use Rattle.ft_groups.specs.Grouped.{AreGrouped, Grouped, is_under, run_of, run_under}
-use Rattle.ft_hist.specs.Hist.{Hist}
-use Rattle.ft_hist.specs.Triggers.{Triggers}
-use Rattle.ft_hist.specs.Hit.{hit}
-use Rattle.ft_fields.specs.Orders.{key_cmp_total}
+use Rattle.ft_fields.specs.Parts.{key_cmp, same_key}
 use Rattle.ft_fields.specs.Ties.{key_same}
 use Rattle.ft_fields.specs.declared.key.Part.{Part}
-use Rattle.ft_fields.specs.Parts.{same_key}
-use Rattle.ft_maps.specs.Entries.{strictly_sorted}
-use Rattle.ft_maps.proofs.Common.{cond_same}
-use Rattle.ft_pairs.specs.ByKey.{ops_of}
-use Rattle.ft_pairs.specs.Order.{at_cmp, at_cmp_total}
+use Rattle.ft_fields.specs.declared.pos.Pos.{Pos}
+use Rattle.ft_groups.specs.Grouped.{Grouped}
+use Rattle.ft_hist.specs.Hist.{Hist}
+use Rattle.ft_hist.specs.Triggers.{Triggers}
+use Rattle.ft_hits.specs.declared.mark.Mark.{Mark}
+use Rattle.ft_maps.specs.Entries.{same_from_tie}
+use Rattle.ft_maps.proofs.Common.{cond_same, and_false}
 use Rattle.ft_pairs.specs.Roles.{Admits, op_as}
-use Rattle.ft_pairs.specs.Source.{IsSource, Ops}
-use Rattle.ft_pairs.specs.Variables.{variable_cmp, variable_cmp_total, variable_same}
+use Rattle.ft_pairs.specs.Variables.{variable_cmp}
 use Rattle.ft_pairs.specs.declared.at.At.{At}
+use Rattle.ft_pairs.specs.declared.at.Op.{Op}
 use Rattle.ft_pairs.specs.declared.at.Op.TheVariants.{Save, Read}
 use Rattle.ft_pairs.specs.declared.role.Role.{Role}
 use Rattle.ft_pairs.specs.declared.role.Role.TheVariants.{Plain, Saves, Reads}
 use Rattle.ft_pairs.specs.declared.role.Variable.{Variable}
 use Rattle.ft_pairs.proofs.Local.{same_source}
-use Rattle.ft_table.specs.Spots.{spot_cmp, spot_cmp_total, traced}
-use Rattle.ft_table.specs.Tabled.{is_in}
-use Rattle.ft_table.specs.Values.{ValuesBy, values_at, values_by}
-use Rattle.ft_hits.specs.declared.spot.Spot.{Spot}
+use Rattle.ft_table.specs.Spots.{traced}
+use Rattle.ft_table.specs.Values.{values_at, values_by}
 use Rattle.ft_kept.specs.Acts.{Acts, op_of}
-use Rattle.ft_kept.specs.AtOnce.{AllCome, acts_with}
-use Rattle.ft_kept.specs.Entries.{HitsHere, IsEntry, IsKept, IsRight, hits_here, read_here}
-use Rattle.ft_shelves.specs.Shelves.{FormsStay, MadeStay, Shelved, Shelves, admits_on, is_saver, kept_on, role_on}
-use Rattle.ft_shelves.specs.Joining.{HasGroups, HasSaves, hits_of_run, saves_of_run}
-use Rattle.ft_shelves.proofs.Decided.{decided, itself, none_not_some, untied}
-use Rattle.ft_shelves.proofs.Finding.{find-filter, find-turned}
-use Rattle.ft_kept.proofs.Forms.{admits_by, by_id, edited, hits_by, ops_by, read_by, role_at, same_admits, same_hits, same_ops, same_read}
-use Rattle.ft_kept.proofs.Staleness.{entry_same, op_elsewhere, op_read}
-use Rattle.ft_kept.proofs.Putting.{absent_read, values_there}
-
--- ---- in a run
-
-module _ (hist : Hist) (events : FinMap pos_cmp Traced) (key : List Part) where
-  -- the event at a place, where the trigger counts it under the key
-  abbrev pub counted_at : Pos → Option Traced
-  counted_at pos = option_and_then (λ event. cond (is_under hist key event) (Some event) None) (map.get events pos)
-
-  -- the events of a key's run, by place
-  pub run_found : (pos : Pos) → find pos_cmp pos (run_under hist (map.entries events) key) ≡ counted_at pos
-  run_found pos =
-      find-filter (λ e. is_under hist key e.1) pos_same pos (map.entries events) (strictly_sorted pos_cmp (map.entries events) (entries_sorted events))
-      ∙ ap (option_and_then (λ event. cond (is_under hist key event) (Some event) None)) (sym (get-entries events pos))
-
-  -- the hits of a key's run, by spot: those of events of the trace
-  pub hit_found : (spot : Spot) → map.get (map.from_entries {R = spot_cmp} (hits_of_run hist (run_under hist (map.entries events) key))) spot
-      ≡ cond (eq_by_cmp nat_cmp spot.maker 0) (option_map (λ event. values_at hist spot.pos event None) (counted_at spot.pos)) None
-  hit_found spot =
-      get-from_entries spot_cmp_total (hits_of_run hist (run_under hist (map.entries events) key)) spot
-      ∙ find-turned traced (λ pos event. values_at hist pos event None) pos_same (λ (s : Spot). s.pos) (λ s. eq_by_cmp nat_cmp s.maker 0) spot_cmp
-      (λ s pos. sym (tied_then (pos_cmp s.pos pos) (nat_cmp s.maker 0))) spot (run_under hist (map.entries events) key)
-      ∙ ap (λ o. cond (eq_by_cmp nat_cmp spot.maker 0) (option_map (λ event. values_at hist spot.pos event None) o) None) (run_found spot.pos)
-
-  -- the saves of a key's run, by place: those of the saver
-  pub save_found : (id : ℕ) (at : At) → map.get (map.from_entries {R = at_cmp} (saves_of_run id (run_under hist (map.entries events) key))) at
-      ≡ cond (eq_by_cmp nat_cmp at.trigger id) (option_map (λ event. Save) (counted_at at.pos)) None
-  save_found id at =
-      get-from_entries at_cmp_total (saves_of_run id (run_under hist (map.entries events) key)) at
-      ∙ find-turned {X = Traced} (λ pos. record { pos = pos; trigger = id }) (λ pos event. Save) pos_same (λ (q : At). q.pos) (λ q. eq_by_cmp nat_cmp q.trigger id) at_cmp
-      (λ q pos. sym (tied_then (pos_cmp q.pos pos) (nat_cmp q.trigger id))) at (run_under hist (map.entries events) key)
-      ∙ ap (λ o. cond (eq_by_cmp nat_cmp at.trigger id) (option_map (λ event. Save) o) None) (run_found at.pos)
-
-  -- an event that is counted under the key is an act with it
-  pub counted_acts : (pos : Pos) → counted_at pos ≡ option_and_then (λ (act : List Part × Traced). cond (same_key key act.0) (Some act.1) None) (acts_with hist events pos)
-  counted_acts pos = elim (map.get events pos) as (λ o. option_and_then (λ event. cond (is_under hist key event) (Some event) None) o
-      ≡ option_and_then (λ (act : List Part × Traced). cond (same_key key act.0) (Some act.1) None) (option_and_then (λ event. option_map (λ k. (k, event)) (hit hist event)) o)) [
-        | None ↦ refl
-        | Some event ↦ elim (hit hist event) as (λ h. cond (option_map_or (same_key key) h false) (Some event) None
-            ≡ option_and_then (λ (act : List Part × Traced). cond (same_key key act.0) (Some act.1) None) (option_map (λ k. (k, event)) h)) [
-              | None ↦ refl
-              | Some k ↦ refl
-            ]
-      ]
-
--- ---- operations
+use Rattle.ft_kept.specs.AtOnce.{AllCome, IsBare}
+use Rattle.ft_kept.specs.Entries.{HitsHere, IsCounted, IsEntry, IsKept, IsReading, IsRight, hits_here, one_hit, read_here}
+use Rattle.ft_shelves.specs.Joining.{AreGroupsOf, HasGroups, ReadBy, acts_with, event_in, HasJoined, OpsJoin, save_in, unread, HasRead, read_from, reading_in, what_read}
+use Rattle.ft_shelves.specs.Shelves.{FormsStay, MadeStay, Shelved, Shelves, admits_on, kept_on, role_on, is_saver, ChangesShelf}
+use Rattle.ft_shelves.proofs.Decided.{decided, untied, itself, none_not_some}
+use Rattle.ft_shelves.proofs.Listed.{event_of, under, flat}
+use Rattle.ft_kept.proofs.Forms.{edited, hits_by, admits_by, by_id, ops_by, read_by, role_at, same_admits, same_hits, same_ops, same_read, changed_forms, forms_trans, shelf_stays, tells_here, tells_same}
+use Rattle.ft_kept.proofs.Staleness.{entry_same, op_absent, op_read}
+use Rattle.ft_kept.proofs.Putting.{values_there, absent_read}
+use Rattle.std.specs.Option.{option_map_or}
+use Rattle.ft_pairs.specs.ByKey.{ops_of, OpsByKey}
+use Rattle.ft_table.specs.Tabled.{is_in}
+use Rattle.ft_table.specs.Hits.{Hits}
+use Rattle.ft_kept.specs.inner.Joining.{HasOps}
 
 pub trigger_decided : (i j : ℕ) → (i ≡ j) ⊎ (i ≡ j → ⊥)
 trigger_decided = decided nat_cmp_total nat_cmp-IsAntisymmetric
 
--- whether keys of another saver are in its table says nothing of what an act does to a variable
-op_foreign : (was now : Admits) (role : Role) (variable : Variable) (id : ℕ) (key : List Part) → (variable.saver ≡ id → ⊥) → op_as now role variable id key ≡ op_as was role variable id key
-op_foreign was now Plain variable id key apart = refl
-op_foreign was now Saves variable id key apart =
-    let other = untied variable_cmp_total variable_same variable (record { saver = id; key = key }) (λ e. apart (ap (λ (v : Variable). v.saver) e)) in
-    ap (λ b. cond b (cond (now id key) (Some Save) None) None) other ∙ sym (ap (λ b. cond b (cond (was id key) (Some Save) None) None) other)
-op_foreign was now (Reads saver) variable id key apart = refl
+-- where a trigger acts
+abbrev pub own_at : ℕ → Pos → At
+own_at id pos = record { pos = pos; trigger = id }
 
--- another trigger's act, where it stays, is the operation on a variable that it was
-pub op_stays : (role : ℕ → Role) (was now : Admits) (before after : Acts) (variable : Variable) (q : At) → (variable.saver ≡ q.trigger → ⊥) → after q ≡ before q
-    → op_of role now after variable q ≡ op_of role was before variable q
-unfolding op_of
-op_stays role was now before after variable q apart same =
-    ap (option_and_then (λ act. op_as now (role q.trigger) variable q.trigger act.0)) same
-    ∙ elim (before q) as (λ o. option_and_then (λ act. op_as now (role q.trigger) variable q.trigger act.0) o ≡ option_and_then (λ act. op_as was (role q.trigger) variable q.trigger act.0) o) [
-      | None ↦ refl
-      | Some act ↦ op_foreign was now (role q.trigger) variable q.trigger act.0 apart
-    ]
+-- where an act comes, it had none before
+module _ (id : ℕ) (acts : Pos → Option (List Part × Traced)) (before after : Acts) (come : AllCome id acts before after) where
+  pub absent_own : (role : ℕ → Role) (admits : Admits) (variable : Variable) (pos : Pos) → op_of role admits before variable (record { pos = pos; trigger = id }) ≡ None
+  absent_own role admits variable pos = op_absent role admits before variable (record { pos = pos; trigger = id }) (come.absent pos)
 
--- a trigger without a variable does nothing to any
-pub op_plain : (role : ℕ → Role) (admits : Admits) (acts : Acts) (variable : Variable) (q : At) → role q.trigger ≡ Plain → op_of role admits acts variable q ≡ None
-unfolding op_of
-op_plain role admits acts variable q plain =
-    ap (λ r. option_and_then (λ act. op_as admits r variable q.trigger act.0) (acts q)) plain
-    ∙ elim (acts q) as (λ o. option_and_then (λ act. op_as admits Plain variable q.trigger act.0) o ≡ None) [ None ↦ refl | Some act ↦ refl ]
+-- ---- one act
 
--- a saver does nothing to what another saves
-pub op_saver_else : (role : ℕ → Role) (admits : Admits) (acts : Acts) (variable : Variable) (q : At) → role q.trigger ≡ Saves → (variable.saver ≡ q.trigger → ⊥) → op_of role admits acts variable q ≡ None
-unfolding op_of
-op_saver_else role admits acts variable q saves apart =
-    ap (λ r. option_and_then (λ act. op_as admits r variable q.trigger act.0) (acts q)) saves
-    ∙ elim (acts q) as (λ o. option_and_then (λ act. op_as admits Saves variable q.trigger act.0) o ≡ None) [
-      | None ↦ refl
-      | Some act ↦ ap (λ b. cond b (cond (admits q.trigger act.0) (Some Save) None) None) (untied variable_cmp_total variable_same variable (record { saver = q.trigger; key = act.0 }) (λ e. apart (ap (λ (v : Variable). v.saver) e)))
-    ]
+-- what the hit of an act read, by the trigger's role and what its reading found, if it is a hit
+abbrev pub hit_read : Role → Option Pos → Option (Option Pos)
+hit_read Plain read = Some None
+hit_read Saves read = Some None
+hit_read (Reads saver) read = option_map (λ saved. Some saved) read
 
--- of a saver's act: a save of its own key, where that is in its table
-pub op_saver_own : (role : ℕ → Role) (admits : Admits) (acts : Acts) (key : List Part) (q : At) (in_table : Bool) → role q.trigger ≡ Saves → admits q.trigger key ≡ in_table
-    → cond in_table (option_map (λ event. Save) (option_and_then (λ (act : List Part × Traced). cond (same_key key act.0) (Some act.1) None) (acts q))) None
-    ≡ op_of role admits acts (record { saver = q.trigger; key = key }) q
-unfolding op_of
-op_saver_own role admits acts key q in_table saves admitted =
-    elim (acts q) as (λ o. cond in_table (option_map (λ event. Save) (option_and_then (λ (act : List Part × Traced). cond (same_key key act.0) (Some act.1) None) o)) None
-    ≡ option_and_then (λ act. op_as admits Saves (record { saver = q.trigger; key = key }) q.trigger act.0) o) [
-      | None ↦ cond_same in_table None
-      | Some act ↦ one act (decided key_cmp_total key_same key act.0)
-    ]
-    ∙ sym (ap (λ r. option_and_then (λ act. op_as admits r (record { saver = q.trigger; key = key }) q.trigger act.0) (acts q)) saves)
+module _ (triggers : Triggers) (hist : Hist) (id : ℕ) (attached : map.get triggers id ≡ Some hist) (pos : Pos) where
+  counts_as : (role : Role) (a : List Part × Traced) (hits : HitsHere) (read : Option Pos) → ((key : List Part) → hits key ≡ one_hit a.0 (option_map (values_at hist pos a.1) (hit_read role read)) key)
+      → IsCounted (values_by triggers) (record { pos = pos; trigger = id }) role (Some a) hits read
+  counts_as Plain a hits read here = λ key. here key ∙ ap (λ v. one_hit a.0 (Some v) key) (sym (values_there triggers id hist pos a.1 None attached))
+  counts_as Saves a hits read here = λ key. here key ∙ ap (λ v. one_hit a.0 (Some v) key) (sym (values_there triggers id hist pos a.1 None attached))
+  counts_as (Reads saver) a hits read here = λ key. here key ∙ ap (λ o. one_hit a.0 o key) (by read)
+    where
+      by : (o : Option Pos) → option_map (values_at hist pos a.1) (option_map (λ saved. Some saved) o) ≡ option_map (λ saved. values_by triggers id pos a.1 (Some saved)) o
+      by None = refl
+      by (Some saved) = ap Some (sym (values_there triggers id hist pos a.1 (Some saved) attached))
+
+  one_there : (read : ReadBy) (a : List Part × Traced) (key : List Part) → option_and_then (λ event. option_map (values_at hist pos event) (read key pos)) (under key (Some a)) ≡ one_hit a.0 (option_map (values_at hist pos a.1) (read a.0 pos)) key
+  one_there read a key = elim (same_key key a.0) as (λ b. same_key key a.0 ≡ b
+      → option_and_then (λ event. option_map (values_at hist pos event) (read key pos)) (cond b (Some a.1) None) ≡ cond b (option_map (values_at hist pos a.1) (read a.0 pos)) None) [
+        | true ↦ λ tie. ap (λ k. option_map (values_at hist pos a.1) (read k pos)) (same_from_tie key_same key a.0 tie)
+        | false ↦ λ _. refl
+      ] refl
+
+  -- hits at a place are that of the act there, if each key's event there has its hit
+  pub counted : (read : ReadBy) (role : Role) (act : Option (List Part × Traced)) (hits : HitsHere) (found : Option Pos)
+      → ((key : List Part) → hits key ≡ option_and_then (λ event. option_map (values_at hist pos event) (read key pos)) (under key act))
+      → ((a : List Part × Traced) → act ≡ Some a → read a.0 pos ≡ hit_read role found)
+      → IsCounted (values_by triggers) (record { pos = pos; trigger = id }) role act hits found
+  counted read role None hits found here fits = here
+  counted read role (Some a) hits found here fits = counts_as role a hits found
+      (λ key. here key ∙ one_there read a key ∙ ap (λ r. one_hit a.0 (option_map (values_at hist pos a.1) r) key) (fits a refl))
+
+-- ---- operations
+
+-- what an act does to a variable depends on its own key in its own trigger's table
+op_admits : (was now : Admits) (role : Role) (variable : Variable) (id : ℕ) (key : List Part) → now id key ≡ was id key → op_as now role variable id key ≡ op_as was role variable id key
+op_admits was now Plain variable id key alike = refl
+op_admits was now Saves variable id key alike = ap (λ b. cond (eq_by_cmp variable_cmp variable (record { saver = id; key = key })) (cond b (Some Save) None) None) alike
+op_admits was now (Reads saver) variable id key alike = refl
+
+-- an act that does something to the variable of its key does it at the event of that key
+pub own_op : (saver : ℕ) (op : List Part → Option Op) (variable : Variable) (act : Option (List Part × Traced))
+    → option_and_then (λ (a : List Part × Traced). cond (eq_by_cmp variable_cmp variable (record { saver = saver; key = a.0 })) (op a.0) None) act
+    ≡ cond (eq_by_cmp nat_cmp variable.saver saver) (option_and_then (λ (event : Traced). op variable.key) (under variable.key act)) None
+own_op saver op variable None = sym (cond_same (eq_by_cmp nat_cmp variable.saver saver) None)
+own_op saver op variable (Some a) =
+    ap (λ b. cond b (op a.0) None) (sym (tied_then (nat_cmp variable.saver saver) (key_cmp variable.key a.0)))
+    ∙ by (eq_by_cmp nat_cmp variable.saver saver) (same_key variable.key a.0) refl
   where
-    one : (act : List Part × Traced) → (key ≡ act.0) ⊎ (key ≡ act.0 → ⊥)
-        → cond in_table (option_map (λ event. Save) (cond (same_key key act.0) (Some act.1) None)) None
-        ≡ cond (eq_by_cmp variable_cmp (record { saver = q.trigger; key = key }) (record { saver = q.trigger; key = act.0 })) (cond (admits q.trigger act.0) (Some Save) None) None
-    one act (inl own) =
-        ap (λ b. cond in_table (option_map (λ event. Save) (cond b (Some act.1) None)) None) (ap (same_key key) (sym own) ∙ itself key_cmp_total key)
-        ∙ ap (λ b. cond b (Some Save) None) (sym admitted ∙ ap (admits q.trigger) own)
-        ∙ sym (ap (λ b. cond b (cond (admits q.trigger act.0) (Some Save) None) None)
-        (ap (λ k. eq_by_cmp variable_cmp (record { saver = q.trigger; key = k }) (record { saver = q.trigger; key = act.0 })) own ∙ itself variable_cmp_total (record { saver = q.trigger; key = act.0 })))
-    one act (inr apart) =
-        ap (λ b. cond in_table (option_map (λ event. Save) (cond b (Some act.1) None)) None) (untied key_cmp_total key_same key act.0 apart)
-        ∙ cond_same in_table None
-        ∙ sym (ap (λ b. cond b (cond (admits q.trigger act.0) (Some Save) None) None)
-        (untied variable_cmp_total variable_same (record { saver = q.trigger; key = key }) (record { saver = q.trigger; key = act.0 }) (λ e. apart (ap (λ (v : Variable). v.key) e))))
+    by : (b t : Bool) → same_key variable.key a.0 ≡ t → cond (b && t) (op a.0) None ≡ cond b (option_and_then (λ (event : Traced). op variable.key) (cond t (Some a.1) None)) None
+    by true true tie = ap op (sym (same_from_tie key_same variable.key a.0 tie))
+    by true false tie = refl
+    by false t tie = refl
 
--- ---- entries
+-- ---- all acts
 
-if_counted : {X Y : Type 0} (b : Bool) (x : X) (f : X → Y) → option_map f (cond b (Some x) None) ≡ cond b (Some (f x)) None
-if_counted true x f = refl
-if_counted false x f = refl
+module _ (triggers : Triggers) (hist : Hist) (id : ℕ) (attached : map.get triggers id ≡ Some hist) (groups : Grouped) (of : AreGroupsOf hist groups)
+    (before after : Acts) (come : AllCome id (acts_with hist of.events) before after) (old new : Shelves)
+    (kept : IsKept (role_on old) (values_by triggers) (admits_on old) before (kept_on old)) where
+  abbrev pub acts : Pos → Option (List Part × Traced)
+  acts = acts_with hist of.events
 
--- what is kept of an act that reads nothing is its hit
-pub unread_entry : (values : ValuesBy) (ops : Variable → Ops) (at : At) (role : Role) (act : Option (List Part × Traced)) (hits : HitsHere) (read : Option Pos)
-    → ((saver : ℕ) → role ≡ Reads saver → ⊥) → read ≡ None
-    → ((key : List Part) → hits key ≡ option_map (λ event. values at.trigger at.pos event None) (option_and_then (λ (a : List Part × Traced). cond (same_key key a.0) (Some a.1) None) act))
-    → IsEntry values ops at role act hits read
-unread_entry values ops at role None hits read no_reader unread here = (unread, here)
-unread_entry values ops at Plain (Some a) hits read no_reader unread here = (unread, λ key. here key ∙ if_counted (same_key key a.0) a.1 (λ event. values at.trigger at.pos event None))
-unread_entry values ops at Saves (Some a) hits read no_reader unread here = (unread, λ key. here key ∙ if_counted (same_key key a.0) a.1 (λ event. values at.trigger at.pos event None))
-unread_entry values ops at (Reads saver) (Some a) hits read no_reader unread here = absurd (no_reader saver refl)
+  -- what was there is right
+  pub right_before : (q : At) → IsRight (role_on old) (values_by triggers) before (kept_on old) q
+  right_before q = kept.entries q
 
--- ---- all acts of one trigger
+  -- its own hits, readings and operations are those of its acts, and what others read stays, with their hits and readings
+  pub record AreThere (read : ReadBy) : Type 0 where
+    pub hits : (pos : Pos) (key : List Part) → hits_here (kept_on new) (own_at id pos) key ≡ option_and_then (λ event. option_map (values_at hist pos event) (read key pos)) (event_in groups key pos)
+    pub readings : (pos : Pos) → IsReading (kept_on new).ops (own_at id pos) (role_on old id) (acts pos) (read_here (kept_on new) (own_at id pos))
+    pub fits : (pos : Pos) (a : List Part × Traced) → acts pos ≡ Some a → read a.0 pos ≡ hit_read (role_on old id) (read_here (kept_on new) (own_at id pos))
+    pub ops : (variable : Variable) (pos : Pos) → (kept_on new).ops variable (own_at id pos) ≡ option_and_then (λ (a : List Part × Traced). op_as (admits_on new) (role_on old id) variable id a.0) (acts pos)
+    pub other_hits : (i : ℕ) → (i ≡ id → ⊥) → (mark : Mark) → (kept_on new).hits i mark ≡ (kept_on old).hits i mark
+    pub other_readings : (i : ℕ) → (i ≡ id → ⊥) → (pos : Pos) → (kept_on new).read i pos ≡ (kept_on old).read i pos
+    pub other_admits : (i : ℕ) → (i ≡ id → ⊥) → (key : List Part) → admits_on new i key ≡ admits_on old i key
+    pub other_ops : (variable : Variable) (q : At) → (q.trigger ≡ id → ⊥) → (kept_on new).ops variable q ≡ (kept_on old).ops variable q
+    pub other_sources : (q : At) (saver : ℕ) (a : List Part × Traced) → (q.trigger ≡ id → ⊥) → role_on old q.trigger ≡ Reads saver → before q ≡ Some a
+        → (p : At) → (kept_on new).ops (record { saver = saver; key = a.0 }) p ≡ (kept_on old).ops (record { saver = saver; key = a.0 }) p
 
-module _ (triggers : Triggers) (old new : Shelves) (id : ℕ) (shelf after : Shelved) (was : map.get old id ≡ Some shelf) (is : map.get new id ≡ Some after)
-    (others : (i : ℕ) → (i ≡ id → ⊥) → map.get new i ≡ map.get old i) (hist : Hist) (attached : map.get triggers id ≡ Some hist) (groups : Grouped)
-    (table : HasGroups hist groups shelf.table after.table) (role : after.role ≡ shelf.role) (readings : after.readings ≡ shelf.readings) where
-  -- no hit of an event that a trigger made comes
+  module _ (read : ReadBy) (there : AreThere read) where
+    own_right : (pos : Pos) → IsRight (role_on old) (values_by triggers) after (kept_on new) (own_at id pos)
+    own_right pos = subst (λ act. IsEntry (values_by triggers) (kept_on new).ops (own_at id pos) (role_on old id) act (hits_here (kept_on new) (own_at id pos)) (read_here (kept_on new) (own_at id pos))) (sym (come.here pos)) (
+      there.readings pos,
+      counted triggers hist id attached pos read (role_on old id) (acts pos) (hits_here (kept_on new) (own_at id pos)) (read_here (kept_on new) (own_at id pos))
+          (λ key. there.hits pos key ∙ ap (option_and_then (λ event. option_map (values_at hist pos event) (read key pos))) (event_of hist groups of key pos))
+          (there.fits pos),
+    )
+
+    other_right : (q : At) → (q.trigger ≡ id → ⊥) → IsRight (role_on old) (values_by triggers) after (kept_on new) q
+    other_right q apart = subst (λ o. IsEntry (values_by triggers) (kept_on new).ops q (role_on old q.trigger) o (hits_here (kept_on new) q) (read_here (kept_on new) q)) (sym (come.elsewhere q apart))
+        (entry_same (values_by triggers) (kept_on old).ops (kept_on new).ops q (role_on old q.trigger) (before q) (hits_here (kept_on old) q) (hits_here (kept_on new) q) (read_here (kept_on old) q) (read_here (kept_on new) q)
+        (λ key. there.other_hits q.trigger apart (record { spot = traced q.pos; key = key }))
+        (there.other_readings q.trigger apart q.pos)
+        (λ saver a role acting found. same_source ((kept_on old).ops (record { saver = saver; key = a.0 })) ((kept_on new).ops (record { saver = saver; key = a.0 })) q
+        (λ p _. there.other_sources q saver a apart role acting p) found)
+        (right_before q))
+
+    op_own : (variable : Variable) (pos : Pos) → (kept_on new).ops variable (own_at id pos) ≡ op_of (role_on old) (admits_on new) after variable (own_at id pos)
+    unfolding op_of
+    op_own variable pos = there.ops variable pos ∙ ap (option_and_then (λ (a : List Part × Traced). op_as (admits_on new) (role_on old id) variable id a.0)) (sym (come.here pos))
+
+    op_other : (variable : Variable) (q : At) → (q.trigger ≡ id → ⊥) → op_of (role_on old) (admits_on old) before variable q ≡ op_of (role_on old) (admits_on new) after variable q
+    unfolding op_of
+    op_other variable q apart =
+        sym (ap (option_and_then (λ act. op_as (admits_on new) (role_on old q.trigger) variable q.trigger act.0)) (come.elsewhere q apart)
+        ∙ elim (before q) as (λ o. option_and_then (λ act. op_as (admits_on new) (role_on old q.trigger) variable q.trigger act.0) o ≡ option_and_then (λ act. op_as (admits_on old) (role_on old q.trigger) variable q.trigger act.0) o) [
+          | None ↦ refl
+          | Some a ↦ op_admits (admits_on old) (admits_on new) (role_on old q.trigger) variable q.trigger a.0 (there.other_admits q.trigger apart a.0)
+        ])
+
+    -- so all that is kept is right
+    pub all_right : IsKept (role_on old) (values_by triggers) (admits_on new) after (kept_on new)
+    all_right = record {
+      ops = λ variable q. elim (trigger_decided q.trigger id) [
+        | inl is ↦ subst (λ (p : At). (kept_on new).ops variable p ≡ op_of (role_on old) (admits_on new) after variable p) (λ i. record { pos = q.pos; trigger = sym is i }) (op_own variable q.pos)
+        | inr apart ↦ there.other_ops variable q apart ∙ kept.ops variable q ∙ op_other variable q apart
+      ];
+      entries = λ q. elim (trigger_decided q.trigger id) [
+        | inl is ↦ subst (IsRight (role_on old) (values_by triggers) after (kept_on new)) (λ i. record { pos = q.pos; trigger = sym is i }) (own_right q.pos)
+        | inr apart ↦ other_right q apart
+      ];
+    }
+
+-- ---- its shelf
+
+module _ (old new : Shelves) (id : ℕ) (shelf after : Shelved) (was : map.get old id ≡ Some shelf) (is : map.get new id ≡ Some after)
+    (others : (i : ℕ) → (i ≡ id → ⊥) → map.get new i ≡ map.get old i)
+    (hist : Hist) (groups : Grouped) (read : ReadBy) (table : HasGroups hist groups read shelf.table after.table) where
   made_stays : shelf.table.hits ≡ map.empty → MadeStay shelf.table.hits after.table.hits
   made_stays bare m made =
       table.hits m
-      ∙ get-from_entries spot_cmp_total (hits_of_run hist (run_of groups m.key)) m.spot
-      ∙ find-turned traced (λ pos event. values_at hist pos event None) pos_same (λ (s : Spot). s.pos) (λ s. eq_by_cmp nat_cmp s.maker 0) spot_cmp
-      (λ s pos. sym (tied_then (pos_cmp s.pos pos) (nat_cmp s.maker 0))) m.spot (run_of groups m.key)
-      ∙ ap (λ b. cond b (option_map (λ event. values_at hist m.spot.pos event None) (find pos_cmp m.spot.pos (run_of groups m.key))) None)
+      ∙ ap (λ b. cond b (option_and_then (λ event. option_map (values_at hist m.spot.pos event) (read m.key m.spot.pos)) (event_in groups m.key m.spot.pos)) None)
       (untied nat_cmp_total nat_cmp-IsAntisymmetric m.spot.maker 0 made)
       ∙ sym (ap (λ hits. map.get hits m) bare ∙ get-empty _ m)
 
-  -- its shelf keeps its form
-  pub joined_forms : shelf.table.hits ≡ map.empty → FormsStay old new
-  joined_forms bare = edited old new id shelf after was is others (record { role = role; size = table.size; made = made_stays bare })
+  -- it keeps its form, as no hit of an event that a trigger made comes
+  pub joined_forms : after.role ≡ shelf.role → shelf.table.hits ≡ map.empty → FormsStay old new
+  joined_forms role bare = edited old new id shelf after was is others (record { role = role; size = table.size; made = made_stays bare })
 
-  -- what readings found stays
-  reads_stay : (pos : Pos) → (kept_on new).read id pos ≡ (kept_on old).read id pos
-  reads_stay pos = read_by new id (Some after) is pos ∙ ap (λ r. map.get r pos) readings ∙ sym (read_by old id (Some shelf) was pos)
+  -- its hits at a place
+  pub joined_hits : (pos : Pos) (key : List Part) → hits_here (kept_on new) (record { pos = pos; trigger = id }) key ≡ option_and_then (λ event. option_map (values_at hist pos event) (read key pos)) (event_in groups key pos)
+  joined_hits pos key = hits_by new id (Some after) is (record { spot = traced pos; key = key }) ∙ table.hits (record { spot = traced pos; key = key })
 
-  module _ (events : FinMap pos_cmp Traced) (grouped : AreGrouped hist (map.entries events) groups) (before acts : Acts) (come : AllCome id (acts_with hist events) before acts)
+-- ---- a trigger that reads nothing
+
+nothing_read : (ops : (Variable → At → Option Op)) (at : At) (role : Role) (act : Option (List Part × Traced)) (read : Option Pos) → (role ≡ Plain) ⊎ (role ≡ Saves) → read ≡ None → IsReading ops at role act read
+nothing_read ops at role None read no_reader none = none
+nothing_read ops at Plain (Some a) read no_reader none = none
+nothing_read ops at Saves (Some a) read no_reader none = none
+nothing_read ops at (Reads saver) (Some a) read (inl is) none = absurd (cc)
+nothing_read ops at (Reads saver) (Some a) read (inr is) none = absurd (cc)
+
+each_hit : (role : Role) (read : Option Pos) → (role ≡ Plain) ⊎ (role ≡ Saves) → Some None ≡ hit_read role read
+each_hit role read (inl is) = sym (ap (λ r. hit_read r read) is)
+each_hit role read (inr is) = sym (ap (λ r. hit_read r read) is)
+
+module _ (triggers : Triggers) (hist : Hist) (id : ℕ) (attached : map.get triggers id ≡ Some hist) (groups : Grouped) (of : AreGroupsOf hist groups)
+    (before acts : Acts) (come : AllCome id (acts_with hist of.events) before acts) (old new : Shelves)
+    (kept : IsKept (role_on old) (values_by triggers) (admits_on old) before (kept_on old))
+    (shelf after : Shelved) (was : map.get old id ≡ Some shelf) (is : map.get new id ≡ Some after)
+    (others : (i : ℕ) → (i ≡ id → ⊥) → map.get new i ≡ map.get old i) (joined : HasJoined id hist groups shelf after) where
+  -- where an operation stands that is no own one, it stood
+  foreign_ops : (variable : Variable) (q : At) → (variable.saver ≡ id → ⊥) → (kept_on new).ops variable q ≡ (kept_on old).ops variable q
+  foreign_ops variable q apart = same_ops old new variable.saver (others variable.saver apart) variable.key q
+
+  none_before : (variable : Variable) (pos : Pos) → (kept_on old).ops variable (own_at id pos) ≡ None
+  none_before variable pos = kept.ops variable (own_at id pos) ∙ absent_own id (acts_with hist of.events) before acts come (role_on old) (admits_on old) variable pos
+
+  unread_here : (pos : Pos) → read_here (kept_on new) (own_at id pos) ≡ None
+  unread_here pos =
+      read_by new id (Some after) is pos
+      ∙ ap (λ r. map.get r pos) joined.readings
+      ∙ sym (read_by old id (Some shelf) was pos)
+      ∙ absent_read (role_on old) (values_by triggers) (admits_on old) before (kept_on old) kept (own_at id pos) (come.absent pos)
+
+  module _ (no_reader : (role_on old id ≡ Plain) ⊎ (role_on old id ≡ Saves))
+      (ops : (variable : Variable) (pos : Pos) → (kept_on new).ops variable (own_at id pos) ≡ option_and_then (λ (a : List Part × Traced). op_as (admits_on new) (role_on old id) variable id a.0) (acts_with hist of.events pos))
+      (other_ops : (variable : Variable) (q : At) → (q.trigger ≡ id → ⊥) → (kept_on new).ops variable q ≡ (kept_on old).ops variable q)
+      (other_sources : (q : At) (saver : ℕ) (a : List Part × Traced) → (q.trigger ≡ id → ⊥) → role_on old q.trigger ≡ Reads saver → before q ≡ Some a
+      → (p : At) → (kept_on new).ops (record { saver = saver; key = a.0 }) p ≡ (kept_on old).ops (record { saver = saver; key = a.0 }) p) where
+    unread_kept : IsKept (role_on old) (values_by triggers) (admits_on new) acts (kept_on new)
+    unread_kept = all_right triggers hist id attached groups of before acts come old new kept unread (record {
+      hits = joined_hits old new id shelf after was is others hist groups unread joined.table;
+      readings = λ pos. nothing_read (kept_on new).ops (own_at id pos) (role_on old id) (acts_with hist of.events pos) (read_here (kept_on new) (own_at id pos)) no_reader (unread_here pos);
+      fits = λ pos a acting. each_hit (role_on old id) (read_here (kept_on new) (own_at id pos)) no_reader;
+      ops = ops;
+      other_hits = λ i apart mark. same_hits old new i (others i apart) mark;
+      other_readings = λ i apart pos. same_read old new i (others i apart) pos;
+      other_admits = λ i apart key. same_admits old new i (others i apart) key;
+      other_ops = other_ops;
+      other_sources = other_sources;
+    })
+
+  -- without a variable
+
+  module _ (plain : role_on old id ≡ Plain) where
+    ops_stay : (variable : Variable) (q : At) → (kept_on new).ops variable q ≡ (kept_on old).ops variable q
+    ops_stay variable q = by_id (λ i. (kept_on new).ops (record { saver = i; key = variable.key }) q ≡ (kept_on old).ops (record { saver = i; key = variable.key }) q) id
+        (ops_by new id (Some after) is variable.key q
+        ∙ ap (λ o. ops_of o variable.key q) (subst (λ r. OpsJoin r id groups after.table shelf.ops after.ops) (sym (role_at old id (Some shelf) was) ∙ plain) joined.ops)
+        ∙ sym (ops_by old id (Some shelf) was variable.key q))
+        (λ i apart. foreign_ops (record { saver = i; key = variable.key }) q apart) variable.saver
+
+    nothing_done : (role : Role) (variable : Variable) (act : Option (List Part × Traced)) → role ≡ Plain → None ≡ option_and_then (λ (a : List Part × Traced). op_as (admits_on new) role variable id a.0) act
+    nothing_done role variable None none = refl
+    nothing_done role variable (Some a) none = sym (ap (λ r. op_as (admits_on new) r variable id a.0) none)
+
+    pub plain_kept : IsKept (role_on old) (values_by triggers) (admits_on new) acts (kept_on new)
+    plain_kept = unread_kept (inl plain)
+        (λ variable pos. ops_stay variable (own_at id pos) ∙ none_before variable pos ∙ nothing_done (role_on old id) variable (acts_with hist of.events pos) plain)
+        (λ variable q apart. ops_stay variable q)
+        (λ q saver a apart role acting p. ops_stay (record { saver = saver; key = a.0 }) p)
+
+  -- a saver
+
+  module _ (saves : role_on old id ≡ Saves) (unsaved : (key : List Part) (q : At) → (kept_on old).ops (record { saver = id; key = key }) q ≡ None) where
+    saved : (key : List Part) (q : At) → (kept_on new).ops (record { saver = id; key = key }) q ≡ save_in id groups after.table key q
+    saved key q =
+        ops_by new id (Some after) is key q
+        ∙ subst (λ r. OpsJoin r id groups after.table shelf.ops after.ops) (sym (role_at old id (Some shelf) was) ∙ saves) joined.ops key q
+
+    admitted : (key : List Part) → admits_on new id key ≡ is_in after.table key
+    admitted key = admits_by new id (Some after) is key ∙ ap (λ r. is_saver r && is_in after.table key) (joined.role ∙ sym (role_at old id (Some shelf) was) ∙ saves)
+
+    -- at its own places saves stand where the keys are in its table
+    saves_are : (key : List Part) (b : Bool) (event : Option Traced) → admits_on new id key ≡ b
+        → cond (b && true) (option_and_then (λ (e : Traced). Some Save) event) None ≡ option_and_then (λ (e : Traced). cond (admits_on new id key) (Some Save) None) event
+    saves_are key b None admits = cond_same (b && true) None
+    saves_are key true (Some e) admits = sym (ap (λ x. cond x (Some Save) None) admits)
+    saves_are key false (Some e) admits = sym (ap (λ x. cond x (Some Save) None) admits)
+
+    own_saves : (variable : Variable) (pos : Pos) → (kept_on new).ops variable (own_at id pos)
+        ≡ cond (eq_by_cmp nat_cmp variable.saver id) (option_and_then (λ (event : Traced). cond (admits_on new id variable.key) (Some Save) None) (under variable.key (acts_with hist of.events pos))) None
+    own_saves variable pos = by_id (λ i. (kept_on new).ops (record { saver = i; key = variable.key }) (own_at id pos)
+        ≡ cond (eq_by_cmp nat_cmp i id) (option_and_then (λ (event : Traced). cond (admits_on new id variable.key) (Some Save) None) (under variable.key (acts_with hist of.events pos))) None) id
+        (saved variable.key (own_at id pos)
+        ∙ ap (λ b. cond (is_in after.table variable.key && b) (option_and_then (λ (event : Traced). Some Save) (event_in groups variable.key pos)) None) (itself nat_cmp_total id)
+        ∙ saves_are variable.key (is_in after.table variable.key) (event_in groups variable.key pos) (admitted variable.key)
+        ∙ ap (option_and_then (λ (event : Traced). cond (admits_on new id variable.key) (Some Save) None)) (event_of hist groups of variable.key pos)
+        ∙ sym (ap (λ b. cond b (option_and_then (λ (event : Traced). cond (admits_on new id variable.key) (Some Save) None) (under variable.key (acts_with hist of.events pos))) None) (itself nat_cmp_total id)))
+        (λ i apart.
+        foreign_ops (record { saver = i; key = variable.key }) (own_at id pos) apart
+        ∙ none_before (record { saver = i; key = variable.key }) pos
+        ∙ sym (ap (λ b. cond b (option_and_then (λ (event : Traced). cond (admits_on new id variable.key) (Some Save) None) (under variable.key (acts_with hist of.events pos))) None) (untied nat_cmp_total nat_cmp-IsAntisymmetric i id apart)))
+        variable.saver
+
+    saver_others : (variable : Variable) (q : At) → (q.trigger ≡ id → ⊥) → (kept_on new).ops variable q ≡ (kept_on old).ops variable q
+    saver_others variable q apart = by_id (λ i. (kept_on new).ops (record { saver = i; key = variable.key }) q ≡ (kept_on old).ops (record { saver = i; key = variable.key }) q) id
+        (saved variable.key q
+        ∙ ap (λ b. cond b (option_and_then (λ (event : Traced). Some Save) (event_in groups variable.key q.pos)) None)
+        (ap (λ b. is_in after.table variable.key && b) (untied nat_cmp_total nat_cmp-IsAntisymmetric q.trigger id apart) ∙ and_false (is_in after.table variable.key))
+        ∙ sym (unsaved variable.key q))
+        (λ i other. foreign_ops (record { saver = i; key = variable.key }) q other) variable.saver
+
+    -- no other trigger reads what it saves, as no read stands there
+    pub saver_kept : IsKept (role_on old) (values_by triggers) (admits_on new) acts (kept_on new)
+    saver_kept = unread_kept (inr saves)
+        (λ variable pos.
+        own_saves variable pos
+        ∙ sym (ap (λ r. option_and_then (λ (a : List Part × Traced). op_as (admits_on new) r variable id a.0) (acts_with hist of.events pos)) saves
+        ∙ own_op id (λ key. cond (admits_on new id key) (Some Save) None) variable (acts_with hist of.events pos)))
+        saver_others
+        (λ q saver a apart role acting p. elim (trigger_decided saver id) [
+          | inl is_own ↦ absurd (none_not_some ((kept_on old).ops (record { saver = saver; key = a.0 }) q) Read
+              (ap (λ i. (kept_on old).ops (record { saver = i; key = a.0 }) q) is_own ∙ unsaved a.0 q)
+              (kept.ops (record { saver = saver; key = a.0 }) q ∙ op_read (role_on old) (admits_on old) before q saver a role acting))
+          | inr other ↦ foreign_ops (record { saver = saver; key = a.0 }) p other
+        ])
+
+-- ---- a reader: its saver's operations are taken off their shelf, changed with the reader's own shelf, and put back
+
+module _ (saver : ℕ) (ops : OpsByKey) (old new : Shelves) (h : ChangesShelf saver (HasOps ops) old new) where
+  -- shelves keep their forms
+  pub swap_forms : FormsStay old new
+  swap_forms = changed_forms saver (HasOps ops) old new h (λ shelf after is change. record {
+    role = ap (λ (s : Shelved). s.role) change;
+    size = ap (λ (s : Shelved). s.table.size) change;
+    made = λ m _. ap (λ (s : Shelved). map.get s.table.hits m) change;
+  })
+
+  -- hits, readings and keys in tables stay
+  pub swap_hits : (i : ℕ) (mark : Mark) → (kept_on new).hits i mark ≡ (kept_on old).hits i mark
+  unfolding kept_on
+  swap_hits i mark = tells_same saver (HasOps ops) old new h (λ o. option_and_then (λ shelf. map.get shelf.table.hits mark) o)
+      (λ shelf after is change. ap (λ (s : Shelved). map.get s.table.hits mark) change) i
+
+  pub swap_read : (i : ℕ) (pos : Pos) → (kept_on new).read i pos ≡ (kept_on old).read i pos
+  unfolding kept_on
+  swap_read i pos = tells_same saver (HasOps ops) old new h (λ o. option_and_then (λ shelf. map.get shelf.readings pos) o)
+      (λ shelf after is change. ap (λ (s : Shelved). map.get s.readings pos) change) i
+
+  pub swap_admits : (i : ℕ) (key : List Part) → admits_on new i key ≡ admits_on old i key
+  unfolding admits_on
+  swap_admits i key = tells_same saver (HasOps ops) old new h (λ o. option_map_or (λ shelf. is_saver shelf.role && is_in shelf.table key) o false)
+      (λ shelf after is change. ap (λ (s : Shelved). is_saver s.role && is_in s.table key) change) i
+
+  -- operations of others too
+  pub swap_else : (variable : Variable) → (variable.saver ≡ saver → ⊥) → (q : At) → (kept_on new).ops variable q ≡ (kept_on old).ops variable q
+  swap_else variable apart q = same_ops old new variable.saver (h.others variable.saver apart) variable.key q
+
+  -- it has those that it was given
+  pub swap_here : is_some (map.get old saver) ≡ true → (key : List Part) (q : At) → (kept_on new).ops (record { saver = saver; key = key }) q ≡ ops_of ops key q
+  unfolding kept_on
+  swap_here there key q = tells_here saver (HasOps ops) old new h (λ o. option_and_then (λ shelf. ops_of shelf.ops key q) o) (ops_of ops key q) there
+      (λ shelf after is change. ap (λ (s : Shelved). ops_of s.ops key q) change)
+
+  -- a shelf without hits still has none
+  pub swap_empty : (id : ℕ) (shelf : Shelved) → IsBare id old → map.get new id ≡ Some shelf → shelf.table.hits ≡ map.empty
+  swap_empty id shelf bare is =
+      sym (ap hits_or is)
+      ∙ tells_same saver (HasOps ops) old new h hits_or (λ s after at change. ap (λ (x : Shelved). x.table.hits) change) id
+      ∙ by (map.get old id) refl
+    where
+      hits_or : Option Shelved → Hits
+      hits_or o = option_map_or (λ s. s.table.hits) o map.empty
+
+      by : (o : Option Shelved) → map.get old id ≡ o → hits_or o ≡ map.empty
+      by None there = refl
+      by (Some s) there = bare.hits s there
+
+-- ---- all acts of a reader
+
+read_there : (event : Option Traced) (b : Bool) (o : Option Op) → b ≡ true → o ≡ None → cond (is_some event && b) (Some Read) o ≡ option_and_then (λ (e : Traced). Some Read) event
+read_there None b o own none = none
+read_there (Some e) b o own none = ap (λ x. cond x (Some Read) o) own
+
+some_read : (o : Option At) → option_map (λ (saved : At). Some saved.pos) o ≡ option_map (λ saved. Some saved) (option_map (λ (saved : At). saved.pos) o)
+some_read None = refl
+some_read (Some saved) = refl
+
+module _ (triggers : Triggers) (hist : Hist) (id saver : ℕ) (groups : Grouped) (empty was is : OpsByKey) (old lacks joined new : Shelves) (mid after : Shelved)
+    (reads : role_on old id ≡ Reads saver) (bare : IsBare id old) (saved : is_some (map.get old saver) ≡ true)
+    (took : ChangesShelf saver (HasOps empty) old lacks)
+    (had : (key : List Part) (q : At) → ops_of was key q ≡ (kept_on old).ops (record { saver = saver; key = key }) q)
+    (own_was : map.get lacks id ≡ Some mid) (own_is : map.get joined id ≡ Some after) (others : (i : ℕ) → (i ≡ id → ⊥) → map.get joined i ≡ map.get lacks i)
+    (read : HasRead id hist groups was is mid after) (put : ChangesShelf saver (HasOps is) joined new) where
+  joined_so : FormsStay old joined
+  joined_so = forms_trans old lacks joined (swap_forms saver empty old lacks took) (joined_forms lacks joined id mid after own_was own_is others hist groups (read_from read.sources) read.table read.role (swap_empty saver empty old lacks took id mid bare own_was))
+
+  -- shelves keep their forms
+  pub reader_forms : FormsStay old new
+  reader_forms = forms_trans old joined new joined_so (swap_forms saver is joined new put)
+
+  here : (key : List Part) (q : At) → (kept_on new).ops (record { saver = saver; key = key }) q ≡ ops_of is key q
+  here = swap_here saver is joined new put (shelf_stays old joined joined_so saver ∙ saved)
+
+  -- operations on what others save stay
+  elsewhere : (variable : Variable) → (variable.saver ≡ saver → ⊥) → (q : At) → (kept_on new).ops variable q ≡ (kept_on old).ops variable q
+  elsewhere variable apart q =
+      swap_else saver is joined new put variable apart q
+      ∙ by_id (λ i. (kept_on joined).ops (record { saver = i; key = variable.key }) q ≡ (kept_on lacks).ops (record { saver = i; key = variable.key }) q) id
+      (ops_by joined id (Some after) own_is variable.key q ∙ ap (λ o. ops_of o variable.key q) read.ops ∙ sym (ops_by lacks id (Some mid) own_was variable.key q))
+      (λ i other. same_ops lacks joined i (others i other) variable.key q) variable.saver
+      ∙ swap_else saver empty old lacks took variable apart q
+
+  module _ (attached : map.get triggers id ≡ Some hist) (of : AreGroupsOf hist groups) (before acts : Acts) (come : AllCome id (acts_with hist of.events) before acts)
       (kept : IsKept (role_on old) (values_by triggers) (admits_on old) before (kept_on old)) where
-    -- the events that are counted under a key at a place are the acts there
-    counted_there : (key : List Part) (pos : Pos) → counted_at hist events key pos ≡ option_and_then (λ (a : List Part × Traced). cond (same_key key a.0) (Some a.1) None) (acts (record { pos = pos; trigger = id }))
-    counted_there key pos = counted_acts hist events key pos ∙ ap (option_and_then (λ (a : List Part × Traced). cond (same_key key a.0) (Some a.1) None)) (sym (come.here pos))
+    read_now : (pos : Pos) → read_here (kept_on new) (own_at id pos) ≡ reading_in (read_from read.sources) (acts_with hist of.events) pos
+    read_now pos = swap_read saver is joined new put id pos ∙ read_by joined id (Some after) own_is pos ∙ read.readings of pos
 
-    -- its hits at a place
-    hits_there : (pos : Pos) (key : List Part) → hits_here (kept_on new) (record { pos = pos; trigger = id }) key
-        ≡ option_map (λ event. values_by triggers id pos event None) (option_and_then (λ (a : List Part × Traced). cond (same_key key a.0) (Some a.1) None) (acts (record { pos = pos; trigger = id })))
-    hits_there pos key =
-        hits_by new id (Some after) is (record { spot = traced pos; key = key })
-        ∙ table.hits (record { spot = traced pos; key = key })
-        ∙ ap (λ run. map.get (map.from_entries {R = spot_cmp} (hits_of_run hist run)) (traced pos)) (grouped.runs key)
-        ∙ hit_found hist events key (traced pos)
-        ∙ ap (λ o. option_map (λ event. values_at hist pos event None) o) (counted_there key pos)
-        ∙ ap (λ (f : Traced → List ℤ). option_map f (option_and_then (λ (a : List Part × Traced). cond (same_key key a.0) (Some a.1) None) (acts (record { pos = pos; trigger = id }))))
-        (λ i event. sym (values_there triggers id hist pos event None attached) i)
+    finds : (pos : Pos) (act : Option (List Part × Traced)) → IsReading (kept_on new).ops (own_at id pos) (Reads saver) act (option_and_then (λ (a : List Part × Traced). what_read (read_from read.sources a.0 pos)) act)
+    finds pos None = refl
+    finds pos (Some a) = (
+      read.sources a.0 pos,
+      (
+        same_source (ops_of is a.0) ((kept_on new).ops (record { saver = saver; key = a.0 })) (own_at id pos) (λ q _. here a.0 q) (read.sources a.0 pos) (read.finds a.0 pos),
+        sym (flat (read.sources a.0 pos)),
+      ),
+    )
 
-    -- so its own places are right, where it reads nothing
-    own_right : ((saver : ℕ) → role_on old id ≡ Reads saver → ⊥) → (pos : Pos) → IsRight (role_on old) (values_by triggers) acts (kept_on new) (record { pos = pos; trigger = id })
-    own_right no_reader pos = unread_entry (values_by triggers) (kept_on new).ops (record { pos = pos; trigger = id }) (role_on old id) (acts (record { pos = pos; trigger = id }))
-        (hits_here (kept_on new) (record { pos = pos; trigger = id })) (read_here (kept_on new) (record { pos = pos; trigger = id })) no_reader
-        (reads_stay pos ∙ absent_read (role_on old) (values_by triggers) (admits_on old) before (kept_on old) kept (record { pos = pos; trigger = id }) (come.absent pos))
-        (hits_there pos)
+    fits : (pos : Pos) (a : List Part × Traced) → acts_with hist of.events pos ≡ Some a → read_from read.sources a.0 pos ≡ hit_read (role_on old id) (read_here (kept_on new) (own_at id pos))
+    fits pos a acting =
+        some_read (read.sources a.0 pos)
+        ∙ ap (option_map (λ saved. Some saved)) (flat (read.sources a.0 pos)
+        ∙ sym (read_now pos ∙ ap (λ o. option_and_then (λ (x : List Part × Traced). what_read (read_from read.sources x.0 pos)) o) acting))
+        ∙ sym (ap (λ r. hit_read r (read_here (kept_on new) (own_at id pos))) reads)
 
-    old_right : (q : At) → IsRight (role_on old) (values_by triggers) before (kept_on old) q
-    old_right q = elim (kept.entries q) [ inl never ↦ absurd (true≢false (sym never.0)) | inr entry ↦ entry ]
+    own_reads : (variable : Variable) (pos : Pos) → (kept_on new).ops variable (own_at id pos)
+        ≡ cond (eq_by_cmp nat_cmp variable.saver saver) (option_and_then (λ (event : Traced). Some Read) (under variable.key (acts_with hist of.events pos))) None
+    own_reads variable pos = by_id (λ i. (kept_on new).ops (record { saver = i; key = variable.key }) (own_at id pos)
+        ≡ cond (eq_by_cmp nat_cmp i saver) (option_and_then (λ (event : Traced). Some Read) (under variable.key (acts_with hist of.events pos))) None) saver
+        (here variable.key (own_at id pos)
+        ∙ read.reads variable.key (own_at id pos)
+        ∙ read_there (event_in groups variable.key pos) (eq_by_cmp nat_cmp id id) (ops_of was variable.key (own_at id pos)) (itself nat_cmp_total id) (had variable.key (own_at id pos) ∙ none_before saver)
+        ∙ ap (option_and_then (λ (event : Traced). Some Read)) (event_of hist groups of variable.key pos)
+        ∙ sym (ap (λ b. cond b (option_and_then (λ (event : Traced). Some Read) (under variable.key (acts_with hist of.events pos))) None) (itself nat_cmp_total saver)))
+        (λ i apart.
+        elsewhere (record { saver = i; key = variable.key }) apart (own_at id pos)
+        ∙ none_before i
+        ∙ sym (ap (λ b. cond b (option_and_then (λ (event : Traced). Some Read) (under variable.key (acts_with hist of.events pos))) None) (untied nat_cmp_total nat_cmp-IsAntisymmetric i saver apart)))
+        variable.saver
+      where
+        none_before : (i : ℕ) → (kept_on old).ops (record { saver = i; key = variable.key }) (own_at id pos) ≡ None
+        none_before i = kept.ops (record { saver = i; key = variable.key }) (own_at id pos) ∙ absent_own id (acts_with hist of.events) before acts come (role_on old) (admits_on old) (record { saver = i; key = variable.key }) pos
 
-    module _ (quiet : (key : List Part) → ((q : At) → (kept_on old).ops (record { saver = id; key = key }) q ≡ None) ⊎ ((q : At) → (kept_on new).ops (record { saver = id; key = key }) q ≡ (kept_on old).ops (record { saver = id; key = key }) q)) where
-      -- where another reads, it finds what it found
-      sources_stay : (q : At) (saver : ℕ) (a : List Part × Traced) → role_on old q.trigger ≡ Reads saver → before q ≡ Some a
-          → (found : Option At) → IsSource ((kept_on old).ops (record { saver = saver; key = a.0 })) q found → IsSource ((kept_on new).ops (record { saver = saver; key = a.0 })) q found
-      sources_stay q saver a reads acts found h = elim (trigger_decided saver id) [
-        | inl own ↦ elim (quiet a.0) [
-          | inl none ↦ absurd (none_not_some ((kept_on old).ops (record { saver = saver; key = a.0 }) q) Read
-              (ap (λ i. (kept_on old).ops (record { saver = i; key = a.0 }) q) own ∙ none q)
-              (kept.ops (record { saver = saver; key = a.0 }) q ∙ op_read (role_on old) (admits_on old) before q saver a reads acts))
-          | inr same ↦ same_source ((kept_on old).ops (record { saver = saver; key = a.0 })) ((kept_on new).ops (record { saver = saver; key = a.0 })) q
-              (λ p _. subst (λ i. (kept_on new).ops (record { saver = i; key = a.0 }) p ≡ (kept_on old).ops (record { saver = i; key = a.0 }) p) (sym own) (same p)) found h
-        ]
-        | inr apart ↦ same_source ((kept_on old).ops (record { saver = saver; key = a.0 })) ((kept_on new).ops (record { saver = saver; key = a.0 })) q
-            (λ p _. same_ops old new saver (others saver apart) a.0 p) found h
-      ]
+    reader_others : (variable : Variable) (q : At) → (q.trigger ≡ id → ⊥) → (kept_on new).ops variable q ≡ (kept_on old).ops variable q
+    reader_others variable q apart = by_id (λ i. (kept_on new).ops (record { saver = i; key = variable.key }) q ≡ (kept_on old).ops (record { saver = i; key = variable.key }) q) saver
+        (here variable.key q
+        ∙ read.reads variable.key q
+        ∙ ap (λ b. cond b (Some Read) (ops_of was variable.key q))
+        (ap (λ b. is_some (event_in groups variable.key q.pos) && b) (untied nat_cmp_total nat_cmp-IsAntisymmetric q.trigger id apart) ∙ and_false (is_some (event_in groups variable.key q.pos)))
+        ∙ had variable.key q)
+        (λ i other. elsewhere (record { saver = i; key = variable.key }) other q) variable.saver
 
-      others_right : (q : At) → (q.trigger ≡ id → ⊥) → IsRight (role_on old) (values_by triggers) acts (kept_on new) q
-      others_right q apart = subst (λ o. IsEntry (values_by triggers) (kept_on new).ops q (role_on old q.trigger) o (hits_here (kept_on new) q) (read_here (kept_on new) q)) (sym (come.elsewhere q apart))
-          (entry_same (values_by triggers) (kept_on old).ops (kept_on new).ops q (role_on old q.trigger) (before q) (hits_here (kept_on old) q) (hits_here (kept_on new) q) (read_here (kept_on old) q) (read_here (kept_on new) q)
-          (λ key. same_hits old new q.trigger (others q.trigger apart) (record { spot = traced q.pos; key = key }))
-          (same_read old new q.trigger (others q.trigger apart) q.pos)
-          (sources_stay q)
-          (old_right q))
-
-      all_right : ((saver : ℕ) → role_on old id ≡ Reads saver → ⊥)
-          → ((variable : Variable) (q : At) → (kept_on new).ops variable q ≡ op_of (role_on old) (admits_on new) acts variable q)
-          → IsKept (role_on old) (values_by triggers) (admits_on new) acts (kept_on new)
-      all_right no_reader ops = record {
-        ops = ops;
-        entries = λ q. inr (elim (trigger_decided q.trigger id) [
-          | inl own ↦ subst (IsRight (role_on old) (values_by triggers) acts (kept_on new)) (λ i. record { pos = q.pos; trigger = sym own i }) (own_right no_reader q.pos)
-          | inr apart ↦ others_right q apart
-        ]);
-      }
-
-    -- ---- a trigger without a variable
-
-    module _ (plain : role_on old id ≡ Plain) (ops : after.ops ≡ shelf.ops) where
-      role_is : shelf.role ≡ Plain
-      role_is = sym (role_at old id (Some shelf) was) ∙ plain
-
-      own_ops_stay : (key : List Part) (q : At) → (kept_on new).ops (record { saver = id; key = key }) q ≡ (kept_on old).ops (record { saver = id; key = key }) q
-      own_ops_stay key q = ops_by new id (Some after) is key q ∙ ap (λ o. ops_of o key q) ops ∙ sym (ops_by old id (Some shelf) was key q)
-
-      ops_stay : (variable : Variable) (q : At) → (kept_on new).ops variable q ≡ (kept_on old).ops variable q
-      ops_stay variable q = by_id (λ i. (kept_on new).ops (record { saver = i; key = variable.key }) q ≡ (kept_on old).ops (record { saver = i; key = variable.key }) q) id
-          (own_ops_stay variable.key q) (λ i other. same_ops old new i (others i other) variable.key q) variable.saver
-
-      admits_stay : (i : ℕ) (key : List Part) → admits_on new i key ≡ admits_on old i key
-      admits_stay i key = by_id (λ j. admits_on new j key ≡ admits_on old j key) id
-          (admits_by new id (Some after) is key ∙ ap (λ r. is_saver r && is_in after.table key) (role ∙ role_is)
-          ∙ sym (admits_by old id (Some shelf) was key ∙ ap (λ r. is_saver r && is_in shelf.table key) role_is))
-          (λ j other. same_admits old new j (others j other) key) i
-
-      ops_are : (variable : Variable) (q : At) → op_of (role_on old) (admits_on old) before variable q ≡ op_of (role_on old) (admits_on new) acts variable q
-      ops_are variable q = elim (trigger_decided q.trigger id) [
-        | inl own ↦
-            op_plain (role_on old) (admits_on old) before variable q (ap (role_on old) own ∙ plain)
-            ∙ sym (op_plain (role_on old) (admits_on new) acts variable q (ap (role_on old) own ∙ plain))
-        | inr apart ↦ sym (op_elsewhere (role_on old) (admits_on old) (admits_on new) before acts variable q (admits_stay variable.saver variable.key) (come.elsewhere q apart))
-      ]
-
-      pub plain_kept : IsKept (role_on old) (values_by triggers) (admits_on new) acts (kept_on new)
-      plain_kept = all_right (λ key. inr (own_ops_stay key)) (λ saver reads. absurd (cc (sym plain ∙ reads))) (λ variable q. ops_stay variable q ∙ kept.ops variable q ∙ ops_are variable q)
-
-    -- ---- a saver
-
-    module _ (saves : role_on old id ≡ Saves) (ops : HasSaves id groups after.table after.ops) (unsaved : (key : List Part) (q : At) → (kept_on old).ops (record { saver = id; key = key }) q ≡ None) where
-      admitted : (key : List Part) → admits_on new id key ≡ is_in after.table key
-      admitted key = admits_by new id (Some after) is key ∙ ap (λ r. is_saver r && is_in after.table key) (role ∙ sym (role_at old id (Some shelf) was) ∙ saves)
-
-      -- the operations on its shelf
-      saved : (key : List Part) (q : At) → (kept_on new).ops (record { saver = id; key = key }) q
-          ≡ cond (is_in after.table key) (cond (eq_by_cmp nat_cmp q.trigger id) (option_map (λ event. Save) (counted_at hist events key q.pos)) None) None
-      saved key q =
-          ops_by new id (Some after) is key q
-          ∙ ops key q
-          ∙ ap (λ run. cond (is_in after.table key) (map.get (map.from_entries {R = at_cmp} (saves_of_run id run)) q) None) (grouped.runs key)
-          ∙ ap (λ o. cond (is_in after.table key) o None) (save_found hist events key id q)
-
-      own_saves : (key : List Part) (q : At) → (kept_on new).ops (record { saver = id; key = key }) q ≡ op_of (role_on old) (admits_on new) acts (record { saver = id; key = key }) q
-      own_saves key q = saved key q ∙ elim (trigger_decided q.trigger id) [
-        | inl own ↦ subst (λ (p : At). cond (is_in after.table key) (cond (eq_by_cmp nat_cmp p.trigger id) (option_map (λ event. Save) (counted_at hist events key p.pos)) None) None
-            ≡ op_of (role_on old) (admits_on new) acts (record { saver = id; key = key }) p) (λ i. record { pos = q.pos; trigger = sym own i })
-            (ap (λ b. cond (is_in after.table key) (cond b (option_map (λ event. Save) (counted_at hist events key q.pos)) None) None) (itself nat_cmp_total id)
-            ∙ ap (λ o. cond (is_in after.table key) (option_map (λ (event : Traced). Save) o) None) (counted_there key q.pos)
-            ∙ op_saver_own (role_on old) (admits_on new) acts key (record { pos = q.pos; trigger = id }) (is_in after.table key) saves (admitted key))
-        | inr apart ↦
-            ap (λ b. cond (is_in after.table key) (cond b (option_map (λ event. Save) (counted_at hist events key q.pos)) None) None) (untied nat_cmp_total nat_cmp-IsAntisymmetric q.trigger id apart)
-            ∙ cond_same (is_in after.table key) None
-            ∙ sym (op_stays (role_on old) (admits_on old) (admits_on new) before acts (record { saver = id; key = key }) q (λ e. apart (sym e)) (come.elsewhere q apart)
-            ∙ sym (kept.ops (record { saver = id; key = key }) q) ∙ unsaved key q)
-      ]
-
-      else_stays : (i : ℕ) (key : List Part) (q : At) → (i ≡ id → ⊥) → (kept_on new).ops (record { saver = i; key = key }) q ≡ op_of (role_on old) (admits_on new) acts (record { saver = i; key = key }) q
-      else_stays i key q other = same_ops old new i (others i other) key q ∙ kept.ops (record { saver = i; key = key }) q ∙ elim (trigger_decided q.trigger id) [
-        | inl own ↦
-            op_saver_else (role_on old) (admits_on old) before (record { saver = i; key = key }) q (ap (role_on old) own ∙ saves) (λ e. other (e ∙ own))
-            ∙ sym (op_saver_else (role_on old) (admits_on new) acts (record { saver = i; key = key }) q (ap (role_on old) own ∙ saves) (λ e. other (e ∙ own)))
-        | inr apart ↦ sym (op_elsewhere (role_on old) (admits_on old) (admits_on new) before acts (record { saver = i; key = key }) q (same_admits old new i (others i other) key) (come.elsewhere q apart))
-      ]
-
-      pub saver_kept : IsKept (role_on old) (values_by triggers) (admits_on new) acts (kept_on new)
-      saver_kept = all_right (λ key. inl (unsaved key)) (λ saver reads. absurd (cc (sym saves ∙ reads)))
-          (λ variable q. by_id (λ i. (kept_on new).ops (record { saver = i; key = variable.key }) q ≡ op_of (role_on old) (admits_on new) acts (record { saver = i; key = variable.key }) q) id
-          (own_saves variable.key q) (λ i other. else_stays i variable.key q other) variable.saver)
+    -- no other trigger reads what it reads
+    pub reader_kept : IsKept (role_on old) (values_by triggers) (admits_on new) acts (kept_on new)
+    reader_kept = all_right triggers hist id attached groups of before acts come old new kept (read_from read.sources) (record {
+      hits = λ pos key. swap_hits saver is joined new put id (record { spot = traced pos; key = key }) ∙ joined_hits lacks joined id mid after own_was own_is others hist groups (read_from read.sources) read.table pos key;
+      readings = λ pos. subst (λ (x : Role × Option Pos). IsReading (kept_on new).ops (own_at id pos) x.0 (acts_with hist of.events pos) x.1) (λ i. (sym reads i, sym (read_now pos) i)) (finds pos (acts_with hist of.events pos));
+      fits = fits;
+      ops = λ variable pos.
+          own_reads variable pos
+          ∙ sym (ap (λ r. option_and_then (λ (a : List Part × Traced). op_as (admits_on new) r variable id a.0) (acts_with hist of.events pos)) reads
+          ∙ own_op saver (λ key. Some Read) variable (acts_with hist of.events pos));
+      other_hits = λ i apart mark. swap_hits saver is joined new put i mark ∙ same_hits lacks joined i (others i apart) mark ∙ swap_hits saver empty old lacks took i mark;
+      other_readings = λ i apart pos. swap_read saver is joined new put i pos ∙ same_read lacks joined i (others i apart) pos ∙ swap_read saver empty old lacks took i pos;
+      other_admits = λ i apart key. swap_admits saver is joined new put i key ∙ same_admits lacks joined i (others i apart) key ∙ swap_admits saver empty old lacks took i key;
+      other_ops = reader_others;
+      other_sources = λ q s a apart role acting p. elsewhere (record { saver = s; key = a.0 }) (λ e. apart (bare.alone saver q.trigger reads (role ∙ ap Reads e))) p;
+    })

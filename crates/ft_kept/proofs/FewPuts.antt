@@ -18,16 +18,16 @@ use Rattle.ft_shelves.specs.Edits.{OpsChange}
 use Rattle.ft_kept.specs.inner.Edits.{ReaderChanges, ReadersChange}
 use Rattle.ft_pairs.specs.declared.role.Role.TheVariants.{Saves}
 use Rattle.ft_shelves.proofs.Decided.{none_not_some}
-use Rattle.ft_kept.proofs.Forms.{by_id, read_forms, readers_trans, role_at, roles_stay}
+use Rattle.ft_kept.proofs.Forms.{read_forms, readers_trans, role_at, roles_stay, tells_same}
 
 -- ---- tables
 
 -- a trigger's table stays, where its shelf does
-pub same_table : (old new : Shelves) (id : ℕ) → map.get new id ≡ map.get old id → table_on new id ≡ table_on old id
+same_table : (old new : Shelves) (id : ℕ) → map.get new id ≡ map.get old id → table_on new id ≡ table_on old id
 same_table old new id same = ap (option_map (λ (shelf : Shelved). shelf.table)) same
 
 -- the tables of savers stay, where only what readers counted and read changes
-pub readers_savers : (old new : Shelves) → ReadersChange old new → (id : ℕ) → role_on old id ≡ Saves → table_on new id ≡ table_on old id
+readers_savers : (old new : Shelves) → ReadersChange old new → (id : ℕ) → role_on old id ≡ Saves → table_on new id ≡ table_on old id
 readers_savers old new h id saves = by (map.get old id) refl
   where
     by : (o : Option Shelved) → map.get old id ≡ o → table_on new id ≡ table_on old id
@@ -38,18 +38,12 @@ readers_savers old new h id saves = by (map.get old id) refl
         same_table old new id (after.1.0 ∙ ap Some (after.1.1.1.1 (λ saver reads. true≢false (ap is_saver (sym role ∙ reads)))) ∙ sym is)
 
 -- all tables stay, where the operations of one key change
-pub ops_tables : (saver : ℕ) (key : List Part) (edit : Ops → Ops) (old new : Shelves) → ChangesShelf saver (OpsChange key edit) old new → (id : ℕ) → table_on new id ≡ table_on old id
-ops_tables saver key edit old new h id = by_id (λ i. table_on new i ≡ table_on old i) saver (here (map.get old saver) refl) (λ i other. same_table old new i (h.others i other)) id
-  where
-    here : (o : Option Shelved) → map.get old saver ≡ o → table_on new saver ≡ table_on old saver
-    here None is = same_table old new saver (h.none is ∙ sym is)
-    here (Some shelf) is =
-        let after = h.here shelf is in
-        ap (option_map (λ (shelf : Shelved). shelf.table)) after.1.0 ∙ ap Some after.1.1.table ∙ sym (ap (option_map (λ (shelf : Shelved). shelf.table)) is)
+ops_tables : (saver : ℕ) (key : List Part) (edit : Ops → Ops) (old new : Shelves) → ChangesShelf saver (OpsChange key edit) old new → (id : ℕ) → table_on new id ≡ table_on old id
+ops_tables saver key edit old new h = tells_same saver (OpsChange key edit) old new h (option_map (λ shelf. shelf.table)) (λ shelf after is change. ap (λ t. Some t) change.table)
 
 -- ---- the tables of all savers but one trigger
 
-pub savers_trans : (id : ℕ) (a b c : Shelves) → FormsStay a b → OtherSaversStay id a b → OtherSaversStay id b c → OtherSaversStay id a c
+savers_trans : (id : ℕ) (a b c : Shelves) → FormsStay a b → OtherSaversStay id a b → OtherSaversStay id b c → OtherSaversStay id a c
 savers_trans id a b c forms h k other apart saves = k other apart (roles_stay a b forms other ∙ saves) ∙ h other apart saves
 
 -- they stay, where all other shelves do
@@ -57,11 +51,15 @@ pub savers_but : (id : ℕ) (old new : Shelves) → ((i : ℕ) → (i ≡ id →
 savers_but id old new others other apart saves = same_table old new other (others other apart)
 
 -- where only what readers counted and read changes
-pub savers_of_readers : (id : ℕ) (old new : Shelves) → ReadersChange old new → OtherSaversStay id old new
+savers_of_readers : (id : ℕ) (old new : Shelves) → ReadersChange old new → OtherSaversStay id old new
 savers_of_readers id old new h other apart saves = readers_savers old new h other saves
 
+-- and then only what readers counted and read changes
+pub savers_stay : (id : ℕ) (old mid new : Shelves) → FormsStay old mid → ((i : ℕ) → (i ≡ id → ⊥) → map.get mid i ≡ map.get old i) → ReadersChange mid new → OtherSaversStay id old new
+savers_stay id old mid new forms others readers = savers_trans id old mid new forms (savers_but id old mid others) (savers_of_readers id mid new readers)
+
 -- and where the operations of one key change
-pub savers_of_ops : (id saver : ℕ) (key : List Part) (edit : Ops → Ops) (old new : Shelves) → ChangesShelf saver (OpsChange key edit) old new → OtherSaversStay id old new
+savers_of_ops : (id saver : ℕ) (key : List Part) (edit : Ops → Ops) (old new : Shelves) → ChangesShelf saver (OpsChange key edit) old new → OtherSaversStay id old new
 savers_of_ops id saver key edit old new h other apart saves = ops_tables saver key edit old new h other
 
 -- a reading comes: its read among the operations, and then what readings count and read

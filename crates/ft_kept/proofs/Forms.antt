@@ -22,7 +22,7 @@ use Rattle.ft_hits.specs.declared.mark.Mark.{Mark}
 use Rattle.ft_table.specs.Spots.{IsMade, traced}
 use Rattle.ft_table.specs.Hits.{Hits}
 use Rattle.ft_table.specs.Marks.{mark_same, mark_cmp_total}
-use Rattle.ft_kept.specs.inner.Edits.{OpsStay}
+use Rattle.ft_kept.specs.inner.Edits.{OpsStay, StaysBut}
 use Rattle.ft_kept.specs.Repairs.{AreShelved}
 use Rattle.ft_shelves.specs.Shelves.{ChangesShelf, MadeStay, Readings, Shelved, Shelves, KeepsForm, FormStays, FormsStay}
 use Rattle.ft_kept.specs.inner.Edits.{ReaderChanges, ReadersChange}
@@ -246,6 +246,19 @@ module _ (old new : Shelves) (id : ℕ) (shelf after : Shelved) (was : map.get o
   edited_reader saver role keeps ops = by_id (λ i. ReaderChanges (map.get old i) (map.get new i)) id
       (subst (λ o. ReaderChanges o (map.get new id)) (sym was) (after, (is, (keeps, (ops, λ other. absurd (other saver role))))))
       (λ i other. subst (λ o. ReaderChanges (map.get old i) o) (sym (others i other)) (reader_refl (map.get old i)))
+
+  -- where on it one hit changes and one reading, hits and readings at other places stay
+  pub edited_but : (pos : Pos) (key : List Part) → ((m : Mark) → (m ≡ record { spot = traced pos; key = key } → ⊥) → map.get after.table.hits m ≡ map.get shelf.table.hits m)
+      → ((p : Pos) → (p ≡ pos → ⊥) → map.get after.readings p ≡ map.get shelf.readings p) → StaysBut (record { pos = pos; trigger = id }) (kept_on old) (kept_on new)
+  edited_but pos key hits reads q apart = by_id (λ i. i ≡ q.trigger → ((k : List Part) → (kept_on new).hits i (record { spot = traced q.pos; key = k }) ≡ (kept_on old).hits i (record { spot = traced q.pos; key = k })) × ((kept_on new).read i q.pos ≡ (kept_on old).read i q.pos)) id
+      (λ here. let other : q.pos ≡ pos → ⊥ = λ same. apart (λ i. record { pos = same i; trigger = sym here i }) in (
+        λ k. hits_by new id (Some after) is (record { spot = traced q.pos; key = k })
+            ∙ hits (record { spot = traced q.pos; key = k }) (λ e. other (ap (λ (m : Mark). m.spot.pos) e))
+            ∙ sym (hits_by old id (Some shelf) was (record { spot = traced q.pos; key = k })),
+        read_by new id (Some after) is q.pos ∙ reads q.pos other ∙ sym (read_by old id (Some shelf) was q.pos),
+      ))
+      (λ i far here. (λ k. same_hits old new i (others i far) (record { spot = traced q.pos; key = k }), same_read old new i (others i far) q.pos))
+      q.trigger refl
 
 -- one shelf changes that keeps its form
 pub changed_forms : (id : ℕ) (Change : Shelved → Shelved → Type 0) (old new : Shelves) → ChangesShelf id Change old new

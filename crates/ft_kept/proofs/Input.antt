@@ -153,7 +153,7 @@ module _ (triggers : Triggers) (lanes : Lanes) (acts : Acts) (shelves : Shelves)
   unfolding input_of
   act_after =
       ap (option_and_then (λ (key : List Part). option_map (λ (event : Traced). (key, event)) (event_at lanes at.pos.cpu at.pos.line)))
-      (key_is (role_on shelves at.trigger) refl (acts at) refl (elim (views.kept.entries at) [ inl never ↦ absurd (true≢false (sym never.0)) | inr right ↦ right ]))
+      (key_is (role_on shelves at.trigger) refl (acts at) refl (views.kept.entries at))
       ∙ with_event (acts at) refl
 
 -- shelves are views of these acts alone

@@ -1,15 +1,16 @@
 -- A shelf is written back, and what its trigger's hits add.
-use Rattle.std.proofs.Common.{◌≡◌, ℕ, false, refl, sym, ap, subst, ◌∙◌, Some, None, Option, inl, inr}
-use Rattle.std.specs.Prelude.{List, [], is_some, if◌then◌else◌}
+use Rattle.std.proofs.Common.{◌≡◌, ℕ, sym, ap, subst, ◌∙◌, Some, None, Option}
+use Rattle.std.specs.Prelude.{List, [], is_some}
 use Rattle.std.specs.Option.{option_map_or}
 use Rattle.std.specs.Cmp.{nat_cmp_total}
 use Rattle.std.specs.FinMap as map
-use Rattle.std.specs.FinMap.{get-insert, nat_cmp-IsAntisymmetric}
 use Rattle.std.proofs.lemmas.Bool.{true≢false}
+use Rattle.std.proofs.lemmas.Map.Lookups.{exact_unsigned}
 use Rattle.ft_fields.specs.Traced.{Traced}
 use Rattle.ft_fields.specs.declared.pos.Pos.{Pos}
 use Rattle.ft_hist.specs.Hist.{Hist}
 use Rattle.ft_hist.specs.Triggers.{Triggers}
+use Rattle.ft_maps.specs.Entries.{get-insert_same, get-insert_other}
 use Rattle.ft_fields.specs.declared.key.Part.{Part}
 use Rattle.ft_pairs.specs.declared.at.At.{At}
 use Rattle.ft_table.specs.Spots.{traced}
@@ -17,15 +18,11 @@ use Rattle.ft_hits.specs.declared.hit.Hit.{Hit}
 use Rattle.ft_hits.specs.declared.spot.Spot.{Spot}
 use Rattle.ft_kept.specs.Acts.{Acts}
 use Rattle.ft_kept.specs.Entries.{IsEntry, IsKept, hits_here, read_here}
-use Rattle.ft_kept.specs.inner.Stale.{is_switched, is_switched_as}
 use Rattle.ft_kept.specs.Repairs.{AreShelved}
 use Rattle.ft_pairs.specs.Roles.{Admits}
 use Rattle.ft_shelves.specs.Shelves.{Kept, Shelved, Shelves}
 use Rattle.ft_table.specs.Values.{ValuesBy, values_at, values_by}
 use Rattle.ft_pairs.specs.declared.role.Role.{Role}
-use Rattle.ft_pairs.specs.declared.role.Role.TheVariants.{Plain, Saves, Reads}
-use Rattle.ft_shelves.proofs.Decided.{itself, untied}
-use Rattle.ft_kept.proofs.Staleness.{same_differ}
 
 -- the hit of an event on a spot, of a key, by what it read, if it read
 abbrev hit_there : Hist → Traced → List Part → Option Pos → Spot → Hit
@@ -40,10 +37,10 @@ traced_hit hist event key read spot hit pos made on = made ∙ ap (hit_there his
 
 module _ (old new : Shelves) (id : ℕ) (after : Shelved) (is : new ≡ map.insert old id after) where
   pub written : map.get new id ≡ Some after
-  written = ap (λ (m : Shelves). map.get m id) is ∙ get-insert nat_cmp_total old id after id ∙ ap (λ b. if b then Some after else map.get old id) (itself nat_cmp_total id)
+  written = ap (λ (m : Shelves). map.get m id) is ∙ get-insert_same nat_cmp_total old id after
 
   pub unwritten : (i : ℕ) → (i ≡ id → ⊥) → map.get new i ≡ map.get old i
-  unwritten i other = ap (λ (m : Shelves). map.get m i) is ∙ get-insert nat_cmp_total old id after i ∙ ap (λ b. if b then Some after else map.get old i) (untied nat_cmp_total nat_cmp-IsAntisymmetric i id other)
+  unwritten i other = ap (λ (m : Shelves). map.get m i) is ∙ get-insert_other nat_cmp_total exact_unsigned old id after i other
 
 -- an attached trigger has a shelf
 pub shelved_there : (triggers : Triggers) (shelves : Shelves) (id : ℕ) (hist : Hist) → AreShelved triggers shelves → map.get triggers id ≡ Some hist → map.get shelves id ≡ None → ⊥
@@ -57,18 +54,7 @@ values_there triggers id hist pos event saved attached = ap (λ (o : Option Hist
 -- where no act is, nothing is kept
 module _ (role : ℕ → Role) (values : ValuesBy) (admits : Admits) (acts : Acts) (kept : Kept) (h : IsKept role values admits acts kept) (at : At) (absent : acts at ≡ None) where
   absent_entry : IsEntry values kept.ops at (role at.trigger) None (hits_here kept at) (read_here kept at)
-  absent_entry = subst (λ o. IsEntry values kept.ops at (role at.trigger) o (hits_here kept at) (read_here kept at)) absent
-      (elim (h.entries at) [ inl never ↦ absurd (true≢false (sym never.0)) | inr entry ↦ entry ])
+  absent_entry = subst (λ o. IsEntry values kept.ops at (role at.trigger) o (hits_here kept at) (read_here kept at)) absent (h.entries at)
 
   pub absent_read : read_here kept at ≡ None
   absent_read = absent_entry.0
-
--- where no key moved, no reading is switched
-pub never_switched : (role : ℕ → Role) (admits : Admits) (acts : Acts) (q : At) → is_switched role admits admits acts q ≡ false
-never_switched role admits acts q = by (role q.trigger) (acts q)
-  where
-    by : (r : Role) (act : Option (List Part × Traced)) → is_switched_as admits admits r act ≡ false
-    by Plain act = refl
-    by Saves act = refl
-    by (Reads saver) None = refl
-    by (Reads saver) (Some a) = same_differ (admits saver a.0) (admits saver a.0) refl

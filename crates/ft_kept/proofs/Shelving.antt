@@ -28,6 +28,12 @@ module _ (id : ℕ) (Change : Shelved → Shelved → Type 0) (old : Shelves) wh
 
 -- ---- a shelf that is lent
 
+-- one shelf was there and is written back, and the others stay
+pub record IsPutBack (id : ℕ) (shelf after : Shelved) (old new : Shelves) : Type 0 where
+  pub was : map.get old id ≡ Some shelf
+  pub is : map.get new id ≡ Some after
+  pub others : (i : ℕ) → (i ≡ id → ⊥) → map.get new i ≡ map.get old i
+
 module _ (id : ℕ) (old : Shelves) (result : Option (MutBor Shelved)) (lent : MutBor Shelved) (is : result ≡ Some lent) (value : option_copied_mut result ≡ map.get old id) where
   -- it was there
   pub lent_was : map.get old id ≡ Some lent.now
@@ -37,6 +43,13 @@ module _ (id : ℕ) (old : Shelves) (result : Option (MutBor Shelved)) (lent : M
     -- and is written back
     pub lent_back : new ≡ map.insert old id after
     lent_back = subst (λ (r : Option (MutBor Shelved)). OnSome r (new ≡ map.insert old id after)) is back
+
+    pub put_back : IsPutBack id lent.now after old new
+    put_back = subst (IsPutBack id lent.now after old) (sym lent_back) (record {
+      was = lent_was;
+      is = get-insert_same nat_cmp_total old id after;
+      others = get-insert_other nat_cmp_total exact_unsigned old id after;
+    })
 
     -- so one shelf changes as it did
     pub lent_changes : (Change : Shelved → Shelved → Type 0) → Change lent.now after → ChangesShelf id Change old new

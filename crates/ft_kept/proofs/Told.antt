@@ -53,6 +53,13 @@ own-append = for-append Plain
 readers-append : (saver : ℕ) (xs ys : List KeyChange) → readers_keys saver (xs ++ ys) ≡ readers_keys saver xs ++ readers_keys saver ys
 readers-append saver = for-append (Reads saver) 0
 
+-- where one key is told of a trigger's hits, what isn't told is another key
+pub not_told : (role : Role) (id : ℕ) (change : KeyChange) (key : List Part) → is_for role id change.whose ≡ true → list_any (same_key key) (keys_for role id (change ∷ [])) ≡ false → key ≡ change.key → ⊥
+not_told role id change key its none here = true≢false (
+    sym (ap (λ b. list_any (same_key key) (list_map (λ (c : KeyChange). c.key) (cond b (change ∷ []) []))) its
+    ∙ ap (λ k. same_key key k || false) (sym here) ∙ ap (λ b. b || false) (itself key_cmp_total key))
+    ∙ none)
+
 -- hits stay as they are
 pub hits_refl : (keys : List KeyChange) (old new : Shelves) → ((id : ℕ) (mark : Mark) → (kept_on new).hits id mark ≡ (kept_on old).hits id mark) → HitsStayBut keys old new
 hits_refl keys old new same id mark none = same id mark
@@ -229,10 +236,8 @@ module _ (variable : Variable) where
 
   -- its readers' hits are told by its key
   its_readers : (old new : Shelves) → ReadersStay old new → HitsStayBut (variable_key variable) old new
-  its_readers old new stay id mark none = stay id mark (λ reads here. true≢false (
-      sym (ap (λ b. list_any (same_key mark.key) (list_map (λ (c : KeyChange). c.key) (cond b (variable_key variable) []))) (eq-eqb variable.saver variable.saver refl)
-      ∙ ap (λ k. same_key mark.key k || false) (sym here) ∙ ap (λ b. b || false) (itself key_cmp_total mark.key))
-      ∙ ap (λ r. list_any (same_key mark.key) (keys_for r id (variable_key variable))) (sym reads) ∙ none))
+  its_readers old new stay id mark none = stay id mark
+      (λ reads. not_told (role_on old id) id (record { whose = ReadersOf variable.saver; key = variable.key }) mark.key (ap (λ r. is_for r id (ReadersOf variable.saver)) reads ∙ eq-eqb variable.saver variable.saver refl) none)
 
   -- no reading is made right
   pub reread_same : (before after : Told) (old new : Shelves) → after.keys ≡ before.keys → after.readings ≡ before.readings

@@ -1,5 +1,5 @@
 -- Views of acts, as one act or those of an event change.
-use Rattle.std.proofs.Common.{◌≡◌, ℕ, Bool, true, false, cond, List, refl, sym, ap, subst, ◌∙◌, Some, None, Option, inl, inr}
+use Rattle.std.proofs.Common.{◌≡◌, ℕ, Bool, true, false, cond, List, refl, sym, ap, subst, ◌∙◌, Some, None, Option, inl, inr, unwrap_or}
 use Rattle.std.specs.Prelude.{option_and_then}
 use Rattle.std.specs.Ordering.{eq_by_cmp}
 use Rattle.std.specs.Cmp.{eq_by_cmp_equiv}
@@ -17,9 +17,12 @@ use Rattle.ft_pairs.specs.declared.at.At.{At}
 use Rattle.ft_kept.specs.Acts.{Acts, AreHeld}
 use Rattle.ft_kept.specs.Repairs.{IsHeldAt}
 use Rattle.ft_kept.specs.Views.{AreViewsOf, act_by_id, act_under, set, with_some}
-use Rattle.ft_kept.specs.inner.OneAct.{IsDoneToo}
+use Rattle.ft_kept.specs.Signs.{act_before, act_after}
+use Rattle.ft_kept.specs.inner.OneAct.{IsDoneToo, IsOneAct}
 use Rattle.ft_shelves.specs.Shelves.{Shelves}
-use Rattle.ft_shelves.proofs.Decided.{at_decided, itself, untied}
+use Rattle.ft_shelves.specs.declared.sign.Sign.{Sign}
+use Rattle.ft_shelves.specs.declared.sign.Sign.TheVariants.{Insert, Retract}
+use Rattle.ft_shelves.proofs.Decided.{at_decided, itself, none_not_some, untied}
 use Rattle.ft_kept.proofs.Between.{act_of}
 
 abbrev Acted : Type 0
@@ -49,6 +52,19 @@ module _ (acts : Acts) (at : At) (act : Acted) where
     | inl own ↦ subst (λ (p : At). IsHeldAt lanes p.pos event) (sym own) (here key event (sym set_here ∙ ap (set acts at act) (sym own) ∙ is))
     | inr apart ↦ held q key event (sym (set_apart q apart) ∙ is)
   ]
+
+-- one act more or less is one act
+pub one_changes : (sign : Sign) (acts : Acts) (at : At) (act : List Part × Traced) → acts at ≡ act_before sign act → IsOneAct at act acts (set acts at (act_after sign act))
+one_changes Insert acts at act was = record { elsewhere = set_apart acts at (Some act); here = inl (was, set_here acts at (Some act)) }
+one_changes Retract acts at act was = record { elsewhere = set_apart acts at None; here = inr (was, set_here acts at None) }
+
+-- and its events are held
+pub held_changes : (sign : Sign) (acts : Acts) (at : At) (act : List Part × Traced) (lanes : Lanes) → AreHeld lanes acts → IsHeldAt lanes at.pos act.1 → AreHeld lanes (set acts at (act_after sign act))
+held_changes sign acts at act lanes held here = set_held acts at (act_after sign act) lanes held (λ key event is. by sign is)
+  where
+    by : {key : List Part} {event : Traced} (w : Sign) → act_after w act ≡ Some (key, event) → IsHeldAt lanes at.pos event
+    by {key} {event} Insert is = subst (λ (e : Traced). IsHeldAt lanes at.pos e) (ap (λ (o : Option (List Part × Traced)). (unwrap_or o act).1) is) here
+    by {key} {event} Retract is = absurd (none_not_some None (key, event) refl is)
 
 -- views of acts are views of acts that are the same
 pub views_as : (triggers : Triggers) (lanes : Lanes) (acts same : Acts) (shelves : Shelves) → acts ≡ same → AreViewsOf triggers lanes acts shelves → AreViewsOf triggers lanes same shelves

@@ -1,21 +1,19 @@
 -- All acts of one trigger that come at once, where nothing is kept of it yet.
-use Rattle.std.specs.Prelude.{◌≡◌, ℕ, List, Option, Some, None, option_map, option_and_then}
+use Rattle.std.specs.Prelude.{◌≡◌, ℕ, List, Option, Some, None}
 use Rattle.std.specs.FinMap as map
-use Rattle.std.specs.FinMap.{FinMap}
-use Rattle.ft_fields.specs.Places.{pos_cmp}
 use Rattle.ft_fields.specs.Traced.{Traced}
 use Rattle.ft_fields.specs.declared.pos.Pos.{Pos}
-use Rattle.ft_hist.specs.Hist.{Hist}
-use Rattle.ft_hist.specs.Triggers.{Triggers}
-use Rattle.ft_hist.specs.Hit.{hit}
 use Rattle.ft_fields.specs.declared.key.Part.{Part}
+use Rattle.ft_hist.specs.Triggers.{Triggers}
 use Rattle.ft_pairs.specs.declared.at.At.{At}
 use Rattle.ft_pairs.specs.declared.role.Role.TheVariants.{Saves, Reads}
 use Rattle.ft_table.specs.Values.{values_by}
+use Rattle.ft_shelves.specs.Joining.{AreGroupsOf, acts_with}
+use Rattle.ft_shelves.specs.Shelves.{FormsStay, Shelved, Shelves, role_on, admits_on, kept_on}
+use Rattle.ft_shelves.specs.declared.joining.Joining.{Joining}
 use Rattle.ft_kept.specs.Acts.{Acts}
 use Rattle.ft_kept.specs.Entries.{IsKept}
-use Rattle.ft_shelves.specs.Shelves.{Shelved, Shelves, role_on, admits_on, kept_on}
-pub use Rattle.ft_shelves.specs.Joining.{AreGroupsOf}
+use Rattle.ft_kept.specs.Repairs.{AreShelved}
 
 -- nothing is kept of a trigger yet: no hits are on its shelf; what it saves has no operation; what it reads no other trigger reads
 pub record IsBare (id : ℕ) (shelves : Shelves) : Type 0 where
@@ -23,9 +21,12 @@ pub record IsBare (id : ℕ) (shelves : Shelves) : Type 0 where
   pub saves : role_on shelves id ≡ Saves → (key : List Part) (at : At) → (kept_on shelves).ops (record { saver = id; key = key }) at ≡ None
   pub alone : (saver other : ℕ) → role_on shelves id ≡ Reads saver → role_on shelves other ≡ Reads saver → other ≡ id
 
--- the acts of one trigger at events (kernel: histogram.rst, hist triggers)
-abbrev pub acts_with : Hist → FinMap pos_cmp Traced → Pos → Option (List Part × Traced)
-acts_with hist events pos = option_and_then (λ event. option_map (λ key. (key, event)) (hit hist event)) (map.get events pos)
+-- an attached trigger of which nothing is kept yet can join, with groups of what it counts
+pub record MayJoin (joining : Joining) (shelves : Shelves) : Type 0 where
+  pub shelved : AreShelved joining.triggers.now shelves
+  pub attached : map.get joining.triggers.now joining.id ≡ Some joining.trigger.now
+  pub bare : IsBare joining.id shelves
+  pub grouped : AreGroupsOf joining.trigger.now joining.groups.now
 
 -- all acts of one trigger come, where it had none; those of others stay
 pub record AllCome (id : ℕ) (acts : Pos → Option (List Part × Traced)) (before after : Acts) : Type 0 where
@@ -39,3 +40,8 @@ AllHaveCome triggers id acts old new =
     (before after : Acts) → AllCome id acts before after
     → IsKept (role_on old) (values_by triggers) (admits_on old) before (kept_on old)
     → IsKept (role_on old) (values_by triggers) (admits_on new) after (kept_on new)
+
+-- a trigger that joined: all its acts came, and shelves keep their forms
+pub record HasAllActs (joining : Joining) (old new : Shelves) : Type 0 where
+  pub forms : FormsStay old new
+  pub right : (of : AreGroupsOf joining.trigger.now joining.groups.now) → AllHaveCome joining.triggers.now joining.id (acts_with joining.trigger.now of.events) old new

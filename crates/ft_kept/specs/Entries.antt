@@ -1,5 +1,5 @@
--- What is kept of the acts, told place by place from the acts and the operations, and what is still stale while it is repaired.
-use Rattle.std.specs.Prelude.{◌≡◌, ◌⊎◌, ℕ, ℤ, Bool, true, false, List, Option, Some, None, option_map, if◌then◌else◌}
+-- What is kept of the acts, told place by place from the acts and the operations.
+use Rattle.std.specs.Prelude.{◌≡◌, ℕ, ℤ, List, Option, Some, None, option_map, if◌then◌else◌}
 use Rattle.ft_fields.specs.Traced.{Traced}
 use Rattle.ft_fields.specs.declared.pos.Pos.{Pos}
 use Rattle.ft_fields.specs.declared.key.Part.{Part}
@@ -35,29 +35,30 @@ Finds ops at read = (found : Option At) × (IsSource ops at found × (read ≡ o
 abbrev pub one_hit : List Part → Option (List ℤ) → HitsHere
 one_hit own values key = if same_key key own then values else None
 
--- what is kept of an act: a hit; of a reader's act what it found, and a hit where it found something; nothing where no trigger acts (kernel: histogram.rst, inter-event hist triggers)
-abbrev pub IsEntry : ValuesBy → (Variable → Ops) → At → Role → Option (List Part × Traced) → HitsHere → Option Pos → Type 0
-IsEntry values ops at role None hits read = (read ≡ None) × ((key : List Part) → hits key ≡ None)
-IsEntry values ops at Plain (Some act) hits read = (read ≡ None) × ((key : List Part) → hits key ≡ one_hit act.0 (Some (values at.trigger at.pos act.1 None)) key)
-IsEntry values ops at Saves (Some act) hits read = (read ≡ None) × ((key : List Part) → hits key ≡ one_hit act.0 (Some (values at.trigger at.pos act.1 None)) key)
-IsEntry values ops at (Reads saver) (Some act) hits read =
-    Finds (ops (record { saver = saver; key = act.0 })) at read
-    × ((key : List Part) → hits key ≡ one_hit act.0 (option_map (λ saved. values at.trigger at.pos act.1 (Some saved)) read) key)
+-- what a reading at a place found, by its act and the operations; nothing where no trigger reads (kernel: histogram.rst, inter-event hist triggers)
+abbrev pub IsReading : (Variable → Ops) → At → Role → Option (List Part × Traced) → Option Pos → Type 0
+IsReading ops at role None read = read ≡ None
+IsReading ops at Plain (Some act) read = read ≡ None
+IsReading ops at Saves (Some act) read = read ≡ None
+IsReading ops at (Reads saver) (Some act) read = Finds (ops (record { saver = saver; key = act.0 })) at read
 
--- hits at a place stand under the key of the act there alone
-abbrev pub IsOwn : Option (List Part × Traced) → HitsHere → Type 0
-IsOwn act hits = (key : List Part) → (hits key ≡ None) ⊎ ((a : List Part × Traced) × ((act ≡ Some a) × (a.0 ≡ key)))
+-- the hits at a place are that of its act; a reader's act is one where it found something (kernel: histogram.rst, inter-event hist triggers)
+abbrev pub IsCounted : ValuesBy → At → Role → Option (List Part × Traced) → HitsHere → Option Pos → Type 0
+IsCounted values at role None hits read = (key : List Part) → hits key ≡ None
+IsCounted values at Plain (Some act) hits read = (key : List Part) → hits key ≡ one_hit act.0 (Some (values at.trigger at.pos act.1 None)) key
+IsCounted values at Saves (Some act) hits read = (key : List Part) → hits key ≡ one_hit act.0 (Some (values at.trigger at.pos act.1 None)) key
+IsCounted values at (Reads saver) (Some act) hits read = (key : List Part) → hits key ≡ one_hit act.0 (option_map (λ saved. values at.trigger at.pos act.1 (Some saved)) read) key
+
+-- what is kept of an act: what its reading found, and its hit
+abbrev pub IsEntry : ValuesBy → (Variable → Ops) → At → Role → Option (List Part × Traced) → HitsHere → Option Pos → Type 0
+IsEntry values ops at role act hits read = IsReading ops at role act read × IsCounted values at role act hits read
 
 module _ (role : ℕ → Role) (values : ValuesBy) where
   -- the place has what its act and the operations say
   abbrev pub IsRight : Acts → Kept → At → Type 0
   IsRight acts kept at = IsEntry values kept.ops at (role at.trigger) (acts at) (hits_here kept at) (read_here kept at)
 
-  -- the operations are those of the acts, and each place has what it should, except for some that are still stale: there hits stand under the act's key alone
-  pub record IsKeptBut (admits : Admits) (acts : Acts) (kept : Kept) (stale : At → Bool) : Type 0 where
+  -- the operations are those of the acts, and each place has what its act and they say
+  pub record IsKept (admits : Admits) (acts : Acts) (kept : Kept) : Type 0 where
     pub ops : (variable : Variable) (at : At) → kept.ops variable at ≡ op_of role admits acts variable at
-    pub entries : (at : At) → ((stale at ≡ true) × IsOwn (acts at) (hits_here kept at)) ⊎ IsRight acts kept at
-
-  -- nothing is stale
-  abbrev pub IsKept : Admits → Acts → Kept → Type 0
-  IsKept admits acts kept = IsKeptBut admits acts kept (λ at. false)
+    pub entries : (at : At) → IsRight acts kept at

@@ -6,9 +6,10 @@ use Rattle.ft_hist.specs.Hist.{Hist}
 use Rattle.ft_hist.specs.Triggers.{Triggers}
 use Rattle.ft_hist.specs.Hit.{hit, IsNoHit}
 use Rattle.ft_fields.specs.declared.key.Part.{Part}
-use Rattle.ft_pairs.specs.Source.{Ops, IsSource}
+use Rattle.ft_pairs.specs.Source.{Ops}
 use Rattle.ft_pairs.specs.declared.at.At.{At}
 use Rattle.ft_shelves.specs.Shelves.{Shelves}
+use Rattle.ft_kept.specs.Entries.{Finds}
 use Rattle.ft_kept.specs.Bounds.{TableEdit, with_hit_of, without_hit_of}
 use Rattle.ft_kept.specs.Memory.{ActsPlainly, AllActPlainly}
 use Rattle.ft_shelves.specs.declared.sign.Sign.{Sign}
@@ -52,6 +53,6 @@ act_after Insert act = Some act
 act_after Retract act = None
 
 -- a reading that comes finds its source, one that goes nothing
-abbrev pub FindsBy : Sign → Ops → At → Option At → Type 0
-FindsBy Insert ops at found = IsSource ops at found
+abbrev pub FindsBy : Sign → Ops → At → Option Pos → Type 0
+FindsBy Insert ops at found = Finds ops at found
 FindsBy Retract ops at found = found ≡ None

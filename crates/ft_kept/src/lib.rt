@@ -28,7 +28,8 @@
 //! tables.add(3, Role::Plain, 2048)?;
 //! if tables.is_bare(3) {
 //!     let groups = grouped(alloc, trigger, &events, &mut work)?;
-//!     tables.acts_come(&triggers, trigger, 3, &groups, &mut work)?;
+//!     let joining = Joining { alloc, triggers: &triggers, trigger, id: 3, groups: &groups };
+//!     tables.join(&joining, &mut work)?;
 //! }
 //! ```
 //!
@@ -61,10 +62,9 @@
 //! - Clause `quiet`: where only triggers without a variable hit the event, what is told of readings
 //!   stays as it is.
 //! - `Tables::apply_to`: as `apply`, at one trigger; the other savers' tables stay.
-//! - `Tables::acts_come`, clause `right`: all acts of a trigger of which nothing is kept yet, by
-//!   its events grouped by key: where the shelves hold what the acts of the others say, they hold
-//!   afterwards what all acts say (`specs/AtOnce.antt`). No event is tested again. Lets through:
-//!   any number of puts.
+//! - `Tables::join`: all acts of a trigger of which nothing is kept yet, by its events grouped by
+//!   key: where the shelves hold what the acts of the others say, they hold afterwards what all acts
+//!   say (`specs/AtOnce.antt`). No event is tested again. Lets through: any number of puts.
 //! - `Tables::is_bare`: where it says so, nothing is kept of the trigger, no operation stands on
 //!   what it saves, and no other trigger reads what it reads. Lets through: saying no; then the
 //!   acts come one by one.
@@ -96,7 +96,7 @@ mod tables;
 pub use act::{Attached, Delta, Scene};
 pub use changes::{Changes, KeyChange, Whose};
 pub use ft_changes::Changed;
-pub use ft_shelves::{Shelf, Sign};
+pub use ft_shelves::{Joining, Shelf, Sign};
 pub use laws::reported_rows;
 pub use report::{changed_rows, distinct, put_rows};
 pub use tables::Tables;

@@ -1,20 +1,15 @@
 //! A saver's acts that come or go: the operations on what it saves follow the keys of its table, and
 //! the readings follow these.
 
-ghost use Rattle.std.specs.Prelude.{◌≡◌, ◌+◌, ◌≤◌, ◌⊎◌, OnOk, IfOk, Option, Some, None, false};
-ghost use Rattle.ft_pairs.specs.Next.{IsNext};
-ghost use Rattle.ft_pairs.specs.declared.at.At.{At};
-ghost use Rattle.ft_pairs.specs.declared.at.Op.{Op};
+ghost use Rattle.std.specs.Prelude.{◌≡◌, ◌+◌, ◌≤◌, ◌⊎◌, OnOk, IfOk};
 ghost use Rattle.ft_pairs.specs.declared.role.Role.TheVariants.{Saves};
 ghost use Rattle.ft_shelves.specs.Changes.{table_with};
 ghost use Rattle.ft_shelves.specs.Counts.{TestsNone};
-ghost use Rattle.ft_shelves.specs.Shelves.{kept_on};
 ghost use Rattle.ft_kept.specs.Acts.{Acts};
 ghost use Rattle.ft_kept.specs.Bounds.{TableMoves};
-ghost use Rattle.ft_kept.specs.inner.Acting.{CanSettle, Refreshed, own_variable};
-ghost use Rattle.ft_kept.specs.inner.Changing.{MayChange, HasChanged, ChangedLeavingStale, HasToldAct, change_of};
-ghost use Rattle.ft_kept.specs.inner.Edits.{ReadersChange};
-ghost use Rattle.ft_kept.specs.inner.Settling.{without_moved};
+ghost use Rattle.ft_kept.specs.inner.Changing.{MayChange, HasChanged, HasToldAct, change_of};
+ghost use Rattle.ft_kept.specs.inner.Readings.{CanSettle};
+ghost use Rattle.ft_kept.specs.inner.Saving.{HasFollowed, MovedAreSettled, NoneMoved};
 ghost use Rattle.ft_kept.specs.inner.Telling.{HasToldOf, own_key, moved_keys};
 
 use crate::act::Act;
@@ -60,9 +55,11 @@ fn change_shelf(
 ) -> Result<Moved, AllocError>
     ghost acts: { Acts }
     requires { MayChange act.now acts Saves tables.old }
-    ensures leaves_stale { IfOk result (λ moved. ChangedLeavingStale act.now acts moved tables.old tables.new) }
+    ensures followed { IfOk result (λ moved. HasFollowed act.now acts moved tables.old tables.new) }
     ensures told { IfOk result (λ moved. HasToldOf (own_key act.now.at.trigger act.now.key)
         changes.old changes.new tables.old tables.new) }
+    ensures moves { IfOk result (λ moved. NoneMoved moved
+        ⊎ TableMoves (table_with (change_of act.now)) tables.old act.now.at.trigger) }
     ensures puts { (work.new.puts ≤ work.old.puts + 2)
         ⊎ TableMoves (table_with (change_of act.now)) tables.old act.now.at.trigger }
     ensures work { TestsNone work.old work.new }
@@ -102,28 +99,25 @@ fn settle_moved(
     changes: &mut Changes,
     work: &mut Work,
 ) -> Result<(), AllocError>
-    requires { CanSettle act.now.scene tables.old }
-    ensures readers { OnOk result (ReadersChange tables.old tables.new) }
-    ensures right { OnOk result ((next : Option (At × Op))
-        → IsNext ((kept_on tables.old).ops (own_variable act.now)) (Some act.now.at) next
-        → Refreshed act.now.scene tables.old tables.new
-        (without_moved tables.old act.now.at.trigger act.now.key moved next)) }
+    ghost acts: { Acts }
+    requires { CanSettle act.now.scene acts tables.old }
+    ensures settled { OnOk result (MovedAreSettled act.now acts moved tables.old tables.new) }
     ensures told { OnOk result (HasToldOf (moved_keys act.now.at.trigger act.now.key moved)
         changes.old changes.new tables.old tables.new) }
-    ensures puts { moved.own ≡ false → moved.other ≡ None → work.new.puts ≤ work.old.puts + 1 }
+    ensures puts { NoneMoved moved → work.new.puts ≤ work.old.puts + 1 }
     ensures work { TestsNone work.old work.new }
 {
     let saver = act.at.trigger;
     if let Some(key) = moved.other {
         changes.tell_key(Whose::ReadersOf(saver), key);
-        settle_key(tables, &act.scene, &Variable { saver, key }, changes, work)?;
+        settle_key(tables, act, &Variable { saver, key }, changes, work)?;
     }
     changes.tell_key(Whose::ReadersOf(saver), act.key);
     let key = act.key;
     let variable = Variable { saver, key };
     if moved.own {
-        settle_key(tables, &act.scene, &variable, changes, work)
+        settle_key(tables, act, &variable, changes, work)
     } else {
-        settle_next(tables, &act.scene, &variable, act.at, changes, work)
+        settle_next(tables, act, &variable, changes, work)
     }
 }

@@ -1,14 +1,5 @@
-pub mod Before
 pub mod Views
-pub mod Making
-pub mod Turns
-pub mod Sorted
-pub mod Order
-pub mod Counting
 pub mod Same
-pub mod MadeHits
-pub mod Naming
+pub mod Order
 pub mod MadeTables
-pub mod Updated
-pub mod Filling
-pub mod ChangedKeys
+pub mod Counters

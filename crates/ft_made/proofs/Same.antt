@@ -1,41 +1,41 @@
--- Readings that find the same make the same.
-use Rattle.std.proofs.Common.{◌≡◌, ℕ, refl, ap, Some, None, Option}
-use Rattle.std.specs.Prelude.{option_and_then}
+-- What is made at a spot depends on what its reading finds: readings that find the same make the same.
+use Rattle.std.proofs.Common.{◌≡◌, refl, ap, Some, None, Option}
+use Rattle.std.specs.Prelude.{option_map, option_and_then}
 use Rattle.std.specs.FinMap as map
+use Rattle.ft_fields.specs.Traced.{Traced}
 use Rattle.ft_fields.specs.declared.pos.Pos.{Pos}
-use Rattle.ft_hist.specs.Made.{made_of}
+use Rattle.ft_hist.specs.Hist.{Hist}
+use Rattle.ft_hist.specs.Made.{made_event, made_of}
 use Rattle.ft_hits.specs.declared.spot.Spot.{Spot}
-use Rattle.ft_pairs.specs.declared.at.At.{At}
 use Rattle.ft_hist.specs.Triggers.{Triggers}
 use Rattle.ft_replay.specs.Merged.{Events}
-use Rattle.ft_replay.specs.Elsewhere.{IsSameAct, FindsTheSame}
 use Rattle.ft_replay.specs.Found.{saving_found}
-use Rattle.ft_replay.specs.Hits.{hit_at}
 use Rattle.ft_made.specs.MadeEvents.{made_by, made_at}
-use Rattle.ft_made.specs.Laws.{AreFound, spot_of}
+use Rattle.ft_made.specs.Laws.{FoundMakeAll, MakeNone}
+use Rattle.ft_made.proofs.Views.{nothing, same_then}
 
--- what changes elsewhere changes no event that is made here
-pub made_local : ((triggers others : Triggers) (events more : Events) (at : At) → IsSameAct triggers others events more at → FindsTheSame triggers others events more at
-    → hit_at others more at.trigger at.pos ≡ hit_at triggers events at.trigger at.pos)
-    → (triggers others : Triggers) (events more : Events) (at : At) → IsSameAct triggers others events more at → FindsTheSame triggers others events more at
-    → made_at others more (spot_of at) ≡ made_at triggers events (spot_of at)
-unfolding made_at saving_found
-made_local hits triggers others events more at same finds = λ i.
-    option_and_then (λ event. option_and_then (λ hist. option_and_then (made_of hist at.pos event)
-    (option_and_then (λ found. found.saved) (hits triggers others events more at same finds i))) (same.trigger i)) (same.event i)
+-- what is made at a spot, where its reading finds this
+abbrev pub makes : Triggers → Events → Spot → Option Pos → Option Traced
+makes triggers events spot saved = made_by triggers events (λ id pos. saved) spot
+
+module _ (triggers : Triggers) (events : Events) (spot : Spot) where
+  -- savings of which the spot's trigger makes the same, whatever the event, make the same there
+  pub makes_same : (found later : Option Pos)
+      → ((event : Traced) (hist : Hist) → map.get triggers spot.maker ≡ Some hist → option_and_then (made_of hist spot.pos event) found ≡ option_and_then (made_of hist spot.pos event) later)
+      → makes triggers events spot found ≡ makes triggers events spot later
+  makes_same found later same = same_then _ _ (map.get events spot.pos) (λ event held. same_then _ _ (map.get triggers spot.maker) (same event))
+
+  -- a reading that finds nothing makes nothing
+  pub makes_none : makes triggers events spot None ≡ None
+  makes_none = nothing _ (map.get events spot.pos) (λ event held. nothing _ (map.get triggers spot.maker) (λ hist attached. refl))
+
+  -- nothing is made where no trigger makes events
+  pub none_makes : MakeNone triggers → (found : Option Pos) → makes triggers events spot found ≡ None
+  none_makes none found = nothing _ (map.get events spot.pos) (λ event held. nothing _ (map.get triggers spot.maker)
+      (λ hist attached. nothing _ found (λ saved is. ap (option_map (made_event spot.pos event saved)) (none spot.maker hist attached))))
 
 -- what the attached triggers' readings find makes what is made
-pub made_found : (triggers : Triggers) (events : Events) (found : ℕ → Pos → Option Pos) → AreFound triggers events found
-    → (spot : Spot) → made_by triggers events found spot ≡ made_at triggers events spot
+pub made_found : FoundMakeAll
 unfolding made_at
-made_found triggers events found is spot = elim (map.get events spot.pos) as (λ o.
-    option_and_then (λ event. option_and_then (λ hist. option_and_then (made_of hist spot.pos event) (found spot.maker spot.pos)) (map.get triggers spot.maker)) o
-    ≡ option_and_then (λ event. option_and_then (λ hist. option_and_then (made_of hist spot.pos event) (saving_found triggers events spot.maker spot.pos)) (map.get triggers spot.maker)) o) [
-      | None ↦ refl
-      | Some event ↦ elim (map.get triggers spot.maker) as (λ o. map.get triggers spot.maker ≡ o
-          → option_and_then (λ hist. option_and_then (made_of hist spot.pos event) (found spot.maker spot.pos)) o
-          ≡ option_and_then (λ hist. option_and_then (made_of hist spot.pos event) (saving_found triggers events spot.maker spot.pos)) o) [
-            | None ↦ λ _. refl
-            | Some hist ↦ λ attached. ap (option_and_then (made_of hist spot.pos event)) (is spot.maker hist attached spot.pos)
-          ] refl
-    ]
+made_found triggers events found is spot = makes_same triggers events spot (found spot.maker spot.pos) (saving_found triggers events spot.maker spot.pos)
+    (λ event hist attached. ap (option_and_then (made_of hist spot.pos event)) (is spot.maker hist attached spot.pos))

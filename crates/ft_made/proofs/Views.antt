@@ -1,9 +1,8 @@
--- What is read off a fold, one item more of a list, and what makes nothing.
-use Rattle.std.proofs.Common.{◌≡◌, List, [], ◌∷◌, ◌++◌, refl, sym, ap, ◌∙◌, Some, None, Option}
-use Rattle.std.specs.Prelude.{fold, option_and_then}
-use Rattle.std.specs.List.{cons_option, flat_map}
+-- What is read off a fold, one item more of a list, and what comes of an option.
+use Rattle.std.proofs.Common.{◌≡◌, cond, List, [], ◌∷◌, refl, ap, ◌∙◌, Some, None, Option}
+use Rattle.std.specs.Prelude.{◌&&◌, fold, is_some, option_and_then}
+use Rattle.std.specs.List.{cons_option}
 use Rattle.std.specs.Option.{option_map_or}
-use Rattle.std.proofs.lemmas.List.{append-nil, append_assoc}
 
 -- a view of a fold, where the view of each step is a step of the view
 pub seen_fold : {S T X : Type 0} (p : S → T) (f : S → X → S) (g : T → X → T) → ((s : S) (x : X) → p (f s x) ≡ g (p s) x) → (s : S) (xs : List X) → p (fold f s xs) ≡ fold g (p s) xs
@@ -15,22 +14,23 @@ pub fold_option : {S X : Type 0} (g : S → X → S) (s : S) (o : Option X) (xs 
 fold_option g s None xs = refl
 fold_option g s (Some x) xs = refl
 
--- what makes nothing of anything makes nothing
-pub nothing : {A B : Type 0} (f : A → Option B) → ((a : A) → f a ≡ None) → (o : Option A) → option_and_then f o ≡ None
-nothing f h None = refl
-nothing f h (Some a) = h a
+-- what makes nothing of all that there is makes nothing
+pub nothing : {A B : Type 0} (f : A → Option B) (o : Option A) → ((a : A) → o ≡ Some a → f a ≡ None) → option_and_then f o ≡ None
+nothing f None h = refl
+nothing f (Some a) h = h a refl
 
--- ---- lists made one after the other
+-- what makes the same of all that there is makes the same
+pub same_then : {A B : Type 0} (f g : A → Option B) (o : Option A) → ((a : A) → o ≡ Some a → f a ≡ g a) → option_and_then f o ≡ option_and_then g o
+same_then f g None h = refl
+same_then f g (Some a) h = h a refl
 
-module _ {X Y : Type 0} (f : X → List Y) where
-  -- the first of those that are left is done
-  pub flat_step : (found more all : List Y) (x : X) (rest left : List X) → left ≡ x ∷ rest → more ≡ found ++ f x → found ++ flat_map f left ≡ all → more ++ flat_map f rest ≡ all
-  flat_step found more all x rest left is puts goal =
-      ap (λ (ys : List Y). ys ++ flat_map f rest) puts
-      ∙ append_assoc found (f x) (flat_map f rest)
-      ∙ sym (ap (λ (xs : List X). found ++ flat_map f xs) is)
-      ∙ goal
+-- nothing comes of an option where there is nothing
+pub only_some : {A B : Type 0} (f : A → Option B) (o : Option A) → cond (is_some o) (option_and_then f o) None ≡ option_and_then f o
+only_some f None = refl
+only_some f (Some a) = refl
 
-  -- none is left
-  pub flat_done : (found all : List Y) (left : List X) → left ≡ [] → found ++ flat_map f left ≡ all → found ≡ all
-  flat_done found all left none goal = sym (append-nil found) ∙ sym (ap (λ (xs : List X). found ++ flat_map f xs) none) ∙ goal
+-- nor of two where either is missing
+pub only_both : {A B C : Type 0} (f : A → B → Option C) (o : Option A) (p : Option B)
+    → cond (is_some o && is_some p) (option_and_then (λ a. option_and_then (f a) p) o) None ≡ option_and_then (λ a. option_and_then (f a) p) o
+only_both f None p = refl
+only_both f (Some a) p = only_some (f a) p

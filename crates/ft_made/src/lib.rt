@@ -61,13 +61,11 @@
 #![tactic(auto)]
 
 pub mod laws;
-mod readings;
 mod tables;
 mod updating;
 
 pub use laws::{
     changed_keys, made_by_spot, made_counters, made_tables, made_tallies, replayed_pairs, same_made,
 };
-pub use readings::KeptReadings;
-pub use tables::made_table;
+pub use tables::{KeptReadings, made_table};
 pub use updating::{put_changed_keys, put_made, take_made, update_made};

@@ -10,7 +10,6 @@ ghost use Rattle.ft_made.specs.Laws.{MakeNone};
 ghost use Rattle.ft_made.specs.MadeTables.{IsMadeTable, AreInOrder, ArePairsOf, found_in};
 ghost use Rattle.ft_made.specs.inner.First.{first_change, first_changes};
 
-use crate::readings::KeptReadings;
 use crate::updating::update_made;
 use ft_changes::ReadingChange;
 use ft_hist::{Trigger, Triggers, Work};
@@ -18,6 +17,19 @@ use ft_lanes::Lanes;
 use ft_replay::Pair;
 use ft_table::Table;
 use std::alloc::{AllocError, Global};
+
+/// What is kept of the readings of attached triggers: with each reading, the saving that it found.
+pub trait KeptReadings {
+    ghost use Rattle.std.specs.Prelude.{◌≡◌, ℕ, List, IfOk};
+    ghost use Rattle.ft_replay.specs.declared.pair.Pair.{Pair};
+
+    /// The pairs of the readings of a trigger.
+    ghost pairs: { Self → ℕ → List Pair };
+
+    /// The pairs of the readings of the trigger with an id. Refused for memory.
+    fn pairs_by(&self, id: u32) -> Result<Vec<Pair>, AllocError>
+        ensures { IfOk result (λ found. found.items ≡ pairs self.now id) };
+}
 
 /// The table of a trigger that counts made events: those that the attached triggers make of held
 /// events, if their readings found what is kept of them. If no trigger makes events, it takes no step.

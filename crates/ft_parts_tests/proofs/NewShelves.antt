@@ -1,5 +1,5 @@
 -- Shelves with nothing on them are views of what triggers count at no events.
-use Rattle.std.proofs.Common.{◌≡◌, ℕ, ℤ, true, inr, List, refl, sym, ap, subst, ◌∙◌, Option, Some, None, unwrap_or}
+use Rattle.std.proofs.Common.{◌≡◌, ℕ, ℤ, true, List, refl, sym, ap, subst, ◌∙◌, Option, Some, None, unwrap_or}
 use Rattle.std.specs.Prelude.{is_some, option_and_then}
 use Rattle.std.specs.Ordering.{nat_cmp}
 use Rattle.std.specs.Cmp.{nat_cmp_total}
@@ -121,10 +121,10 @@ module _ (triggers : Triggers) (lanes : Lanes) (shelves : Shelves) (new : AreNew
   unfolding kept_on
   none_kept = record {
     ops = λ variable at. no_op (map.get shelves variable.saver) (new.unused variable.saver) variable.key at ∙ sym (op_absent (role_on shelves) (admits_on shelves) (acts_of triggers map.empty) variable at (no_act at));
-    entries = λ at. inr (subst
+    entries = λ at. subst
         (λ (act : Option (List Part × Traced)). IsEntry (values_by triggers) (kept_on shelves).ops at (role_on shelves at.trigger) act (hits_here (kept_on shelves) at) (read_here (kept_on shelves) at))
         (sym (no_act at))
-        (no_reading (map.get shelves at.trigger) (new.unused at.trigger) at.pos, λ key. no_hit (map.get shelves at.trigger) (new.unused at.trigger) (record { spot = traced at.pos; key = key })));
+        (no_reading (map.get shelves at.trigger) (new.unused at.trigger) at.pos, λ key. no_hit (map.get shelves at.trigger) (new.unused at.trigger) (record { spot = traced at.pos; key = key }));
   }
 
   pub right_of_none : AreRight triggers lanes map.empty shelves

@@ -1,6 +1,6 @@
 -- What is kept of all triggers but one, where their shelves stay as they are.
-use Rattle.std.proofs.Common.{◌≡◌, ℕ, Bool, true, false, cond, inl, inr, List, [], refl, sym, ap, subst, ◌∙◌, Option, Some, None, ⊎_elim}
-use Rattle.std.specs.Prelude.{ℤ, ◌&&◌, option_map, option_and_then}
+use Rattle.std.proofs.Common.{◌≡◌, ℕ, Bool, true, false, cond, List, [], refl, sym, ap, subst, ◌∙◌, Option, Some, None, ⊎_elim}
+use Rattle.std.specs.Prelude.{ℤ, option_map, option_and_then}
 use Rattle.std.specs.Option.{option_map_or}
 use Rattle.std.specs.Ordering.{eq_by_cmp}
 use Rattle.std.specs.Cmp.{nat_cmp_total}
@@ -11,18 +11,16 @@ use Rattle.ft_fields.specs.Traced.{Traced}
 use Rattle.ft_fields.specs.declared.pos.Pos.{Pos}
 use Rattle.ft_hist.specs.Hist.{Hist}
 use Rattle.ft_fields.specs.declared.key.Part.{Part}
-use Rattle.ft_maps.specs.Entries.{get-remove_same, get-remove_other}
-use Rattle.ft_pairs.specs.ByKey.{ops_of}
+use Rattle.ft_maps.specs.Entries.{get-remove_same, get-remove_other, same_from_tie}
 use Rattle.ft_pairs.specs.Source.{Ops}
 use Rattle.ft_pairs.specs.declared.at.At.{At}
 use Rattle.ft_pairs.specs.declared.at.Op.{Op}
 use Rattle.ft_pairs.specs.declared.at.Op.TheVariants.{Save, Read}
-use Rattle.ft_table.specs.Tabled.{is_in}
 use Rattle.ft_table.specs.Spots.{traced}
 use Rattle.ft_kept.specs.Acts.{Acts, acts_of, op_of}
-use Rattle.ft_kept.specs.Entries.{HitsHere, Finds, IsEntry, IsKept, IsRight, hits_here, one_hit, read_here}
+use Rattle.ft_kept.specs.Entries.{HitsHere, Finds, IsEntry, IsRight, hits_here, one_hit, read_here}
 use Rattle.ft_pairs.specs.Roles.{Admits, op_as}
-use Rattle.ft_kept.specs.Shelves.{Shelved, Shelves, Kept, admits_on, is_saver, kept_on}
+use Rattle.ft_kept.specs.Shelves.{Shelved, Shelves, Kept, admits_on, kept_on}
 use Rattle.ft_table.specs.Values.{ValuesBy, values_at, values_by}
 use Rattle.ft_pairs.specs.Variables.{variable_cmp, variable_cmp_total, variable_same}
 use Rattle.ft_shelves.proofs.Decided.{untied}
@@ -33,7 +31,9 @@ use Rattle.ft_base.specs.Base.{Triggers}
 use Rattle.ft_replay.specs.Merged.{Events}
 use Rattle.ft_repair.specs.KeptShelves.{HasItsShelf}
 use Rattle.ft_base.specs.Roles.{role_of, role_at}
-use Rattle.ft_repair.proofs.HeldActs.{act_in}
+use Rattle.ft_kept.proofs.Forms.{same_admits, same_hits, same_read}
+pub use Rattle.ft_kept.proofs.Forms.{same_ops}
+use Rattle.ft_repair.proofs.KeptFor.{act_in}
 
 -- ---- acts
 
@@ -51,43 +51,30 @@ pub no_act_of : (triggers : Triggers) (events : Events) (at : At) → map.get tr
 unfolding acts_of
 no_act_of triggers events at none = ap (λ (hist : Option Hist). option_and_then (λ (e : Traced). act_in hist e) (map.get events at.pos)) none ∙ never_any (map.get events at.pos)
 
--- ---- what shelves that stay tell
-
-module _ (old new : Shelves) (id : ℕ) (same : map.get new id ≡ map.get old id) where
-  pub same_hits : (pos : Pos) (key : List Part) → hits_here (kept_on new) (record { pos = pos; trigger = id }) key ≡ hits_here (kept_on old) (record { pos = pos; trigger = id }) key
-  unfolding kept_on
-  same_hits pos key = ap (λ (o : Option Shelved). option_and_then (λ (s : Shelved). map.get s.table.hits (record { spot = traced pos; key = key })) o) same
-
-  pub same_read : (pos : Pos) → read_here (kept_on new) (record { pos = pos; trigger = id }) ≡ read_here (kept_on old) (record { pos = pos; trigger = id })
-  unfolding kept_on
-  same_read pos = ap (λ (o : Option Shelved). option_and_then (λ (s : Shelved). map.get s.readings pos) o) same
-
-  pub same_ops : (key : List Part) (at : At) → (kept_on new).ops (record { saver = id; key = key }) at ≡ (kept_on old).ops (record { saver = id; key = key }) at
-  unfolding kept_on
-  same_ops key at = ap (λ (o : Option Shelved). option_and_then (λ (s : Shelved). ops_of s.ops key at) o) same
-
-  same_admits : (key : List Part) → admits_on new id key ≡ admits_on old id key
-  unfolding admits_on
-  same_admits key = ap (λ (o : Option Shelved). option_map_or (λ (s : Shelved). is_saver s.role && is_in s.table key) o false) same
-
 -- ---- operations
 
-pub op_as_same : (old new : Admits) (id : ℕ) → ((key : List Part) → new id key ≡ old id key) → (role : Role) (variable : Variable) (key : List Part) → op_as new role variable id key ≡ op_as old role variable id key
-op_as_same old new id same Plain variable key = refl
-op_as_same old new id same Saves variable key = ap (λ (b : Bool). cond (eq_by_cmp variable_cmp variable (record { saver = id; key = key })) (cond b (Some Save) None) None) (same key)
-op_as_same old new id same (Reads saver) variable key = refl
+-- an operation goes by its saver's keys alone
+op_as_same : (old new : Admits) (role : Role) (variable : Variable) (id : ℕ) → (role ≡ Saves → id ≡ variable.saver → (key : List Part) → new id key ≡ old id key) → (key : List Part) → op_as new role variable id key ≡ op_as old role variable id key
+op_as_same old new Plain variable id same key = refl
+op_as_same old new Saves variable id same key =
+    let own : Variable = record { saver = id; key = key } in
+    elim (eq_by_cmp variable_cmp variable own) as (λ (b : Bool). eq_by_cmp variable_cmp variable own ≡ b → cond b (cond (new id key) (Some Save) None) None ≡ cond b (cond (old id key) (Some Save) None) None) [
+      | true ↦ λ tie. ap (λ (b : Bool). cond b (Some Save) None) (same refl (sym (ap (λ (v : Variable). v.saver) (same_from_tie variable_same variable own tie))) key)
+      | false ↦ λ _. refl
+    ] refl
+op_as_same old new (Reads saver) variable id same key = refl
 
 abbrev by_act : Admits → Role → Variable → At → List Part × Traced → Option Op
 by_act admits role variable at act = op_as admits role variable at.trigger act.0
 
 -- an act that stays is the same operation, where its trigger does the same
 pub op_stays_there : (role more : ℕ → Role) (old new : Admits) (acts others : Acts) (variable : Variable) (at : At) → more at.trigger ≡ role at.trigger → others at ≡ acts at
-    → ((key : List Part) → op_as new (role at.trigger) variable at.trigger key ≡ op_as old (role at.trigger) variable at.trigger key)
+    → (role at.trigger ≡ Saves → at.trigger ≡ variable.saver → (key : List Part) → new at.trigger key ≡ old at.trigger key)
     → op_of more new others variable at ≡ op_of role old acts variable at
 unfolding op_of
-op_stays_there role more old new acts others variable at as_role act same =
+op_stays_there role more old new acts others variable at as_role act saves =
     (λ i. option_and_then (by_act new (as_role i) variable at) (act i))
-    ∙ ap (λ (f : List Part × Traced → Option Op). option_and_then f (acts at)) (λ i x. same x.0 i)
+    ∙ ap (λ (f : List Part × Traced → Option Op). option_and_then f (acts at)) (λ i x. op_as_same old new (role at.trigger) variable at.trigger saves x.0 i)
 
 -- so it is with the same role and the same shelf
 pub op_same : (role more : ℕ → Role) (old new : Shelves) (acts others : Acts) (variable : Variable) (at : At)
@@ -95,7 +82,7 @@ pub op_same : (role more : ℕ → Role) (old new : Shelves) (acts others : Acts
     → op_of more (admits_on new) others variable at ≡ op_of role (admits_on old) acts variable at
 op_same role more old new acts others variable at as_role shelf act =
     op_stays_there role more (admits_on old) (admits_on new) acts others variable at as_role act
-    (op_as_same (admits_on old) (admits_on new) at.trigger (same_admits old new at.trigger shelf) (role at.trigger) variable)
+    (λ _ _. same_admits old new at.trigger shelf)
 
 -- no act, no operation
 pub no_op_there : (role : ℕ → Role) (admits : Admits) (acts : Acts) (variable : Variable) (at : At) → acts at ≡ None → op_of role admits acts variable at ≡ None
@@ -123,7 +110,7 @@ no_op_of role admits acts variable at saves reads =
 -- ---- entries
 
 -- what is kept at a place goes by its trigger's values, and by the operations on what the trigger reads
-entry_moves : (at : At) (values others : ValuesBy) → ((pos : Pos) (event : Traced) (saved : Option Pos) → others at.trigger pos event saved ≡ values at.trigger pos event saved)
+pub entry_moves : (at : At) (values others : ValuesBy) → ((pos : Pos) (event : Traced) (saved : Option Pos) → others at.trigger pos event saved ≡ values at.trigger pos event saved)
     → (ops more : Variable → Ops) (hits : HitsHere) (read : Option Pos) (role : Role) (act : Option (List Part × Traced))
     → ((saver : ℕ) → role ≡ Reads saver → (key : List Part) → more (record { saver = saver; key = key }) ≡ ops (record { saver = saver; key = key }))
     → IsEntry values ops at role act hits read → IsEntry others more at role act hits read
@@ -146,20 +133,13 @@ pub right_moves : (triggers others : Triggers) (acts more : Acts) (old new : She
     → IsRight (role_at triggers) (values_by triggers) acts (kept_on old) at → IsRight (role_at others) (values_by others) more (kept_on new) at
 right_moves triggers others acts more old new at hist role act shelf ops is =
     subst (λ (x : (Role × Option (List Part × Traced)) × (HitsHere × Option Pos)). IsEntry (values_by others) (kept_on new).ops at x.0.0 x.0.1 x.1.0 x.1.1)
-    (λ i. ((sym role i, sym act i), (λ key. sym (same_hits old new at.trigger shelf at.pos key) i, sym (same_read old new at.trigger shelf at.pos) i)))
+    (λ i. ((sym role i, sym act i), (λ key. sym (same_hits old new at.trigger shelf (record { spot = traced at.pos; key = key })) i, sym (same_read old new at.trigger shelf at.pos) i)))
     (entry_moves at (values_by triggers) (values_by others) (same_values triggers others at.trigger hist) (kept_on old).ops (kept_on new).ops (hits_here (kept_on old) at) (read_here (kept_on old) at) (role_at triggers at.trigger) (acts at) ops is)
 
 -- where no trigger acts and nothing is kept, that is right
 pub right_none : (role : ℕ → Role) (values : ValuesBy) (acts : Acts) (kept : Kept) (at : At) → acts at ≡ None → read_here kept at ≡ None → ((key : List Part) → hits_here kept at key ≡ None) → IsRight role values acts kept at
 right_none role values acts kept at none read hits =
     subst (λ (act : Option (List Part × Traced)). IsEntry values kept.ops at (role at.trigger) act (hits_here kept at) (read_here kept at)) (sym none) (read, hits)
-
--- where nothing is stale, each place is right
-pub all_right : (role : ℕ → Role) (values : ValuesBy) (admits : Admits) (acts : Acts) (kept : Kept) → IsKept role values admits acts kept → (at : At) → IsRight role values acts kept at
-all_right role values admits acts kept is at = elim (is.entries at) [
-  | inl stale ↦ let never : ◌≡◌ {A = Bool} false true = stale.0 in absurd cc
-  | inr right ↦ right
-]
 
 -- ---- shelves
 

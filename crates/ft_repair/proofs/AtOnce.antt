@@ -13,7 +13,8 @@ use Rattle.ft_kept.specs.Acts.{Acts, AreHeld, acts_of}
 use Rattle.ft_kept.specs.Entries.{IsKept}
 use Rattle.ft_kept.specs.Repairs.{IsHeldAt}
 use Rattle.ft_kept.proofs.Forms.{roles_stay, shelved_stay}
-use Rattle.ft_kept.specs.AtOnce.{AllCome, AllHaveCome, AreGroupsOf, acts_with}
+use Rattle.ft_kept.specs.AtOnce.{AllCome, AllHaveCome}
+use Rattle.ft_shelves.specs.Joining.{AreGroupsOf, acts_with}
 use Rattle.ft_kept.specs.Shelves.{Shelves, FormsStay, admits_on, kept_on}
 use Rattle.ft_lanes.specs.Held.{Lanes}
 use Rattle.ft_pairs.specs.declared.at.At.{At}
@@ -23,10 +24,9 @@ use Rattle.ft_base.specs.Base.{Triggers}
 use Rattle.ft_replay.specs.Merged.{merged}
 use Rattle.ft_replay.specs.Named.{is_on, named, events_on}
 use Rattle.ft_repair.specs.inner.Joining.{HasItsEvents, is_one, with_trigger}
-use Rattle.ft_repair.specs.inner.KeptFor.{AreKeptFor}
-use Rattle.ft_repair.proofs.HeldActs.{held_is}
-use Rattle.ft_repair.proofs.ShelfForms.{shelves_stay}
-use Rattle.ft_repair.proofs.OneTrigger.{IsAmong, act_by, among_all, all_acts_held, on_held, own_acts}
+use Rattle.ft_repair.specs.KeptFor.{AreKeptFor}
+use Rattle.ft_repair.proofs.KeptFor.{held_is, shelves_stay}
+use Rattle.ft_repair.proofs.EventLists.{IsAmong, act_by, among_all, all_acts_held, on_held, own_acts}
 
 -- the named events are a list with an attached trigger's own
 pub named_listed : (triggers : Triggers) (lanes : Lanes) (id : ℕ) (hist : Hist) → map.get triggers id ≡ Some hist
@@ -35,16 +35,12 @@ unfolding named events_on
 named_listed triggers lanes id hist attached es are = record { names = is_on triggers; own = among_all triggers id hist attached; all = are }
 
 -- groups of a list with a trigger's events are those of the events at their places
-module _ (lanes : Lanes) (hist : Hist) (es : List (Pos × Traced)) (listed : HasItsEvents lanes hist es) (groups : Grouped) (are : AreGrouped hist es groups) where
-  pub its_groups : AreGrouped hist (map.entries (events_on listed.names (merged lanes))) groups
-  its_groups = subst (λ (events : List (Pos × Traced)). AreGrouped hist events groups) listed.all are
-
-  pub are_groups : AreGroupsOf hist groups
-  are_groups = record {
-    events = events_on listed.names (merged lanes);
-    stamped = λ pos event is. (held_is lanes pos event (on_held lanes listed.names pos event is)).1;
-    grouped = its_groups;
-  }
+abbrev pub are_groups : (lanes : Lanes) (hist : Hist) (es : List (Pos × Traced)) → HasItsEvents lanes hist es → (groups : Grouped) → AreGrouped hist es groups → AreGroupsOf hist groups
+are_groups lanes hist es listed groups are = record {
+  events = events_on listed.names (merged lanes);
+  stamped = λ pos event is. (held_is lanes pos event (on_held lanes listed.names pos event is)).1;
+  grouped = subst (λ (events : List (Pos × Traced)). AreGrouped hist events groups) listed.all are;
+}
 
 module _ (triggers : Triggers) (lanes : Lanes) (id : ℕ) (hist : Hist) (attached : map.get triggers id ≡ Some hist) (names : Name → Bool) (among : IsAmong hist names) where
   abbrev its_acts : Pos → Option (List Part × Traced)

@@ -1,9 +1,10 @@
 -- The events of a list come to what is kept, or go from it, one by one, at all triggers or at one.
-use Rattle.std.proofs.Common.{◌≡◌, ℕ, Bool, true, false, cond, List, [], ◌∷◌, refl, sym, ap, subst, ◌∙◌, Option, Some, None, is_some, inl, inr}
+use Rattle.std.proofs.Common.{◌≡◌, ℕ, Bool, true, false, cond, List, [], ◌∷◌, refl, sym, ap, subst, ◌∙◌, Option, Some, None, is_some}
 use Rattle.std.specs.Prelude.{◌&&◌, if◌then◌else◌, option_and_then}
 use Rattle.std.specs.List.{AllByRecursion, IsDistinct}
 use Rattle.std.specs.Map.{keys_of}
-use Rattle.std.specs.Ordering.{eq_by_cmp}
+use Rattle.std.specs.Cmp.{tied_then, unsigned_tied}
+use Rattle.std.specs.Ordering.{nat_cmp, eq_by_cmp}
 use Rattle.std.specs.FinMap as map
 use Rattle.std.specs.FinMap.{find}
 use Rattle.std.proofs.lemmas.Bool.{eq-eqb, eqb-true}
@@ -19,15 +20,16 @@ use Rattle.ft_kept.specs.Repairs.{IsHeldAt}
 use Rattle.ft_kept.specs.Shelves.{Shelves, FormsStay}
 use Rattle.ft_kept.specs.Signs.{event_before, event_after}
 use Rattle.ft_kept.specs.Views.{act_by_id, act_under, set, with_some}
-use Rattle.ft_kept.proofs.Views.{attached_act, set_here, set_apart}
+use Rattle.ft_kept.proofs.Views.{attached_act}
 use Rattle.ft_shelves.specs.declared.sign.Sign.{Sign}
-use Rattle.ft_shelves.proofs.Decided.{at_decided, itself}
+use Rattle.ft_shelves.proofs.Decided.{itself}
 use Rattle.ft_lanes.specs.Held.{Lanes}
 use Rattle.ft_maps.specs.Entries.{same_from_tie}
+use Rattle.ft_pairs.specs.Edits.{same_at}
 use Rattle.ft_pairs.specs.declared.at.At.{At}
 use Rattle.ft_base.specs.Base.{Triggers}
 use Rattle.ft_repair.specs.inner.Joining.{is_one}
-use Rattle.ft_repair.specs.inner.KeptFor.{AreKeptFor}
+use Rattle.ft_repair.specs.KeptFor.{AreKeptFor}
 use Rattle.ft_repair.proofs.KeptFor.{changed_for, input_is, views_of}
 
 -- an input on the way: at some places the first one, elsewhere the last one
@@ -148,30 +150,15 @@ module _ {triggers : Triggers} {lanes : Lanes} {mine : ℕ → Bool} {sign : Sig
 module _ (triggers : Triggers) (id : ℕ) (hist : Hist) (attached : map.get triggers id ≡ Some hist) where
   -- setting its act is changing the event at it alone
   set_alone : (input : Acts) (pos : Pos) (event : Option Traced) → set input (record { pos = pos; trigger = id }) (option_and_then (act_under hist) event) ≡ with_some triggers input pos event (is_one id)
-  set_alone input pos event i q = alone q i
+  set_alone input pos event i q = (ap (λ (b : Bool). cond b (option_and_then (act_under hist) event) (input q)) same ∙ by (eq_by_cmp pos_cmp q.pos pos) (is_one id q.trigger) refl) i
     where
-      here : At
-      here = record { pos = pos; trigger = id }
+      same : same_at q (record { pos = pos; trigger = id }) ≡ (eq_by_cmp pos_cmp q.pos pos && is_one id q.trigger)
+      same = sym (tied_then (pos_cmp q.pos pos) (nat_cmp q.trigger id)) ∙ ap (λ (b : Bool). eq_by_cmp pos_cmp q.pos pos && b) (unsigned_tied q.trigger id)
 
-      act : Option (List Part × Traced)
-      act = option_and_then (act_under hist) event
-
-      at_place : with_some triggers input pos event (is_one id) here ≡ act
-      at_place =
-          ap (λ (b : Bool). cond b (cond (is_one id id) (act_by_id triggers id event) (input here)) (input here)) (itself pos_cmp_total pos)
-          ∙ ap (λ (b : Bool). cond b (act_by_id triggers id event) (input here)) (eq-eqb id id refl)
-          ∙ attached_act triggers id hist attached event
-
-      elsewhere : (q : At) → (q ≡ here → ⊥) → (tie own : Bool) → eq_by_cmp pos_cmp q.pos pos ≡ tie → is_one id q.trigger ≡ own → input q ≡ cond tie (cond own (act_by_id triggers q.trigger event) (input q)) (input q)
-      elsewhere q apart true true tie own = absurd (apart (λ i. record { pos = same_from_tie pos_same q.pos pos tie i; trigger = eqb-true q.trigger id own i }))
-      elsewhere q apart true false tie other = refl
-      elsewhere q apart false own untied its = refl
-
-      alone : (q : At) → set input here act q ≡ with_some triggers input pos event (is_one id) q
-      alone q = elim (at_decided q here) [
-        | inl same ↦ subst (λ (p : At). set input here act p ≡ with_some triggers input pos event (is_one id) p) (sym same) (set_here input here act ∙ sym at_place)
-        | inr apart ↦ set_apart input here act q apart ∙ elsewhere q apart (eq_by_cmp pos_cmp q.pos pos) (is_one id q.trigger) refl refl
-      ]
+      by : (tie own : Bool) → is_one id q.trigger ≡ own → cond (tie && own) (option_and_then (act_under hist) event) (input q) ≡ cond tie (cond own (act_by_id triggers q.trigger event) (input q)) (input q)
+      by true true own = sym (ap (λ (k : ℕ). act_by_id triggers k event) (eqb-true q.trigger id own) ∙ attached_act triggers id hist attached event)
+      by true false other = refl
+      by false own is = refl
 
 module _ {triggers : Triggers} (id : ℕ) {hist : Hist} (attached : map.get triggers id ≡ Some hist)
     {lanes : Lanes} {sign : Sign} {first last : Acts} {e : Pos × Traced} {rest : List (Pos × Traced)} {old : Shelves} (is : IsChanging triggers lanes (is_one id) sign first last (e ∷ rest) old) where

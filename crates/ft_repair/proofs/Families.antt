@@ -1,21 +1,20 @@
 -- The family of a trigger: no other reads a saver of it.
-use Rattle.std.proofs.Common.{◌≡◌, ◌⊎◌, ℕ, Bool, true, false, true≢false, inl, inr, List, refl, sym, ap, ◌∙◌, Option, Some, None, Result, Ok, Err, unwrap_or, ⊎_elim}
+use Rattle.std.proofs.Common.{◌≡◌, ◌⊎◌, ℕ, Bool, true, false, true≢false, inl, inr, List, refl, sym, ap, ◌∙◌, Option, Some, None, unwrap_or, ⊎_elim}
 use Rattle.std.specs.Prelude.{◌==◌, ◌||◌}
 use Rattle.std.specs.Option.{option_map_or}
 use Rattle.std.specs.FinMap as map
-use Rattle.std.proofs.lemmas.Bool.{eq-eqb, eqb-true, eqb-false, or_parts}
+use Rattle.std.proofs.lemmas.Bool.{cases_Bool, eq-eqb, eqb-true, eqb-false, or_parts}
 use Rattle.ft_hist.specs.Hist.{Hist}
 use Rattle.ft_hist.specs.declared.label.Var.{Var}
 use Rattle.ft_hist.specs.declared.label.Var.TheVariants as vars
 use Rattle.ft_pairs.specs.declared.role.Role.{Role}
 use Rattle.ft_pairs.specs.declared.role.Role.TheVariants.{Plain, Saves, Reads}
-use Rattle.ft_base.specs.After.{after_remove, reader_on}
-use Rattle.ft_base.specs.Base.{Base, Triggers}
-use Rattle.ft_base.specs.declared.refused.Refused.{Refused}
-use Rattle.ft_base.specs.OneTrigger.{is_kin, reads_from, is_in_family}
+use Rattle.ft_base.specs.Base.{Triggers}
+use Rattle.ft_base.specs.OneTrigger.{reads_from, is_in_family}
 use Rattle.ft_base.specs.Reachable.{HasSaver, HasSavers}
 use Rattle.ft_base.specs.Roles.{is_reader, saves_name, role_of, role_at}
-use Rattle.ft_base.proofs.Cases.{remove-ok}
+use Rattle.ft_repair.specs.inner.Joining.{family_of, is_meant}
+use Rattle.ft_answers.specs.Deferral.{ReadsNothing}
 use Rattle.ft_base.proofs.Savers.{reads_of, saver-saves}
 
 pub reads_from_is : (id : ℕ) (role : Role) → reads_from id role ≡ true → role ≡ Reads id
@@ -32,11 +31,10 @@ module _ (triggers : Triggers) (id : ℕ) where
       true≢false (sym (ap (reads_from id) reads ∙ eq-eqb id id refl) ∙ (or_parts (other == id) (reads_from id (role_at triggers other)) out).1)
 
   pub inside_is : (other : ℕ) → is_in_family triggers id other ≡ true → (other ≡ id) ⊎ (role_at triggers other ≡ Reads id)
-  inside_is other inside =
-      elim (other == id) as (λ (b : Bool). (other == id) ≡ b → (b || reads_from id (role_at triggers other)) ≡ true → (other ≡ id) ⊎ (role_at triggers other ≡ Reads id)) [
-        | true ↦ λ same _. inl (eqb-true other id same)
-        | false ↦ λ _ reads. inr (reads_from_is id (role_at triggers other) reads)
-      ] refl inside
+  inside_is other inside = ⊎_elim
+      (λ same. inl (eqb-true other id same))
+      (λ apart. inr (reads_from_is id (role_at triggers other) (sym (ap (λ (b : Bool). b || reads_from id (role_at triggers other)) apart) ∙ inside)))
+      (cases_Bool (other == id))
 
 -- the role of a trigger that is attached
 pub role_there : (triggers : Triggers) (id : ℕ) (hist : Hist) → map.get triggers id ≡ Some hist → role_at triggers id ≡ role_of triggers hist.variable
@@ -62,6 +60,11 @@ pub not_reads : (triggers : Triggers) (variable : Option Var) → is_reader vari
 not_reads triggers variable quiet saver is =
     let reads = reads_of triggers variable saver is in
     true≢false (sym (ap is_reader reads.1.1.0) ∙ quiet)
+
+pub nothing_read : (triggers : Triggers) (id : ℕ) → ReadsNothing triggers id → (saver : ℕ) → role_at triggers id ≡ Reads saver → ⊥
+nothing_read triggers id nothing saver is =
+    let attached = attached_as triggers id (reads_some (role_at triggers id) saver is) in
+    not_reads triggers attached.0.variable (nothing attached.0 attached.1) saver (sym (role_there triggers id attached.0 attached.1) ∙ is)
 
 -- a trigger that saves a name is a saver
 saves_role : (triggers : Triggers) (name : List ℕ) (variable : Option Var) → saves_name name variable ≡ true → role_of triggers variable ≡ Saves
@@ -90,15 +93,6 @@ closed triggers id savers reader saver out inside reads = ⊎_elim
     (λ other. let both : ◌≡◌ {A = Role} Saves (Reads id) = sym (read_saves triggers savers reader saver reads) ∙ other in absurd cc)
     (inside_is triggers id saver inside)
 
--- a trigger that is attached and can't be removed reads nothing
-pub quiet : (base : Base) (id : ℕ) (hist : Hist) (refused : Refused) → map.get base.triggers id ≡ Some hist → after_remove base id ≡ Err refused → (saver : ℕ) → role_at base.triggers id ≡ Reads saver → ⊥
-quiet base id hist refused attached fails saver is =
-    let role : role_of base.triggers hist.variable ≡ Reads saver = sym (role_there base.triggers id hist attached) ∙ is in
-    let reads = reads_of base.triggers hist.variable saver role in
-    let removed = remove-ok base id hist attached (ap (reader_on base.triggers) reads.1.1.0) in
-    let both : ◌≡◌ {A = Result (Base × ℕ) Refused} (Ok (record base { triggers = map.remove base.triggers id }, id)) (Err refused) = sym removed ∙ fails in
-    absurd cc
-
 -- whether an attached trigger is of a family, by its role
-pub in_family : (triggers : Triggers) (id : ℕ) (e : ℕ × Hist) → map.get triggers e.0 ≡ Some e.1 → {role : Role} → role ≡ role_of triggers e.1.variable → {kin is : Bool} → kin ≡ is_kin id e.0 role → kin ≡ is → is_in_family triggers id e.0 ≡ is
-in_family triggers id e attached role kin is = ap (is_kin id e.0) (role_there triggers e.0 e.1 attached ∙ sym role) ∙ sym kin ∙ is
+pub in_family : (triggers : Triggers) (head : Option ℕ) (e : ℕ × Hist) → map.get triggers e.0 ≡ Some e.1 → {role : Role} → role ≡ role_of triggers e.1.variable → {kin is : Bool} → kin ≡ is_meant head e.0 role → kin ≡ is → family_of triggers head e.0 ≡ is
+in_family triggers head e attached role kin is = ap (is_meant head e.0) (role_there triggers e.0 e.1 attached ∙ sym role) ∙ sym kin ∙ is

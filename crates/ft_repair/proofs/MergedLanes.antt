@@ -28,18 +28,38 @@ tie_nat = same_from_tie nat_cmp-IsAntisymmetric
 abbrev pub in_lane : ℕ → Option Lane → Option Traced
 in_lane line lane = option_and_then (λ (l : Lane). map.get l.events line) lane
 
+-- an event, if it has this stamp
+abbrev pub on_stamp : ℕ → Traced → Option Traced
+on_stamp stamp e = if e.stamp == stamp then Some e else None
+
+-- whether a CPU and a line are these
+abbrev on_line : ℕ → ℕ → ℕ → ℕ → Bool
+on_line cpu line c l = eq_by_cmp nat_cmp c cpu && eq_by_cmp nat_cmp l line
+
+-- one line has another event, or none
+module _ (lanes : Lanes) (cpu line : ℕ) (own : Option Traced) where
+  -- so it is with another lane for the CPU
+  one_line : (lane : Lane) → ((l : ℕ) → map.get lane.events l ≡ cond (eq_by_cmp nat_cmp l line) own (event_at lanes cpu l)) → (c l : ℕ) → event_at (map.insert lanes cpu lane) c l ≡ cond (on_line cpu line c l) own (event_at lanes c l)
+  one_line lane its c l =
+      ap (in_lane l) (get-insert nat_cmp_total lanes cpu lane c)
+      ∙ elim (eq_by_cmp nat_cmp c cpu) as (λ (b : Bool). eq_by_cmp nat_cmp c cpu ≡ b → in_lane l (cond b (Some lane) (map.get lanes c)) ≡ cond (b && eq_by_cmp nat_cmp l line) own (event_at lanes c l)) [
+        | true ↦ λ tie. its l ∙ ap (λ (k : ℕ). cond (eq_by_cmp nat_cmp l line) own (event_at lanes k l)) (sym (tie_nat c cpu tie))
+        | false ↦ λ _. refl
+      ] refl
+
+  -- and then it is merged
+  merged_line : (others : Lanes) → ((c l : ℕ) → event_at others c l ≡ cond (on_line cpu line c l) own (event_at lanes c l)) → (q : Pos) → map.get (merged others) q ≡ cond (on_line cpu line q.cpu q.line) (option_and_then (on_stamp q.stamp) own) (held_at lanes q)
+  merged_line others its q = merged_at q others ∙ ap (option_and_then (on_stamp q.stamp)) (its q.cpu q.line) ∙ split (on_line cpu line q.cpu q.line)
+    where
+      split : (b : Bool) → option_and_then (on_stamp q.stamp) (cond b own (event_at lanes q.cpu q.line)) ≡ cond b (option_and_then (on_stamp q.stamp) own) (held_at lanes q)
+      split true = refl
+      split false = refl
+
 event_with : (lanes : Lanes) (event : Traced) (cpu line : ℕ)
     → event_at (lanes_with lanes event) cpu line ≡ cond (eq_by_cmp nat_cmp cpu event.cpu && eq_by_cmp nat_cmp line (lane_or_new lanes event.cpu).next) (Some event) (event_at lanes cpu line)
-event_with lanes event cpu line =
-    ap (in_lane line) (get-insert nat_cmp_total lanes event.cpu (lane_with (lane_or_new lanes event.cpu) event) cpu)
-    ∙ elim (eq_by_cmp nat_cmp cpu event.cpu) as (λ (b : Bool). eq_by_cmp nat_cmp cpu event.cpu ≡ b
-    → in_lane line (cond b (Some (lane_with (lane_or_new lanes event.cpu) event)) (map.get lanes cpu))
-    ≡ cond (b && eq_by_cmp nat_cmp line (lane_or_new lanes event.cpu).next) (Some event) (event_at lanes cpu line)) [
-      | true ↦ λ tie.
-          get-insert nat_cmp_total (lane_or_new lanes event.cpu).events (lane_or_new lanes event.cpu).next event line
-          ∙ ap (λ (o : Option Traced). cond (eq_by_cmp nat_cmp line (lane_or_new lanes event.cpu).next) (Some event) o) (of_new (map.get lanes event.cpu) line ∙ ap (λ (k : ℕ). in_lane line (map.get lanes k)) (sym (tie_nat cpu event.cpu tie)))
-      | false ↦ λ _. refl
-    ] refl
+event_with lanes event = one_line lanes event.cpu (lane_or_new lanes event.cpu).next (Some event) (lane_with (lane_or_new lanes event.cpu) event) (λ l.
+    get-insert nat_cmp_total (lane_or_new lanes event.cpu).events (lane_or_new lanes event.cpu).next event l
+    ∙ ap (λ (o : Option Traced). cond (eq_by_cmp nat_cmp l (lane_or_new lanes event.cpu).next) (Some event) o) (of_new (map.get lanes event.cpu) l))
   where
     of_new : (lane : Option Lane) (line : ℕ) → map.get (unwrap_or lane new_lane).events line ≡ in_lane line lane
     of_new None line = get-empty {X = Traced} nat_cmp line
@@ -49,20 +69,13 @@ event_without : (lanes : Lanes) (cpu line c l : ℕ) → event_at (lanes_without
 event_without lanes cpu line c l =
     elim (map.get lanes cpu) as (λ (o : Option Lane). map.get lanes cpu ≡ o
     → event_at (option_map_or (λ (lane : Lane). map.insert lanes cpu (lane_without lane line)) o lanes) c l ≡ cond (eq_by_cmp nat_cmp c cpu && eq_by_cmp nat_cmp l line) None (event_at lanes c l)) [
-      | None ↦ λ none. elim (eq_by_cmp nat_cmp c cpu) as (λ (b : Bool). eq_by_cmp nat_cmp c cpu ≡ b → event_at lanes c l ≡ cond (b && eq_by_cmp nat_cmp l line) None (event_at lanes c l)) [
-        | false ↦ λ _. refl
-        | true ↦ λ tie.
-            let gone : event_at lanes c l ≡ None = ap (in_lane l) (ap (map.get lanes) (tie_nat c cpu tie) ∙ none) in
-            gone ∙ sym (elim (eq_by_cmp nat_cmp l line) as (λ (b : Bool). cond b None (event_at lanes c l) ≡ None) [ true ↦ refl | false ↦ gone ])
-      ] refl
-      | Some lane ↦ λ some.
-          ap (in_lane l) (get-insert nat_cmp_total lanes cpu (lane_without lane line) c)
-          ∙ elim (eq_by_cmp nat_cmp c cpu) as (λ (b : Bool). eq_by_cmp nat_cmp c cpu ≡ b
-          → in_lane l (cond b (Some (lane_without lane line)) (map.get lanes c)) ≡ cond (b && eq_by_cmp nat_cmp l line) None (event_at lanes c l)) [
-            | false ↦ λ _. refl
-            | true ↦ λ tie. get-remove nat_cmp_total lane.events line l ∙ ap (λ (o : Option Traced). cond (eq_by_cmp nat_cmp l line) None o) (sym (ap (in_lane l) (ap (map.get lanes) (tie_nat c cpu tie) ∙ some)))
-          ] refl
+      | None ↦ λ none. stays (eq_by_cmp nat_cmp c cpu && eq_by_cmp nat_cmp l line) (event_at lanes c l) (λ tie. ap (in_lane l) (ap (map.get lanes) (tie_nat c cpu (and_parts (eq_by_cmp nat_cmp c cpu) (eq_by_cmp nat_cmp l line) tie).0) ∙ none))
+      | Some lane ↦ λ some. one_line lanes cpu line None (lane_without lane line) (λ k. get-remove nat_cmp_total lane.events line k ∙ ap (λ (o : Option Traced). cond (eq_by_cmp nat_cmp k line) None o) (sym (ap (in_lane k) some))) c l
     ] refl
+  where
+    stays : (b : Bool) (o : Option Traced) → (b ≡ true → o ≡ None) → o ≡ cond b None o
+    stays true o none = none refl
+    stays false o none = refl
 
 -- ---- places
 
@@ -71,10 +84,6 @@ pub tie_at : (q pos : Pos) → eq_by_cmp pos_cmp q pos ≡ (is_eq (nat_cmp q.sta
 tie_at q pos =
     sym (tied_then (nat_cmp q.stamp pos.stamp) (ordering_then (nat_cmp q.cpu pos.cpu) (nat_cmp q.line pos.line)))
     ∙ ap (λ (b : Bool). is_eq (nat_cmp q.stamp pos.stamp) && b) (sym (tied_then (nat_cmp q.cpu pos.cpu) (nat_cmp q.line pos.line)))
-
--- an event, where it has this stamp
-abbrev pub on_stamp : ℕ → Traced → Option Traced
-on_stamp stamp e = if e.stamp == stamp then Some e else None
 
 stamp_tie : (stamp : ℕ) (e : Traced) → on_stamp stamp e ≡ cond (is_eq (nat_cmp stamp e.stamp)) (Some e) None
 stamp_tie stamp e = ap (λ (b : Bool). cond b (Some e) None) (sym (unsigned_tied stamp e.stamp ∙ nat_eq_equiv.symm stamp e.stamp))
@@ -86,10 +95,6 @@ one_placed true true e old none = refl
 one_placed true false e old none = refl
 one_placed false true e old none = sym (none refl)
 one_placed false false e old none = refl
-
-split_stamp : (q : ℕ) (line : Bool) (new old : Option Traced) → option_and_then (on_stamp q) (cond line new old) ≡ cond line (option_and_then (on_stamp q) new) (option_and_then (on_stamp q) old)
-split_stamp q true new old = refl
-split_stamp q false new old = refl
 
 module _ (base : Base) (reachable : IsReachable base) (event : Traced) where
   abbrev new_line : ℕ
@@ -122,9 +127,7 @@ module _ (base : Base) (reachable : IsReachable base) (event : Traced) where
       let line = eq_by_cmp nat_cmp q.cpu event.cpu && eq_by_cmp nat_cmp q.line new_line in
       get-insert pos_cmp_total (merged base.lanes) new_place event q
       ∙ (λ i. cond (tie_at q new_place i) (Some event) (merged_at q base.lanes i))
-      ∙ sym (merged_at q (lanes_with base.lanes event)
-      ∙ ap (option_and_then (on_stamp q.stamp)) (event_with base.lanes event q.cpu q.line)
-      ∙ split_stamp q.stamp line (Some event) (event_at base.lanes q.cpu q.line)
+      ∙ sym (merged_line base.lanes event.cpu new_line (Some event) (lanes_with base.lanes event) (event_with base.lanes event) q
       ∙ ap (λ (o : Option Traced). cond line o (held_at base.lanes q)) (stamp_tie q.stamp event)
       ∙ one_placed (is_eq (nat_cmp q.stamp event.stamp)) line event (held_at base.lanes q) (free_place q)))
 
@@ -149,11 +152,8 @@ module _ (lanes : Lanes) (cpu line : ℕ) (event : Traced) (there : event_at lan
   abbrev its_place : Pos
   its_place = record { stamp = event.stamp; cpu = cpu; line = line }
 
-  abbrev on_line : Pos → Bool
-  on_line q = eq_by_cmp nat_cmp q.cpu cpu && eq_by_cmp nat_cmp q.line line
-
   -- at its line nothing else is held
-  its_line : (q : Pos) → on_line q ≡ true → held_at lanes q ≡ cond (is_eq (nat_cmp q.stamp event.stamp)) (Some event) None
+  its_line : (q : Pos) → on_line cpu line q.cpu q.line ≡ true → held_at lanes q ≡ cond (is_eq (nat_cmp q.stamp event.stamp)) (Some event) None
   its_line q tie =
       let parts = and_parts (eq_by_cmp nat_cmp q.cpu cpu) (eq_by_cmp nat_cmp q.line line) tie in
       ap (option_and_then (on_stamp q.stamp)) ((λ i. event_at lanes (tie_nat q.cpu cpu parts.0 i) (tie_nat q.line line parts.1 i)) ∙ there) ∙ stamp_tie q.stamp event
@@ -167,10 +167,8 @@ module _ (lanes : Lanes) (cpu line : ℕ) (event : Traced) (there : event_at lan
   pub merged_one_less : map.get events its_place ≡ None → map.insert events its_place event ≡ merged lanes → merged (lanes_without lanes cpu line) ≡ events
   merged_one_less absent is = same_map pos_cmp_total pos_same (merged (lanes_without lanes cpu line)) events (λ q.
       let tied = tie_at q its_place in
-      merged_at q (lanes_without lanes cpu line)
-      ∙ ap (option_and_then (on_stamp q.stamp)) (event_without lanes cpu line q.cpu q.line)
-      ∙ split_stamp q.stamp (on_line q) None (event_at lanes q.cpu q.line)
-      ∙ gone_by (is_eq (nat_cmp q.stamp event.stamp)) (on_line q) (held_at lanes q) (map.get events q) (Some event) (its_line q)
+      merged_line lanes cpu line None (lanes_without lanes cpu line) (event_without lanes cpu line) q
+      ∙ gone_by (is_eq (nat_cmp q.stamp event.stamp)) (on_line cpu line q.cpu q.line) (held_at lanes q) (map.get events q) (Some event) (its_line q)
       (sym (merged_at q lanes) ∙ ap (λ (m : Events). map.get m q) (sym is) ∙ get-insert pos_cmp_total events its_place event q ∙ ap (λ (b : Bool). cond b (Some event) (map.get events q)) tied)
       (λ tie. ap (map.get events) (same_from_tie pos_same q its_place (tied ∙ tie)) ∙ absent))
 

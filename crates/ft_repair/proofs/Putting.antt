@@ -1,14 +1,15 @@
 -- Trigger by trigger a family gets new shelves, and then its acts.
-use Rattle.std.proofs.Common.{◌≡◌, ◌+◌, ◌≤◌, ℕ, Bool, true, false, cond, List, [], ◌∷◌, length, refl, sym, ap, subst, ◌∙◌, Option, Some, None, is_some, unwrap_or, arith}
+use Rattle.std.proofs.Common.{◌≡◌, ◌+◌, ◌≤◌, ℕ, Bool, true, false, cond, List, [], ◌∷◌, length, refl, sym, ap, subst, ◌∙◌, Option, Some, None, is_some, ⊎_elim, arith}
 use Rattle.std.specs.Prelude.{◌==◌, ◌&&◌, if◌then◌else◌}
 use Rattle.std.specs.List.{AllByRecursion, sum_by}
 use Rattle.std.specs.List.Sorted.{IsStrictlySortedBy}
 use Rattle.std.specs.Map.{keys_of}
-use Rattle.std.specs.Ordering.{nat_cmp, eq_by_cmp}
+use Rattle.std.specs.Ordering.{nat_cmp}
 use Rattle.std.specs.Cmp.{eq_by_cmp_equiv, nat_cmp_total, unsigned_tied}
 use Rattle.std.specs.FinMap as map
-use Rattle.std.specs.FinMap.{find, get-entries, get-insert, len-entries, entries_sorted, nat_cmp-IsAntisymmetric}
-use Rattle.std.proofs.lemmas.Bool.{eqb-true, true≢false}
+use Rattle.std.specs.FinMap.{find, get-entries, len-entries, entries_sorted, nat_cmp-IsAntisymmetric}
+use Rattle.std.proofs.lemmas.Bool.{cases_eq, eqb-false, true≢false}
+use Rattle.std.proofs.lemmas.Option.{same_Some}
 use Rattle.std.proofs.lemmas.List.Sums.{sum_by-cons}
 use Rattle.std.proofs.lemmas.Map.Keys.{sorted_tail}
 use Rattle.ft_fields.specs.Traced.{Traced, name_of}
@@ -18,7 +19,7 @@ use Rattle.ft_hist.specs.Hist.{Hist}
 use Rattle.ft_hist.specs.Hit.{same_name}
 use Rattle.ft_hist.specs.Tests.{tests_taken}
 use Rattle.ft_lanes.specs.Held.{Lanes}
-use Rattle.ft_maps.specs.Entries.{same_from_tie, strictly_sorted}
+use Rattle.ft_maps.specs.Entries.{get-insert_other, get-insert_same, strictly_sorted}
 use Rattle.ft_maps.specs.Mapped.{entries_by}
 use Rattle.ft_pairs.specs.declared.at.At.{At}
 use Rattle.ft_kept.specs.Acts.{Acts, acts_of}
@@ -30,16 +31,16 @@ use Rattle.ft_base.proofs.Apart.{entries_found}
 use Rattle.ft_answers.specs.Costs.{named_in}
 use Rattle.ft_replay.specs.Merged.{merged}
 use Rattle.ft_replay.specs.Named.{events_on}
+use Rattle.ft_shelves.proofs.Decided.{untied}
 use Rattle.ft_store.specs.Stored.{held}
 use Rattle.ft_store.specs.declared.stored.Stored.{Stored}
 use Rattle.ft_replay.proofs.Places.{none_later}
-use Rattle.ft_repair.specs.Outside.{acts_outside}
-use Rattle.ft_repair.specs.inner.Joining.{AreRenewed, HasNewShelf, is_one, with_trigger}
-use Rattle.ft_repair.specs.inner.KeptFor.{AreKeptFor}
+use Rattle.ft_repair.specs.Outside.{AreRenewed, HasNewShelf, acts_outside}
+use Rattle.ft_repair.specs.inner.Joining.{is_one, with_trigger}
+use Rattle.ft_repair.specs.KeptFor.{AreKeptFor}
 use Rattle.ft_repair.proofs.Alike.{no_act_of}
 use Rattle.ft_repair.proofs.KeptFor.{input_is, told_for}
-use Rattle.ft_repair.proofs.OneTrigger.{own_events}
-use Rattle.ft_repair.proofs.Unpacked.{all_of_them}
+use Rattle.ft_repair.proofs.EventLists.{own_events, all_of_them}
 
 -- ---- new shelves, one by one
 
@@ -59,44 +60,42 @@ module _ (triggers : Triggers) (family : ℕ → Bool) (old : Shelves) where
     attached = entries_found nat_cmp nat_cmp_total triggers;
   }
 
+-- what stands under another number than the first's stands behind it
+found_behind : {X : Type 0} (e : ℕ × X) (rest : List (ℕ × X)) (id : ℕ) → (id ≡ e.0 → ⊥) → find nat_cmp id (e ∷ rest) ≡ find nat_cmp id rest
+found_behind {X} e rest id apart = ap (λ (b : Bool). cond b (Some e.1) (find nat_cmp id rest)) (untied nat_cmp_total nat_cmp-IsAntisymmetric id e.0 apart)
+
 module _ {triggers : Triggers} {family : ℕ → Bool} {old : Shelves} {e : ℕ × Hist} {rest : List (ℕ × Hist)} {now : Shelves} (is : AreRenewedBut triggers family old (e ∷ rest) now) where
+  -- who is of the family is another than one who isn't
+  other_than : (is_in : ℕ → Bool) (id other : ℕ) → is_in id ≡ true → is_in other ≡ false → id ≡ other → ⊥
+  other_than is_in id other inside out same = true≢false (sym inside ∙ ap is_in same ∙ out)
+
   -- one that is not of the family
   pub renewed_skip : family e.0 ≡ false → AreRenewedBut triggers family old rest now
   renewed_skip out = record {
     stay = is.stay;
     none = is.none;
-    fresh = λ id hist inside there gone. is.fresh id hist inside there
-        (elim (eq_by_cmp nat_cmp id e.0) as (λ (b : Bool). eq_by_cmp nat_cmp id e.0 ≡ b → cond b (Some e.1) (find nat_cmp id rest) ≡ None) [
-          | true ↦ λ tie. absurd (true≢false (sym inside ∙ ap family (same_from_tie nat_cmp-IsAntisymmetric id e.0 tie) ∙ out))
-          | false ↦ λ _. gone
-        ] refl);
+    fresh = λ id hist inside there gone. is.fresh id hist inside there (found_behind e rest id (other_than family id e.0 inside out) ∙ gone);
     attached = is.attached.1;
   }
 
   -- one that is
   module _ (more : Shelves) (adds : AddsShelf e.0 (role_of triggers e.1.variable) e.1.size now more) where
-    at_id : (id : ℕ) → map.get more id ≡ cond (eq_by_cmp nat_cmp id e.0) (Some adds.0) (map.get now id)
-    at_id id = ap (λ (s : Shelves). map.get s id) adds.1.0 ∙ get-insert nat_cmp_total now e.0 adds.0 id
-
     elsewhere : (id : ℕ) → (id ≡ e.0 → ⊥) → map.get more id ≡ map.get now id
-    elsewhere id apart = at_id id ∙ (elim (eq_by_cmp nat_cmp id e.0) as (λ (b : Bool). eq_by_cmp nat_cmp id e.0 ≡ b → cond b (Some adds.0) (map.get now id) ≡ map.get now id) [
-      | true ↦ λ tie. absurd (apart (same_from_tie nat_cmp-IsAntisymmetric id e.0 tie))
-      | false ↦ λ _. refl
-    ] refl)
+    elsewhere id apart = ap (λ (s : Shelves). map.get s id) adds.1.0 ∙ get-insert_other nat_cmp_total nat_cmp-IsAntisymmetric now e.0 adds.0 id apart
+
+    its_own : HasNewShelf triggers e.1 (map.get more e.0)
+    its_own = (adds.0, (ap (λ (s : Shelves). map.get s e.0) adds.1.0 ∙ get-insert_same nat_cmp_total now e.0 adds.0, adds.1.1))
 
     pub renewed_more : family e.0 ≡ true → AreRenewedBut triggers family old rest more
     renewed_more member = record {
-      stay = λ id out. elsewhere id (λ same. true≢false (sym member ∙ ap family (sym same) ∙ out)) ∙ is.stay id out;
+      stay = λ id out. elsewhere id (λ same. other_than family e.0 id member out (sym same)) ∙ is.stay id out;
       none = λ id gone. elsewhere id (λ same. let both : ◌≡◌ {A = Option Hist} None (Some e.1) = sym gone ∙ ap (map.get triggers) same ∙ is.attached.0 in absurd cc) ∙ is.none id gone;
-      fresh = λ id hist inside there gone. elim (eq_by_cmp nat_cmp id e.0) as (λ (b : Bool). eq_by_cmp nat_cmp id e.0 ≡ b → HasNewShelf triggers hist (map.get more id)) [
-        | true ↦ λ tie.
-            let same : id ≡ e.0 = same_from_tie nat_cmp-IsAntisymmetric id e.0 tie in
-            subst (λ (h : Hist). HasNewShelf triggers h (map.get more id)) (ap (λ (o : Option Hist). unwrap_or o hist) (sym is.attached.0 ∙ ap (map.get triggers) (sym same) ∙ there))
-            (adds.0, (at_id id ∙ ap (λ (b : Bool). cond b (Some adds.0) (map.get now id)) tie, adds.1.1))
-        | false ↦ λ other.
-            let kept : map.get more id ≡ map.get now id = at_id id ∙ ap (λ (b : Bool). cond b (Some adds.0) (map.get now id)) other in
-            subst (HasNewShelf triggers hist) (sym kept) (is.fresh id hist inside there (ap (λ (b : Bool). cond b (Some e.1) (find nat_cmp id rest)) other ∙ gone))
-      ] refl;
+      fresh = λ id hist inside there gone. ⊎_elim
+          (λ same.
+          let own : e.1 ≡ hist = same_Some e.1 hist (sym is.attached.0 ∙ ap (map.get triggers) (sym same) ∙ there) in
+          subst (λ (x : ℕ × Hist). HasNewShelf triggers x.1 (map.get more x.0)) (λ i. (sym same i, own i)) its_own)
+          (λ apart. subst (HasNewShelf triggers hist) (sym (elsewhere id apart)) (is.fresh id hist inside there (found_behind e rest id apart ∙ gone)))
+          (cases_eq id e.0);
       attached = is.attached.1;
     }
 
@@ -113,27 +112,10 @@ renewed_all none is = record { stay = is.stay; none = is.none; fresh = λ id his
 abbrev but_one : ℕ → (ℕ → Bool) → ℕ → Bool
 but_one id idle other = if is_one id other then false else idle other
 
--- the same acts, where who has some is idle alike
 module _ (triggers : Triggers) (lanes : Lanes) where
-  acts_alike : (idle other : ℕ → Bool) → ((id : ℕ) (hist : Hist) → map.get triggers id ≡ Some hist → idle id ≡ other id) → acts_outside idle triggers lanes ≡ acts_outside other triggers lanes
-  acts_alike idle other alike i at =
-      (elim (map.get triggers at.trigger) as (λ (o : Option Hist). map.get triggers at.trigger ≡ o → acts_outside idle triggers lanes at ≡ acts_outside other triggers lanes at) [
-        | None ↦ λ none. no_acts idle at none ∙ sym (no_acts other at none)
-        | Some hist ↦ λ there. ap (λ (b : Bool). if b then None else acts_of triggers (merged lanes) at) (alike at.trigger hist there)
-      ] refl) i
-    where
-      no_acts : (some : ℕ → Bool) (at : At) → map.get triggers at.trigger ≡ None → acts_outside some triggers lanes at ≡ None
-      no_acts some at none = elim (some at.trigger) as (λ (b : Bool). (if b then None else acts_of triggers (merged lanes) at) ≡ None) [
-        | true ↦ refl
-        | false ↦ no_act_of triggers (merged lanes) at none
-      ]
-
   -- what is kept while these are idle
   abbrev pub KeptIdle : (ℕ → Bool) → Shelves → Type 0
   KeptIdle idle shelves = AreKeptFor triggers lanes (acts_outside idle triggers lanes) shelves
-
-  pub idle_alike : (idle other : ℕ → Bool) → ((id : ℕ) (hist : Hist) → map.get triggers id ≡ Some hist → idle id ≡ other id) → (shelves : Shelves) → KeptIdle idle shelves → KeptIdle other shelves
-  idle_alike idle other alike shelves = subst (λ (input : Acts). AreKeptFor triggers lanes input shelves) (acts_alike idle other alike)
 
   -- with all of its acts a trigger is idle no more
   pub idle_joined : (id : ℕ) (idle : ℕ → Bool) → with_trigger triggers lanes id (acts_outside idle triggers lanes) ≡ acts_outside (but_one id idle) triggers lanes
@@ -152,6 +134,17 @@ abbrev pub tests_in : (ℕ → Bool) → Lanes → List (ℕ × Hist) → ℕ
 tests_in family lanes rest = sum_by (λ e. if family e.0 then named_in lanes e.1 else 0) rest
 
 module _ (triggers : Triggers) (lanes : Lanes) (family : ℕ → Bool) where
+  -- at first all of the family are left
+  all_left : (at : At) → acts_outside family triggers lanes at ≡ acts_outside (left_in family (map.entries triggers)) triggers lanes at
+  all_left at = elim (map.get triggers at.trigger) as (λ (o : Option Hist). map.get triggers at.trigger ≡ o → acts_outside family triggers lanes at ≡ acts_outside (left_in family (map.entries triggers)) triggers lanes at) [
+    | None ↦ λ none. let no_act = no_act_of triggers (merged lanes) at none in nothing (family at.trigger) no_act ∙ sym (nothing (left_in family (map.entries triggers) at.trigger) no_act)
+    | Some hist ↦ λ there. ap (λ (o : Option Hist). cond (is_some o && family at.trigger) None (acts_of triggers (merged lanes) at)) (sym there ∙ get-entries triggers at.trigger)
+  ] refl
+    where
+      nothing : (b : Bool) → acts_of triggers (merged lanes) at ≡ None → cond b None (acts_of triggers (merged lanes) at) ≡ None
+      nothing true none = refl
+      nothing false none = none
+
   -- those of the family that are left are idle
   pub record IsPut (rest : List (ℕ × Hist)) (shelves : Shelves) : Type 0 where
     pub idle : KeptIdle triggers lanes (left_in family rest) shelves
@@ -160,7 +153,7 @@ module _ (triggers : Triggers) (lanes : Lanes) (family : ℕ → Bool) where
 
   pub put_none : (shelves : Shelves) → KeptIdle triggers lanes family shelves → IsPut (map.entries triggers) shelves
   put_none shelves is = record {
-    idle = idle_alike triggers lanes family (left_in family (map.entries triggers)) (λ id hist there. ap (λ (o : Option Hist). is_some o && family id) (sym there ∙ get-entries triggers id)) shelves is;
+    idle = subst (λ (input : Acts). AreKeptFor triggers lanes input shelves) (λ i at. all_left at i) is;
     attached = entries_found nat_cmp nat_cmp_total triggers;
     sorted = strictly_sorted nat_cmp (map.entries triggers) (entries_sorted triggers);
   }
@@ -174,18 +167,18 @@ put_all {triggers} {lanes} {family} {shelves = shelves} none is = (subst (λ (es
 
 module _ {triggers : Triggers} {lanes : Lanes} {family : ℕ → Bool} {e : ℕ × Hist} {rest : List (ℕ × Hist)} {shelves : Shelves} (is : IsPut triggers lanes family (e ∷ rest) shelves) where
   left_skip : family e.0 ≡ false → (id : ℕ) → left_in family (e ∷ rest) id ≡ left_in family rest id
-  left_skip out id = elim (eq_by_cmp nat_cmp id e.0) as (λ (b : Bool). eq_by_cmp nat_cmp id e.0 ≡ b → (is_some (cond b (Some e.1) (find nat_cmp id rest)) && family id) ≡ (is_some (find nat_cmp id rest) && family id)) [
-    | true ↦ λ tie. none_of id (ap family (same_from_tie nat_cmp-IsAntisymmetric id e.0 tie) ∙ out) true ∙ sym (none_of id (ap family (same_from_tie nat_cmp-IsAntisymmetric id e.0 tie) ∙ out) (is_some (find nat_cmp id rest)))
-    | false ↦ λ _. refl
-  ] refl
+  left_skip out id = ⊎_elim
+      (λ same. let none = ap family same ∙ out in none_of (family id) none (is_some (find nat_cmp id (e ∷ rest))) ∙ sym (none_of (family id) none (is_some (find nat_cmp id rest))))
+      (λ apart. ap (λ (o : Option Hist). is_some o && family id) (found_behind e rest id apart))
+      (cases_eq id e.0)
     where
-      none_of : (id : ℕ) → family id ≡ false → (b : Bool) → (b && family id) ≡ false
-      none_of id out true = out
-      none_of id out false = refl
+      none_of : (own : Bool) → own ≡ false → (b : Bool) → (b && own) ≡ false
+      none_of own out true = out
+      none_of own out false = refl
 
   pub put_skip : family e.0 ≡ false → IsPut triggers lanes family rest shelves
   put_skip out = record {
-    idle = idle_alike triggers lanes (left_in family (e ∷ rest)) (left_in family rest) (λ id _ _. left_skip out id) shelves is.idle;
+    idle = subst (λ (idle : ℕ → Bool). KeptIdle triggers lanes idle shelves) (λ i id. left_skip out id i) is.idle;
     attached = is.attached.1;
     sorted = sorted_tail nat_cmp e.0 (keys_of rest) is.sorted;
   }
@@ -211,14 +204,14 @@ module _ {triggers : Triggers} {lanes : Lanes} {family : ℕ → Bool} {e : ℕ 
 
   but_first : (id : ℕ) → but_one e.0 (left_in family (e ∷ rest)) id ≡ left_in family rest id
   but_first id = elim (id == e.0) as (λ (b : Bool). (id == e.0) ≡ b → cond b false (left_in family (e ∷ rest) id) ≡ left_in family rest id) [
-    | true ↦ λ tie. ap (λ (o : Option Hist). is_some o && family id) (sym (ap (λ (k : ℕ). find nat_cmp k rest) (eqb-true id e.0 tie) ∙ none_later e.0 e rest is.sorted ((eq_by_cmp_equiv nat_cmp_total).refl e.0)))
-    | false ↦ λ other. ap (λ (b : Bool). is_some (cond b (Some e.1) (find nat_cmp id rest)) && family id) (unsigned_tied id e.0 ∙ other)
+    | true ↦ λ tie. ap (λ (o : Option Hist). is_some o && family id) (sym (none_later id e rest is.sorted (unsigned_tied id e.0 ∙ tie)))
+    | false ↦ λ other. ap (λ (o : Option Hist). is_some o && family id) (found_behind e rest id (eqb-false id e.0 other))
   ] refl
 
   -- and as it has joined, the rest are left
   pub put_more : (new : Shelves) → AreKeptFor triggers lanes (with_trigger triggers lanes e.0 (input_of lanes shelves)) new → IsPut triggers lanes family rest new
   put_more new joined = record {
-    idle = idle_alike triggers lanes (but_one e.0 (left_in family (e ∷ rest))) (left_in family rest) (λ id _ _. but_first id) new
+    idle = subst (λ (idle : ℕ → Bool). KeptIdle triggers lanes idle new) (λ i id. but_first id i)
         (subst (λ (input : Acts). AreKeptFor triggers lanes input new) (ap (with_trigger triggers lanes e.0) tells ∙ idle_joined triggers lanes e.0 (left_in family (e ∷ rest))) joined);
     attached = is.attached.1;
     sorted = sorted_tail nat_cmp e.0 (keys_of rest) is.sorted;
@@ -226,17 +219,13 @@ module _ {triggers : Triggers} {lanes : Lanes} {family : ℕ → Bool} {e : ℕ 
 
 -- ---- tests
 
--- how many events are on a name
-pub named_count : (lanes : Lanes) (hist : Hist) → named_in lanes hist ≡ length (map.entries (own_events lanes hist))
-named_count lanes hist = len-entries (own_events lanes hist)
-
--- and how many references to them there are
+-- how many references there are to the events on a name
 pub own_count : (lanes : Lanes) (hist : Hist) (names : Name → Bool) → names ≡ same_name hist.event → (items : List (Pos × Stored))
     → entries_by held items ≡ map.entries (events_on names (merged lanes)) → length items ≡ named_in lanes hist
 own_count lanes hist names named items all =
     sym (all_of_them items)
     ∙ ap (λ (es : List (Pos × Traced)). length es) (all ∙ ap (λ (some : Name → Bool). map.entries (events_on some (merged lanes))) named)
-    ∙ sym (named_count lanes hist)
+    ∙ sym (len-entries (own_events lanes hist))
 
 -- one event, one test at most
 pub asked_once : (hist : Hist) (event : Traced) → tests_taken hist event ≤ 1

@@ -1,4 +1,5 @@
 pub mod KeptShelves
+pub mod KeptFor
 pub mod Outside
 pub mod OneEvent
 pub mod ButOneLane

@@ -1,3 +1,2 @@
--- Words of private functions: new shelves, and what is kept while triggers join or leave.
+-- Words of private functions: what is kept while triggers join or leave.
 pub mod Joining
-pub mod KeptFor

@@ -54,6 +54,7 @@ pub fn others_stay()
         → is_reader hist.variable ≡ false → (shelf its : Shelved)
         → map.get old id ≡ Some shelf → map.get new id ≡ Some its → its.table ≡ shelf.table }
 {
+    ft_table::laws::one_more_hit();
     ft_pairs::laws::one_source();
 }
 
@@ -77,5 +78,6 @@ pub fn readers_stay()
         → (saver ≡ id → ⊥) → (role_at base.triggers id ≡ Reads saver → ⊥) → (reader : ℕ)
         → role_at base.triggers reader ≡ Reads saver → ReadsAsBefore reader old new }
 {
+    ft_table::laws::one_more_hit();
     ft_pairs::laws::one_source();
 }

@@ -1,45 +1,30 @@
 //! Tables built anew from what is held and attached.
 
-ghost use Rattle.std.specs.Prelude.{◌≡◌, true, None, IfOk, IfSome};
-ghost use Rattle.std.specs.FinMap as map;
+ghost use Rattle.std.specs.Prelude.{◌≡◌, None, IfOk, IfSome};
 ghost use Rattle.ft_hist.specs.Steps.{StepsGrow};
-ghost use Rattle.ft_kept.specs.Views.{triggers_of};
-ghost use Rattle.ft_repair.specs.KeptShelves.{AreKeptOf, AreKept};
-ghost use Rattle.ft_repair.specs.inner.Joining.{AreRenewed};
-ghost use Rattle.ft_replay.specs.Merged.{merged};
-ghost use Rattle.ft_base.specs.Reachable.{HasSavers};
+ghost use Rattle.ft_repair.specs.KeptShelves.{AreKeptOf};
 
 use crate::scene::{Member, scene_of};
-use ft_base::{Content, role_of};
-use ft_hist::{Triggers, Work};
-use ft_kept::{Scene, Tables};
+use crate::trigger_joins::renew_shelves;
+use ft_base::Content;
+use ft_hist::Work;
+use ft_kept::Tables;
 use ft_replay::merged_events;
 use std::alloc::{AllocError, Global};
 
 /// What is kept of all attached triggers, from all held events. Refused for memory.
-fn rebuilt(alloc: Global, scene: &Scene<'_>, work: &mut Work) -> Result<Tables, AllocError>
-    requires { HasSavers (triggers_of scene.now) }
-    ensures kept { IfOk result (AreKept (triggers_of scene.now) (merged scene.now.lanes.now)) }
+fn rebuilt(alloc: Global, content: &Content, work: &mut Work) -> Result<Tables, AllocError>
+    ensures kept { IfOk result (AreKeptOf content.now) }
     ensures grow { StepsGrow work.old work.new }
 {
-    let scene = *scene;
+    let scene = scene_of(content);
     let events = merged_events(alloc, scene.lanes, scene.triggers)?;
-    let mut tables = new_tables(alloc, scene.triggers)?;
+    let mut tables = Tables::new(alloc);
+    renew_shelves(&mut tables, scene.triggers, None)?;
     for (id, trigger) in scene.triggers.iter() {
         let id = *id;
         let member = Member { scene, id, trigger };
         member.put_events(&mut tables, alloc, &events, work)?;
-    }
-    Ok(tables)
-}
-
-/// A shelf without hits for each attached trigger. Refused for memory.
-fn new_tables(alloc: Global, triggers: &Triggers) -> Result<Tables, AllocError>
-    ensures { IfOk result (AreRenewed triggers.now (λ _. true) map.empty) }
-{
-    let mut tables = Tables::new(alloc);
-    for (id, trigger) in triggers.iter() {
-        tables.add(*id, role_of(triggers, trigger.variable()), trigger.size())?;
     }
     Ok(tables)
 }
@@ -62,5 +47,5 @@ pub fn restore(kept: &mut Option<Tables>, alloc: Global, content: &Content, work
     ensures kept { IfSome kept.new (AreKeptOf content.now) }
     ensures grow { StepsGrow work.old work.new }
 {
-    *kept = rebuilt(alloc, &scene_of(content), work).ok();
+    *kept = rebuilt(alloc, content, work).ok();
 }

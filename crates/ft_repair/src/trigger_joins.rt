@@ -2,23 +2,20 @@
 
 ghost use Rattle.std.specs.Prelude.{◌≡◌, ◌+◌, ◌≤◌, None, IfSome, OnOk, length};
 ghost use Rattle.ft_hist.specs.Steps.{StepsGrow};
-ghost use Rattle.ft_kept.specs.Views.{triggers_of};
 ghost use Rattle.ft_maps.specs.Mapped.{entries_by};
 ghost use Rattle.ft_store.specs.Stored.{held};
-ghost use Rattle.ft_base.specs.OneTrigger.{is_kin, is_in_family};
-ghost use Rattle.ft_base.specs.Reachable.{HasSavers};
+ghost use Rattle.ft_base.specs.OneTrigger.{is_in_family};
 ghost use Rattle.ft_answers.specs.Costs.{family_tests};
-ghost use Rattle.ft_replay.specs.Merged.{merged};
-ghost use Rattle.ft_repair.specs.KeptShelves.{AreKept, AreKeptOf};
-ghost use Rattle.ft_repair.specs.Outside.{AreKeptOutside};
-ghost use Rattle.ft_repair.specs.inner.Joining.{AreRenewed, HasItsActs, CanJoinWith};
+ghost use Rattle.ft_repair.specs.KeptShelves.{AreKeptOf};
+ghost use Rattle.ft_repair.specs.Outside.{AreKeptOutside, AreRenewed};
+ghost use Rattle.ft_repair.specs.inner.Joining.{HasItsActs, CanJoinWith, family_of, is_meant};
 
 use crate::scene::{Member, scene_of};
 use ft_base::{Content, role_of};
 use ft_fields::Pos;
 use ft_groups::grouped;
 use ft_hist::{Triggers, Work};
-use ft_kept::{Attached, Changes, Delta, Scene, Sign, Tables};
+use ft_kept::{Joining, Sign, Tables};
 use ft_pairs::Role;
 use ft_replay::{Names, events_with};
 use ft_store::Stored;
@@ -38,7 +35,7 @@ pub fn join(kept: &mut Option<Tables>, alloc: Global, content: &Content, id: u32
     let Some(mut tables) = kept.take() else {
         return;
     };
-    if let Ok(()) = join_family(&mut tables, alloc, &scene_of(content), id, work) {
+    if let Ok(()) = join_family(&mut tables, alloc, content, id, work) {
         *kept = Some(tables);
     }
 }
@@ -48,24 +45,22 @@ pub fn join(kept: &mut Option<Tables>, alloc: Global, content: &Content, id: u32
 fn join_family(
     tables: &mut Tables,
     alloc: Global,
-    scene: &Scene<'_>,
+    content: &Content,
     head: u32,
     work: &mut Work,
 ) -> Result<(), AllocError>
-    requires savers { HasSavers (triggers_of scene.now) }
-    requires outside { AreKeptOutside (is_in_family (triggers_of scene.now) head)
-        (triggers_of scene.now) scene.now.lanes.now tables.old }
-    ensures kept { OnOk result (AreKept (triggers_of scene.now) (merged scene.now.lanes.now)
-        tables.new) }
+    requires { AreKeptOutside (is_in_family content.now.triggers head)
+        content.now.triggers content.now.lanes tables.old }
+    ensures kept { OnOk result (AreKeptOf content.now tables.new) }
     ensures evals { work.new.evals
-        ≤ work.old.evals + family_tests (triggers_of scene.now) scene.now.lanes.now head }
+        ≤ work.old.evals + family_tests content.now.triggers content.now.lanes head }
     ensures grow { StepsGrow work.old work.new }
 {
-    let scene = *scene;
-    renew_shelves(tables, scene.triggers, head)?;
+    let scene = scene_of(content);
+    renew_shelves(tables, scene.triggers, Some(head))?;
     for (id, trigger) in scene.triggers.iter() {
         let id = *id;
-        if is_kin(head, id, role_of(scene.triggers, trigger.variable())) {
+        if is_kin(Some(head), id, role_of(scene.triggers, trigger.variable())) {
             let member = Member { scene, id, trigger };
             let events = events_with(alloc, scene.lanes, Names::only(trigger.event()))?;
             member.put_events(tables, alloc, &events, work)?;
@@ -74,20 +69,28 @@ fn join_family(
     Ok(())
 }
 
-/// Whether a trigger with a role is the one with the first id, or reads what that one saves.
-fn is_kin(id: u32, other: u32, role: Role) -> bool
-    ensures { result ≡ is_kin id other role }
+/// Whether a trigger with a role is the one with the first id, or reads what that one saves. Without
+/// that id, any is meant.
+fn is_kin(head: Option<u32>, other: u32, role: Role) -> bool
+    ensures { result ≡ is_meant head other role }
 {
+    let Some(id) = head else {
+        return true;
+    };
     match role {
         Role::Plain | Role::Saves => other == id,
         Role::Reads(saver) => other == id || saver == id,
     }
 }
 
-/// Gives a trigger and those that read what it saves shelves without hits, in place of theirs.
-/// Refused for memory.
-fn renew_shelves(tables: &mut Tables, triggers: &Triggers, head: u32) -> Result<(), AllocError>
-    ensures { OnOk result (AreRenewed triggers.now (is_in_family triggers.now head)
+/// Gives a trigger and those that read what it saves, or all triggers, shelves without hits, in place
+/// of theirs. Refused for memory.
+pub(crate) fn renew_shelves(
+    tables: &mut Tables,
+    triggers: &Triggers,
+    head: Option<u32>,
+) -> Result<(), AllocError>
+    ensures { OnOk result (AreRenewed triggers.now (family_of triggers.now head)
         tables.old tables.new) }
 {
     for (id, trigger) in triggers.iter() {
@@ -117,15 +120,15 @@ impl<'a> Member<'a> {
         let Member { scene, id, trigger } = *self;
         if tables.is_bare(id) {
             let groups = grouped(alloc, trigger, events, work)?;
-            return tables.acts_come(scene.triggers, trigger, id, &groups, work);
+            let joining = Joining {
+                alloc,
+                triggers: scene.triggers,
+                trigger,
+                id,
+                groups: &groups,
+            };
+            return tables.join(&joining, work);
         }
-        let attached = Attached { id, trigger };
-        let sign = Sign::Insert;
-        for &(pos, stored) in events {
-            let event = &stored.event();
-            let delta = Delta { sign, pos, event };
-            tables.apply_to(&scene, &attached, &delta, &mut Changes::unasked(), work)?;
-        }
-        Ok(())
+        self.move_acts(tables, Sign::Insert, events, work)
     }
 }

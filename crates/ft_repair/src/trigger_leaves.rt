@@ -1,22 +1,19 @@
 //! Tables that one trigger leaves: the others' stay as they are.
 
-ghost use Rattle.std.specs.Prelude.{◌≡◌, false, None, Some, IfSome, OnOk};
+ghost use Rattle.std.specs.Prelude.{◌≡◌, false, None, IfSome, Ok, OnOk};
 ghost use Rattle.std.specs.FinMap as map;
 ghost use Rattle.ft_hist.specs.Steps.{StepsGrow};
-ghost use Rattle.ft_kept.specs.Views.{triggers_of};
 ghost use Rattle.ft_base.specs.OneTrigger.{IsUnread};
-ghost use Rattle.ft_base.specs.Reachable.{HasSavers};
 ghost use Rattle.ft_answers.specs.Deferral.{ReadsNothing};
-ghost use Rattle.ft_replay.specs.Merged.{merged};
 ghost use Rattle.ft_repair.specs.ButOneTrigger.{AreKeptBut, AwaitFilter, OtherShelvesStay};
-ghost use Rattle.ft_repair.specs.KeptShelves.{AreKept, AreKeptOf};
+ghost use Rattle.ft_repair.specs.KeptShelves.{AreKeptOf};
 ghost use Rattle.ft_repair.specs.Repaired.{IfBoth};
-ghost use Rattle.ft_repair.specs.inner.Joining.{HasLeft};
+ghost use Rattle.ft_repair.specs.inner.Joining.{CanLeave};
 
 use crate::scene::{Member, scene_of};
 use ft_base::{Content, is_reader};
 use ft_hist::Work;
-use ft_kept::{Attached, Changes, Delta, Sign, Tables};
+use ft_kept::{Sign, Tables};
 use ft_replay::{Names, events_with};
 use std::alloc::{AllocError, Global};
 
@@ -47,24 +44,45 @@ pub fn leave(kept: &mut Option<Tables>, alloc: Global, content: &Content, id: u3
     let Some(mut tables) = kept.take() else {
         return;
     };
-    let Some(trigger) = content.triggers().get(id) else {
-        *kept = Some(tables);
+    if let Err(_) = take_reads(&mut tables, alloc, content, id, work) {
         return;
-    };
-    // What a reader read stands among the operations of its saver.
-    if is_reader(trigger) {
-        let scene = scene_of(content);
-        let reader = Member { scene, id, trigger };
-        if let Err(_) = reader.take_acts(&mut tables, alloc, work) {
-            return;
-        }
     }
     tables.drop_shelf(id);
     *kept = Some(tables);
 }
 
-/// A trigger that no other reads leaves the tables, since by a new filter it is not known any more
-/// what it read. Of one that is read nothing needs to go before: it joins again with its readers.
+/// If the trigger with an id is a reader, the events on its name go from it, since what it read
+/// stands among the operations of its saver: the last in merged order first, so that the first hit
+/// of a key moves only as the key goes. Refused for memory, and then the tables are of no use any
+/// more; one that reads nothing takes none.
+fn take_reads(
+    tables: &mut Tables,
+    alloc: Global,
+    content: &Content,
+    id: u32,
+    work: &mut Work,
+) -> Result<(), AllocError>
+    requires { AreKeptOf content.now tables.old }
+    ensures leaves { OnOk result (CanLeave id content.now tables.new) }
+    ensures nothing { ReadsNothing content.now.triggers id
+        → (result ≡ Ok tt) × ((tables.new ≡ tables.old) × (work.new ≡ work.old)) }
+    ensures grow { StepsGrow work.old work.new }
+{
+    let scene = scene_of(content);
+    let Some(trigger) = scene.triggers.get(id) else {
+        return Ok(());
+    };
+    if !is_reader(trigger) {
+        return Ok(());
+    }
+    let mut events = events_with(alloc, scene.lanes, Names::only(trigger.event()))?;
+    events.reverse();
+    let reader = Member { scene, id, trigger };
+    reader.move_acts(tables, Sign::Retract, &events, work)
+}
+
+/// What a trigger read goes from the tables, since by a new filter it is not known any more what that
+/// was. Nothing else of it needs to go before: it joins again with its readers.
 pub fn make_way(
     kept: &mut Option<Tables>,
     alloc: Global,
@@ -80,42 +98,10 @@ pub fn make_way(
     ensures none { ReadsNothing content.now.triggers id → work.new ≡ work.old }
     ensures grow { StepsGrow work.old work.new }
 {
-    if let Ok(()) = content.removable(id) {
-        leave(kept, alloc, content, id, work);
-    }
-}
-
-impl<'a> Member<'a> {
-    /// The events on the trigger's name go from it, the last in merged order first, so that the
-    /// first hit of a key moves only as the key goes. Refused for memory, and then the tables are of
-    /// no use any more.
-    fn take_acts(
-        &self,
-        tables: &mut Tables,
-        alloc: Global,
-        work: &mut Work,
-    ) -> Result<(), AllocError>
-        requires savers { HasSavers (triggers_of self.now.scene) }
-        requires attached { map.get (triggers_of self.now.scene) self.now.id
-            ≡ Some self.now.trigger.now }
-        requires kept { AreKept (triggers_of self.now.scene) (merged self.now.scene.lanes.now)
-            tables.old }
-        ensures left { OnOk result (HasLeft self.now tables.new) }
-        ensures grow { StepsGrow work.old work.new }
-    {
-        let Member { scene, id, trigger } = *self;
-        let mut events = events_with(alloc, scene.lanes, Names::only(trigger.event()))?;
-        events.reverse();
-        let attached = Attached { id, trigger };
-        for (pos, stored) in &events {
-            let event = stored.event();
-            let delta = Delta {
-                sign: Sign::Retract,
-                pos: *pos,
-                event: &event,
-            };
-            tables.apply_to(&scene, &attached, &delta, &mut Changes::unasked(), work)?;
-        }
-        Ok(())
+    let Some(mut tables) = kept.take() else {
+        return;
+    };
+    if let Ok(()) = take_reads(&mut tables, alloc, content, id, work) {
+        *kept = Some(tables);
     }
 }

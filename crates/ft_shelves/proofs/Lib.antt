@@ -2,7 +2,7 @@ pub mod Attached
 pub mod Counted
 pub mod Decided
 pub mod Edge
-pub mod Finding
+pub mod Findable
 pub mod Followed
 pub mod Hitting
 pub mod KeyByKey

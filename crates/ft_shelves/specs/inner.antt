@@ -1,3 +1,4 @@
 -- Words of private functions: what helps to prove, and nothing that public clauses say.
 pub mod Following
+pub mod Joining
 pub mod Sums

@@ -1,14 +1,17 @@
 //! A trigger that joins: each key's part of what is kept of it is made as a whole, from the events of
 //! that key.
 
-ghost use Rattle.std.specs.Prelude.{◌≡◌, List, None, OnOk, IfOk};
+ghost use Rattle.std.specs.Prelude.{◌≡◌, ◌++◌, ◌∷◌, [], List, length, Option, None, OnOk, IfOk};
+ghost use Rattle.std.specs.Option.{option_copied};
 ghost use Rattle.std.specs.FinMap as map;
 ghost use Rattle.ft_groups.specs.Grouped.{run_of};
 ghost use Rattle.ft_fields.specs.declared.key.Part.{Part};
+ghost use Rattle.ft_fields.specs.declared.pos.Pos.{Pos};
 ghost use Rattle.ft_pairs.specs.ByKey.{ops_of};
 ghost use Rattle.ft_pairs.specs.declared.at.At.{At};
-ghost use Rattle.ft_pairs.specs.declared.at.Op.TheVariants.{Save};
-ghost use Rattle.ft_shelves.specs.Joining.{AreGroupsOf, HasGroups, HasSaves, hits_of_run, saves_of_run};
+ghost use Rattle.ft_store.specs.Stored.{held};
+ghost use Rattle.ft_shelves.specs.Joining.{AreGroupsOf, HasGroups, HasSaves, unread};
+ghost use Rattle.ft_shelves.specs.inner.Joining.{AreFound, AreReadAt, ReadingsJoin, hits_of_run, read_at, readings_of, reads_of_run, saves_of_run};
 ghost use Rattle.ft_shelves.specs.Counts.{TestsNone};
 
 use crate::sums::sums_at;
@@ -16,6 +19,7 @@ use ft_fields::Pos;
 use ft_groups::Groups;
 use ft_hist::{Key, Trigger, Triggers, Work};
 use ft_pairs::{At, Op, Pairs};
+use ft_store::Stored;
 use ft_table::{Spot, Table};
 use std::alloc::{AllocError, Global};
 
@@ -34,7 +38,8 @@ pub struct Joining<'a, 'e> {
     pub groups: &'a Groups<'e>,
 }
 
-/// Puts the hits of all groups in a table that has none. Refused for memory.
+/// Puts the hits of all groups of a trigger that reads nothing in a table that has none. Refused for
+/// memory.
 pub(crate) fn put_groups(
     table: &mut Table,
     joining: &Joining<'_, '_>,
@@ -42,12 +47,12 @@ pub(crate) fn put_groups(
 ) -> Result<(), AllocError>
     requires empty { table.old.hits ≡ map.empty }
     requires grouped { AreGroupsOf joining.now.trigger.now joining.now.groups.now }
-    ensures ok { OnOk result (HasGroups joining.now.trigger.now joining.now.groups.now
+    ensures ok { OnOk result (HasGroups joining.now.trigger.now joining.now.groups.now unread
         table.old table.new) }
     ensures work { TestsNone work.old work.new }
 {
     for key in joining.groups.keys() {
-        let run = hits_of(joining, key)?;
+        let run = hits_of(joining, key, None)?;
         table.put_key(*key, run, work)?;
     }
     Ok(())
@@ -75,19 +80,116 @@ pub(crate) fn save_groups(
     Ok(())
 }
 
-/// The hits of a key's events, where they read nothing. Refused for memory.
-fn hits_of(joining: &Joining<'_, '_>, key: &Key) -> Result<Vec<(Spot, [i64; 3])>, AllocError>
+/// Puts the reads of all groups of a reader among operations, and the hits of those that find
+/// something in a table that has none: what they found, as the place of the saving by that of the
+/// reading. Refused for memory.
+pub(crate) fn read_groups(
+    pairs: &mut Pairs,
+    table: &mut Table,
+    joining: &Joining<'_, '_>,
+    work: &mut Work,
+) -> Result<Vec<(Pos, Pos)>, AllocError>
+    requires empty { table.old.hits ≡ map.empty }
+    requires grouped { AreGroupsOf joining.now.trigger.now joining.now.groups.now }
+    ensures ok { IfOk result (λ readings. ReadingsJoin joining.now.id joining.now.trigger.now
+        joining.now.groups.now pairs.old pairs.new table.old table.new readings.items) }
+    ensures work { TestsNone work.old work.new }
+{
+    let mut readings = Vec::new(joining.alloc);
+    for key in joining.groups.keys() {
+        // First all reads of the key, so that each finds what it will find.
+        let reads = reads_of(joining, key)?;
+        let found = pairs.put_reads(*key, &reads, work)?;
+        let run = hits_of(joining, key, Some(&found))?;
+        table.put_key(*key, run, work)?;
+        gather(&reads, &found, &mut readings)?;
+    }
+    Ok(readings)
+}
+
+/// The hits of a key's events, by what their readings found, if they read: those that found nothing
+/// are none. Refused for memory.
+fn hits_of(
+    joining: &Joining<'_, '_>,
+    key: &Key,
+    found: Option<&[Option<At>]>,
+) -> Result<Vec<(Spot, [i64; 3])>, AllocError>
     requires { AreGroupsOf joining.now.trigger.now joining.now.groups.now }
-    ensures { IfOk result (λ hits. hits.items
-        ≡ hits_of_run joining.now.trigger.now (run_of joining.now.groups.now key.now)) }
+    ensures { (read : Pos → Option (Option Pos))
+        → AreReadAt (option_copied found.entry) read (run_of joining.now.groups.now key.now)
+        → IfOk result (λ hits. hits.items
+        ≡ hits_of_run joining.now.trigger.now read (run_of joining.now.groups.now key.now)) }
 {
     let run = joining.groups.run(key);
     let mut hits = Vec::with_capacity(joining.alloc, run.len())?;
-    for event in run {
-        let values = sums_at(joining.trigger, *event, None);
-        hits.push((Spot::traced(event.0), values))?;
+    for (i, event) in run.iter().enumerate() {
+        add_hit(joining.trigger, event, read_at(found, i), &mut hits)?;
     }
     Ok(hits)
+}
+
+/// What the event in a place of a run read, if it is a hit: nothing where nothing reads, else what
+/// its reading found.
+fn read_at(found: Option<&[Option<At>]>, i: usize) -> Option<Option<Pos>>
+    ensures { result ≡ read_at (option_copied found.entry) i }
+{
+    let Some(found) = found else {
+        return Some(None);
+    };
+    match found.get(i) {
+        Some(Some(saved)) => Some(Some(saved.pos)),
+        Some(None) | None => None,
+    }
+}
+
+/// Adds the hit of an event, if it is one, by what it read. Refused for memory.
+fn add_hit(
+    trigger: &Trigger,
+    event: &(Pos, Stored<'_>),
+    read: Option<Option<Pos>>,
+    hits: &mut Vec<(Spot, [i64; 3])>,
+) -> Result<(), AllocError>
+    requires { (held event.now.1).stamp ≡ event.now.0.stamp }
+    ensures { OnOk result (hits.new.items ≡ hits.old.items
+        ++ hits_of_run trigger.now (λ _. read) ((event.now.0, held event.now.1) ∷ [])) }
+{
+    let Some(read) = read else {
+        return Ok(());
+    };
+    hits.push((Spot::traced(event.0), sums_at(trigger, event, read)))?;
+    Ok(())
+}
+
+/// Gathers what reads found after what others did. Refused for memory.
+fn gather(
+    reads: &[At],
+    found: &[Option<At>],
+    readings: &mut Vec<(Pos, Pos)>,
+) -> Result<(), AllocError>
+    requires { length found.now ≡ length reads.now }
+    ensures { (find : At → Option At) → AreFound find reads.now found.now
+        → OnOk result (readings.new.items ≡ readings.old.items ++ readings_of find reads.now) }
+{
+    for (i, read) in reads.iter().enumerate() {
+        add_reading(*read, found[i], readings)?;
+    }
+    Ok(())
+}
+
+/// Adds what a read found, if it found something. Refused for memory.
+fn add_reading(
+    read: At,
+    found: Option<At>,
+    readings: &mut Vec<(Pos, Pos)>,
+) -> Result<(), AllocError>
+    ensures { OnOk result
+        (readings.new.items ≡ readings.old.items ++ readings_of (λ _. found) (read ∷ [])) }
+{
+    let Some(saved) = found else {
+        return Ok(());
+    };
+    readings.push((read.pos, saved.pos))?;
+    Ok(())
 }
 
 /// The saves of a key's events. Refused for memory.
@@ -97,13 +199,24 @@ fn saves_of(joining: &Joining<'_, '_>, key: &Key) -> Result<Vec<(At, Op)>, Alloc
 {
     let run = joining.groups.run(key);
     run.iter()
-        .map(|event| save_at(joining.id, event.0))
+        .map(|event| (at_of(joining.id, event.0), Op::Save))
         .collect(joining.alloc)
 }
 
-/// The save of a trigger at a place.
-fn save_at(trigger: u32, pos: Pos) -> (At, Op)
-    ensures { result ≡ (record { pos = pos; trigger = trigger }, Save) }
+/// The reads of a key's events. Refused for memory.
+fn reads_of(joining: &Joining<'_, '_>, key: &Key) -> Result<Vec<At>, AllocError>
+    ensures { IfOk result (λ reads. reads.items
+        ≡ reads_of_run joining.now.id (run_of joining.now.groups.now key.now)) }
 {
-    (At { pos, trigger }, Op::Save)
+    let run = joining.groups.run(key);
+    run.iter()
+        .map(|event| at_of(joining.id, event.0))
+        .collect(joining.alloc)
+}
+
+/// Where a trigger acts at an event's place.
+fn at_of(trigger: u32, pos: Pos) -> At
+    ensures { result ≡ record { pos = pos; trigger = trigger } }
+{
+    At { pos, trigger }
 }

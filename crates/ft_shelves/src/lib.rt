@@ -29,19 +29,18 @@
 //! - `Shelf::change_hit`, `change_op`: a hit that reads nothing, or an operation, comes where none
 //!   stands or goes (`specs/Changes.antt`). One that comes takes one put at most; one that goes takes
 //!   none and needs no memory.
-//! - `Shelf::put_hit`, `put_reads`, `set_readings`: one more hit and what it read, at one put at
-//!   most; reads of one key, as `ft_pairs` says it, at one put each; other readings
-//!   (`specs/Edits.antt`, `specs/Joining.antt`).
+//! - `Shelf::put_hit`: one more hit and what it read, at one put at most (`specs/Edits.antt`).
 //! - `change_saver_hit`: a saver's hit comes or goes, and the operations follow the keys of its
 //!   table: of a key that comes in each hit saves, of one that goes out none does; the reads stay
 //!   (`specs/Following.antt`). The answer names the keys that came in or went out: the hit's own, and
 //!   one other at most. Where none did, it takes two puts at most as the hit comes, and none as it
 //!   goes.
-//! - `Shelf::join`, `put_run`: of a trigger that joins, the hits of all events that it counts, by
-//!   their groups, and of a saver a save at each event whose key is in the table; the hits of one key
+//! - `Shelf::join`: of a trigger that joins and reads nothing, the hits of all events that it counts,
+//!   by their groups, and of a saver a save at each event whose key is in the table
 //!   (`specs/Joining.antt`).
-//! - `sums_at`: what a trigger's hit at an event adds to its sums, by the stamp of the event's place,
-//!   which is the event's own, and by what it read; exact.
+//! - `Shelf::join_reading`: of a reader that joins, a read at each event among the operations on what
+//!   it reads, and the hits of those that find something, with what they found
+//!   (`specs/Joining.antt`). `swap_ops` gives a shelf other operations; exact.
 //! - `Shelf::has_no_hits`, `has_no_ops`: where it says so, there are no hits; no operation stands on
 //!   what is saved. Lets through: saying no.
 #![tactic(auto)]
@@ -58,4 +57,3 @@ pub use joining::Joining;
 pub use saver::{Moved, change_saver_hit};
 pub use shelf::Shelf;
 pub use sign::Sign;
-pub use sums::sums_at;

@@ -1,6 +1,6 @@
 //! Shelves: what is kept of one attached trigger.
 
-ghost use Rattle.std.specs.Prelude.{◌≡◌, ◌<◌, List, length, false, true, Some, None, Ok, OnOk, IfOk, IfSome, IsTrue};
+ghost use Rattle.std.specs.Prelude.{◌≡◌, ◌<◌, List, false, true, Some, None, Ok, OnOk, IfOk, IfSome, IsTrue};
 ghost use Rattle.std.specs.FinMap as map;
 ghost use Rattle.ft_fields.specs.Places.{pos_cmp};
 ghost use Rattle.ft_fields.specs.declared.pos.Pos.{Pos};
@@ -9,23 +9,22 @@ ghost use Rattle.ft_maps.specs.Seen.{seen};
 ghost use Rattle.ft_pairs.specs.ByKey.{ChangesKey, ops_of, ops_left};
 ghost use Rattle.ft_pairs.specs.Edits.{reads_alone};
 ghost use Rattle.ft_pairs.specs.Next.{IsNext};
-ghost use Rattle.ft_pairs.specs.Runs.{FindEach, with_reads};
 ghost use Rattle.ft_pairs.specs.Source.{IsSource};
 ghost use Rattle.ft_pairs.specs.declared.at.At.{At};
 ghost use Rattle.ft_pairs.specs.declared.role.Role.TheVariants.{Saves};
-ghost use Rattle.ft_table.specs.Runs.{HasNone};
 ghost use Rattle.ft_table.specs.Tabled.{is_in};
 ghost use Rattle.ft_shelves.specs.Changes.{PlaceIsFree, is_insert, on_insert, op_after, set_op, sign_of, with_change};
 ghost use Rattle.ft_shelves.specs.declared.sign.Sign.TheVariants.{Retract};
 ghost use Rattle.ft_shelves.specs.Shelves.{IsNewShelf};
 ghost use Rattle.ft_shelves.specs.Edits.{OpsChange, with_hit_on, without_hit_on};
-ghost use Rattle.ft_shelves.specs.Joining.{AreGroupsOf, HasJoined, ReadingsSet, RunComes, found_last};
+ghost use Rattle.ft_shelves.specs.Joining.{AreGroupsOf, HasJoined, HasRead};
+ghost use Rattle.ft_shelves.specs.inner.Joining.{found_last};
 ghost use Rattle.ft_shelves.specs.Following.{with_saves, switched};
 ghost use Rattle.ft_shelves.specs.inner.Following.{with_save};
 ghost use Rattle.ft_shelves.specs.Counts.{TestsNone, PutsAtMost, PutsExactly};
 
 use crate::change::HitChange;
-use crate::joining::{Joining, put_groups, save_groups};
+use crate::joining::{Joining, put_groups, read_groups, save_groups};
 use crate::sign::Sign;
 use ft_fields::Pos;
 use ft_hist::{Key, Work};
@@ -35,6 +34,7 @@ use ft_table::{Hit, Mark, Spot, Table};
 use std::alloc::{AllocError, Global};
 use std::collections::BTreeMap;
 use std::marker::Model;
+use std::mem;
 
 /// What is kept of one attached trigger: what it does with its variable, its hits, the operations
 /// on what it saves, and what its readings found.
@@ -265,46 +265,32 @@ impl Shelf {
         Ok(())
     }
 
-    /// Puts reads of a key at places: what each of them finds then. Refused for memory.
-    pub fn put_reads(
+    /// Puts the reads of all groups of a reader that joins among the operations on what it reads, and
+    /// the hits of those that find something on this shelf of it, which has none, with what they
+    /// found. Refused for memory.
+    pub fn join_reading(
         &mut self,
-        key: Key,
-        reads: &[At],
-        work: &mut Work,
-    ) -> Result<Vec<Option<At>>, AllocError>
-        ensures ok { OnOk result (OpsChange key (with_reads reads.now) self.old self.new) }
-        ensures found { IfOk result (λ found.
-            FindEach (ops_of self.new.ops key) reads.now found.items) }
-        ensures work { PutsExactly (length reads.now) work.old work.new }
-    {
-        self.pairs.put_reads(key, reads, work)
-    }
-
-    /// Puts all hits of a key in, which has none yet. Refused for memory.
-    pub fn put_run(
-        &mut self,
-        key: Key,
-        run: Vec<(Spot, [i64; 3])>,
+        ops: &mut Pairs,
+        joining: &Joining<'_, '_>,
         work: &mut Work,
     ) -> Result<(), AllocError>
-        requires { HasNone key self.old.table.hits }
-        ensures ok { OnOk result (RunComes key run.items self.old self.new) }
+        requires empty { self.old.table.hits ≡ map.empty }
+        requires grouped { AreGroupsOf joining.now.trigger.now joining.now.groups.now }
+        ensures ok { OnOk result (HasRead joining.now.id joining.now.trigger.now
+            joining.now.groups.now ops.old ops.new self.old self.new) }
         ensures work { TestsNone work.old work.new }
     {
-        self.table.put_key(key, run, work)
+        let readings = read_groups(ops, &mut self.table, joining, work)?;
+        self.readings = by_place(joining.alloc, readings)?;
+        Ok(())
     }
 
-    /// Has these readings from now on, in place of those that it has: the place of the saving by that
-    /// of the reading. Refused for memory.
-    pub fn set_readings(
-        &mut self,
-        alloc: Global,
-        readings: Vec<(Pos, Pos)>,
-    ) -> Result<(), AllocError>
-        ensures { OnOk result (ReadingsSet readings.items self.old self.new) }
+    /// Has these operations from now on: those that it had.
+    pub fn swap_ops(&mut self, ops: Pairs) -> Pairs
+        ensures had { result ≡ self.old.ops }
+        ensures has { self.new ≡ record self.old { ops = ops } }
     {
-        self.readings = by_place(alloc, readings)?;
-        Ok(())
+        mem::replace(&mut self.pairs, ops)
     }
 }
 

@@ -14,7 +14,7 @@ use ft_table::own_value;
 /// What a trigger's hit at an event adds to its sums, where it read what was saved at a place, or
 /// read nothing. The event's stamp is that of its place, so the event is looked at only if the
 /// trigger sums a field of it.
-pub fn sums_at(trigger: &Trigger, event: &(Pos, Stored<'_>), read: Option<Pos>) -> [i64; 3]
+pub(crate) fn sums_at(trigger: &Trigger, event: &(Pos, Stored<'_>), read: Option<Pos>) -> [i64; 3]
     requires { (held event.now.1).stamp ≡ event.now.0.stamp }
     ensures { result ≡ values_at trigger.now event.now.0 (held event.now.1) read }
 {

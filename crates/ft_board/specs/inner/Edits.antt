@@ -9,7 +9,7 @@ use Rattle.ft_answers.specs.declared.edited.Edited.{Edited}
 use Rattle.ft_shelves.specs.declared.sign.Sign.{Sign}
 use Rattle.ft_board.specs.declared.views.Views.{Views}
 use Rattle.ft_repair.specs.OneEvent.{events_before, events_after}
-use Rattle.ft_board.specs.inner.Views.{AreFresh}
+use Rattle.ft_board.specs.inner.Views.{AreOf}
 
 -- the bases before and after an event comes or goes
 pub record Edit : Type 0 where
@@ -27,11 +27,13 @@ pub record IsEdit (sign : Sign) (base : Base) (pos : Pos) (edit : Edit) : Type 0
   pub was : merged edit.old.lanes ≡ events_before sign (merged base.lanes) pos
   pub is : merged edit.new.lanes ≡ events_after sign (merged base.lanes) pos
 
--- what is kept is that of the base before such an edit
-pub record CanChange (sign : Sign) (base : Base) (pos : Pos) (views : Views) : Type 0 where
-  pub edit : Edit
-  pub changes : IsEdit sign base pos edit
-  pub fresh : AreFresh edit.old views
+-- what is kept is that of a base's triggers and of its events before this one comes or goes
+abbrev pub AreBefore : Sign → Base → Pos → Views → Type 0
+AreBefore sign base pos views = AreOf base.triggers (events_before sign (merged base.lanes) pos) views
+
+-- and of those afterwards
+abbrev pub AreAfter : Sign → Base → Pos → Views → Type 0
+AreAfter sign base pos views = AreOf base.triggers (events_after sign (merged base.lanes) pos) views
 
 -- the rows that are named are reports of the bases before and after; where no shelves are left, none are named
 abbrev pub ReportsEdit : Edit → Views → Edited → Type 0

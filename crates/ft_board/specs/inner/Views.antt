@@ -1,11 +1,9 @@
 -- What is kept of a base, as edits and answers find it.
-use Rattle.std.specs.Prelude.{◌≡◌, ℕ, true, List, Option, Some, None, IfSome}
+use Rattle.std.specs.Prelude.{◌≡◌, ℕ, List, Option, None, IfSome}
 use Rattle.std.specs.Option.{is_none}
 use Rattle.std.specs.Ordering.{nat_cmp}
 use Rattle.std.specs.FinMap as map
 use Rattle.ft_changes.specs.declared.changed.ReadingChange.{ReadingChange}
-use Rattle.ft_hist.specs.Hist.{Hist}
-use Rattle.ft_hist.specs.Made.{counts_made}
 use Rattle.ft_kept.specs.Shelves.{Shelves}
 use Rattle.ft_made.specs.MadeTables.{IsMadeTable, found_in}
 use Rattle.ft_maps.specs.Seen.{seen}
@@ -17,7 +15,7 @@ use Rattle.ft_answers.specs.Edited.{kept_of}
 use Rattle.ft_answers.specs.declared.done.Kept.{Kept}
 use Rattle.ft_repair.specs.KeptShelves.{AreKept, AreKeptOf}
 use Rattle.ft_board.specs.Makers.{LeavesMakers}
-use Rattle.ft_board.specs.MadeShelves.{MadeTables, AreMadeBy, made_on}
+use Rattle.ft_board.specs.MadeShelves.{MadeTables, AreMadeBy, OfEachCounted, made_on}
 use Rattle.ft_board.specs.declared.views.Views.{Views}
 use Rattle.ft_board.specs.inner.Mending.{CanMendTo}
 use Rattle.ft_board.specs.inner.Readings.{readings_on}
@@ -36,8 +34,8 @@ AreFresh base views = AreOf base.triggers (merged base.lanes) views
 
 -- each attached trigger that counts made events, but one, has the table of all that a base's readings make
 abbrev pub AreMadeBut : ℕ → Base → MadeTables → Type 0
-AreMadeBut id base made = (other : ℕ) (hist : Hist) → (other ≡ id → ⊥) → map.get base.triggers other ≡ Some hist → counts_made hist ≡ true
-    → IsMadeTable base.triggers (merged base.lanes) (saving_found base.triggers (merged base.lanes)) hist (made_on made other hist)
+AreMadeBut id base made = OfEachCounted base.triggers (λ other hist.
+    (other ≡ id → ⊥) → IsMadeTable base.triggers (merged base.lanes) (saving_found base.triggers (merged base.lanes)) hist (made_on made other hist))
 
 -- the tables of made events are right, where there are shelves, once the trigger with an id has its own, whatever shelf it gets, if it leaves those alone that make such events
 abbrev pub AwaitTrigger : ℕ → Base → Views → Type 0

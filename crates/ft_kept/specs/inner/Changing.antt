@@ -1,20 +1,19 @@
 -- One act that comes or goes.
-use Rattle.std.specs.Prelude.{◌≡◌, ℕ, List, [], ◌∷◌, Some, None, option_map}
+use Rattle.std.specs.Prelude.{◌≡◌, ℕ, List, [], ◌∷◌, Some, None}
 use Rattle.std.specs.FinMap as map
 use Rattle.ft_hist.specs.Hist.{Hist}
 use Rattle.ft_pairs.specs.declared.role.Role.{Role}
-use Rattle.ft_kept.specs.Acts.{Acts}
-use Rattle.ft_kept.specs.Bounds.{OtherSaversStay, table_on}
+use Rattle.ft_pairs.specs.declared.at.At.{At}
+use Rattle.ft_pairs.specs.declared.role.Variable.{Variable}
+use Rattle.ft_kept.specs.Acts.{Acts, op_of}
+use Rattle.ft_kept.specs.Bounds.{OtherSaversStay}
 use Rattle.ft_kept.specs.Changes.{HasToldFew, Told}
 use Rattle.ft_kept.specs.Repairs.{IsHeldAt}
 use Rattle.ft_kept.specs.Views.{AreViewsOf, set}
 use Rattle.ft_kept.specs.Signs.{act_before, act_after}
-use Rattle.ft_kept.specs.inner.Acting.{own_variable}
-use Rattle.ft_kept.specs.inner.Settling.{LeavesStale}
-use Rattle.ft_shelves.specs.Changes.{table_with}
-use Rattle.ft_shelves.specs.Following.{MovesKeys}
-use Rattle.ft_shelves.specs.declared.saver.Moved.{Moved}
-use Rattle.ft_shelves.specs.Shelves.{Shelves, FormsStay, admits_on, role_on}
+use Rattle.ft_kept.specs.Entries.{IsRight}
+use Rattle.ft_kept.specs.inner.Edits.{StaysBut}
+use Rattle.ft_shelves.specs.Shelves.{Shelves, FormsStay, admits_on, kept_on, role_on}
 use Rattle.ft_kept.specs.Views.{triggers_of}
 use Rattle.ft_kept.specs.declared.act.Act.{Act}
 use Rattle.ft_shelves.specs.declared.change.HitChange.{HitChange}
@@ -22,7 +21,7 @@ use Rattle.ft_shelves.specs.declared.change.HitChange.TheVariants as changes
 use Rattle.ft_shelves.specs.declared.sign.Sign.{Sign}
 use Rattle.ft_shelves.specs.declared.sign.Sign.TheVariants.{Insert, Retract}
 use Rattle.ft_table.specs.Spots.{traced}
-use Rattle.ft_table.specs.Values.{values_at}
+use Rattle.ft_table.specs.Values.{values_at, values_by}
 
 -- the act of an attached trigger with a role can come or go
 pub record MayChange (act : Act) (acts : Acts) (wanted : Role) (shelves : Shelves) : Type 0 where
@@ -50,6 +49,13 @@ pub record HasChanged (act : Act) (acts : Acts) (old new : Shelves) : Type 0 whe
   pub savers : OtherSaversStay act.at.trigger old new
   pub views : AreViewsOf (triggers_of act.scene) act.scene.lanes.now (acts_after act acts) new
 
+-- it came or went at its own place, and the operations are those of the acts afterwards; what readings elsewhere find is not settled yet
+pub record IsInPlace (act : Act) (acts : Acts) (old new : Shelves) : Type 0 where
+  pub forms : FormsStay old new
+  pub ops : (variable : Variable) (q : At) → (kept_on new).ops variable q ≡ op_of (role_on old) (admits_on new) (acts_after act acts) variable q
+  pub stays : StaysBut act.at (kept_on old) (kept_on new)
+  pub right : IsRight (role_on old) (values_by (triggers_of act.scene)) (acts_after act acts) (kept_on new) act.at
+
 -- the act as a change of its trigger's hits, where it reads nothing
 abbrev pub change_by : Sign → Act → HitChange
 change_by Insert act = changes.Insert (record { spot = traced act.at.pos; key = act.key; values = values_at act.trigger.now act.at.pos act.event.now None })
@@ -57,11 +63,3 @@ change_by Retract act = changes.Retract (record { spot = traced act.at.pos; key 
 
 abbrev pub change_of : Act → HitChange
 change_of act = change_by act.sign act
-
--- a saver's act came to its shelf or went, these keys moved, and what follows of it is stale
-pub record ChangedLeavingStale (act : Act) (acts : Acts) (moves : Moved) (old new : Shelves) : Type 0 where
-  pub forms : FormsStay old new
-  pub others : (id : ℕ) → (id ≡ act.at.trigger → ⊥) → map.get new id ≡ map.get old id
-  pub table : table_on new act.at.trigger ≡ option_map (table_with (change_of act)) (table_on old act.at.trigger)
-  pub moved : MovesKeys act.key moves (admits_on old act.at.trigger) (admits_on new act.at.trigger)
-  pub leaves_stale : LeavesStale (triggers_of act.scene) act.at (acts_after act acts) (own_variable act) old new

@@ -1,5 +1,5 @@
--- What is kept while triggers join, first by new shelves, then by their acts, and while one leaves.
-use Rattle.std.specs.Prelude.{◌≡◌, ◌==◌, ℕ, Bool, true, false, List, Option, Some, None, if◌then◌else◌}
+-- What is kept while a trigger joins, by its acts, and while one leaves.
+use Rattle.std.specs.Prelude.{◌≡◌, ◌==◌, ℕ, Bool, true, List, Option, Some, None, if◌then◌else◌, IsPermutation}
 use Rattle.std.specs.FinMap as map
 use Rattle.ft_fields.specs.Traced.{Traced}
 use Rattle.ft_fields.specs.declared.event.Name.{Name}
@@ -7,33 +7,35 @@ use Rattle.ft_fields.specs.declared.pos.Pos.{Pos}
 use Rattle.ft_hist.specs.Hist.{Hist}
 use Rattle.ft_hist.specs.Hit.{same_name}
 use Rattle.ft_lanes.specs.Held.{Lanes}
-use Rattle.ft_kept.specs.Acts.{Acts, acts_of}
+use Rattle.ft_pairs.specs.declared.at.At.{At}
+use Rattle.ft_pairs.specs.declared.role.Role.{Role}
+use Rattle.ft_pairs.specs.declared.role.Variable.{Variable}
+use Rattle.ft_kept.specs.Acts.{Acts, acts_of, op_of}
 use Rattle.ft_kept.specs.Input.{input_of}
-use Rattle.ft_kept.specs.Shelves.{Shelved, Shelves, IsNewShelf}
+use Rattle.ft_kept.specs.Shelves.{Shelves, admits_on}
 use Rattle.ft_kept.specs.Views.{triggers_of}
-use Rattle.ft_base.specs.Base.{Triggers}
-use Rattle.ft_base.specs.Roles.{role_of}
+use Rattle.ft_shelves.specs.declared.sign.Sign.{Sign}
+use Rattle.ft_shelves.specs.declared.sign.Sign.TheVariants.{Insert, Retract}
+use Rattle.ft_base.specs.Base.{Base, Triggers}
+use Rattle.ft_base.specs.OneTrigger.{is_kin}
+use Rattle.ft_base.specs.Roles.{role_at}
 use Rattle.ft_replay.specs.Merged.{merged}
 use Rattle.ft_replay.specs.Named.{events_on}
 use Rattle.ft_repair.specs.declared.scene.Member.{Member}
-use Rattle.ft_repair.specs.Outside.{acts_outside}
-use Rattle.ft_repair.specs.inner.KeptFor.{AreKeptFor}
+use Rattle.ft_repair.specs.KeptFor.{AreKeptFor}
 
 -- one trigger alone
 abbrev pub is_one : ℕ → ℕ → Bool
 is_one id other = other == id
 
--- ---- a family gets new shelves
+-- a trigger is the one with the first id or reads what that one saves, or no id is given
+abbrev pub is_meant : Option ℕ → ℕ → Role → Bool
+is_meant None other role = true
+is_meant (Some id) other role = is_kin id other role
 
--- a trigger has a shelf with nothing on it
-abbrev pub HasNewShelf : Triggers → Hist → Option Shelved → Type 0
-HasNewShelf triggers hist shelf = (its : Shelved) × ((shelf ≡ Some its) × IsNewShelf (role_of triggers hist.variable) hist.size its)
-
--- the attached triggers of a family have new shelves, and all others what they had
-pub record AreRenewed (triggers : Triggers) (family : ℕ → Bool) (old new : Shelves) : Type 0 where
-  pub stay : (id : ℕ) → family id ≡ false → map.get new id ≡ map.get old id
-  pub none : (id : ℕ) → map.get triggers id ≡ None → map.get new id ≡ map.get old id
-  pub fresh : (id : ℕ) (hist : Hist) → family id ≡ true → map.get triggers id ≡ Some hist → HasNewShelf triggers hist (map.get new id)
+-- the family of a trigger, or all triggers
+abbrev pub family_of : Triggers → Option ℕ → ℕ → Bool
+family_of triggers head other = is_meant head other (role_at triggers other)
 
 -- ---- a trigger gets its acts
 
@@ -43,9 +45,13 @@ pub record CanJoin (member : Member) (shelves : Shelves) : Type 0 where
   pub kept : AreKeptFor (triggers_of member.scene) member.scene.lanes.now (input_of member.scene.lanes.now shelves) shelves
   pub idle : (pos : Pos) → input_of member.scene.lanes.now shelves (record { pos = pos; trigger = member.id }) ≡ None
 
+-- an input with these acts of one trigger
+abbrev pub with_acts : ℕ → Acts → Acts → Acts
+with_acts id own input at = if is_one id at.trigger then own at else input at
+
 -- an input with all acts of one trigger
 abbrev pub with_trigger : Triggers → Lanes → ℕ → Acts → Acts
-with_trigger triggers lanes id input at = if is_one id at.trigger then acts_of triggers (merged lanes) at else input at
+with_trigger triggers lanes id = with_acts id (acts_of triggers (merged lanes))
 
 -- with all its acts the trigger has joined
 abbrev pub HasItsActs : Member → Shelves → Shelves → Type 0
@@ -66,9 +72,38 @@ pub record CanJoinWith (member : Member) (events : List (Pos × Traced)) (shelve
   pub listed : HasItsEvents member.scene.lanes.now member.trigger.now events
   pub can : CanJoin member shelves
 
--- ---- a trigger's acts go
+-- ---- its acts come or go one by one
 
--- without any of its acts the trigger has left
-abbrev pub HasLeft : Member → Shelves → Type 0
-HasLeft member shelves =
-    AreKeptFor (triggers_of member.scene) member.scene.lanes.now (acts_outside (is_one member.id) (triggers_of member.scene) member.scene.lanes.now) shelves
+-- of a trigger's acts those that are there before they come or go
+abbrev pub own_before : Sign → Triggers → Lanes → Acts
+own_before Insert triggers lanes at = None
+own_before Retract triggers lanes at = acts_of triggers (merged lanes) at
+
+-- and those that are there afterwards
+abbrev pub own_after : Sign → Triggers → Lanes → Acts
+own_after Insert triggers lanes at = acts_of triggers (merged lanes) at
+own_after Retract triggers lanes at = None
+
+-- an attached trigger's acts can come to shelves or go from them: a list has the held events of some names in any order, and the trigger's name is one of these
+pub record CanMove (member : Member) (sign : Sign) (events : List (Pos × Traced)) (shelves : Shelves) : Type 0 where
+  pub attached : map.get (triggers_of member.scene) member.id ≡ Some member.trigger.now
+  pub kept : AreKeptFor (triggers_of member.scene) member.scene.lanes.now (input_of member.scene.lanes.now shelves) shelves
+  pub before : (at : At) → at.trigger ≡ member.id → input_of member.scene.lanes.now shelves at ≡ own_before sign (triggers_of member.scene) member.scene.lanes.now at
+  pub names : Name → Bool
+  pub own : (name : Name) → same_name member.trigger.now.event name ≡ true → names name ≡ true
+  pub all : IsPermutation (map.entries (events_on names (merged member.scene.lanes.now))) events
+
+-- they have come or gone
+abbrev pub HaveMoved : Member → Sign → Shelves → Shelves → Type 0
+HaveMoved member sign old new =
+    AreKeptFor (triggers_of member.scene) member.scene.lanes.now
+    (with_acts member.id (own_after sign (triggers_of member.scene) member.scene.lanes.now) (input_of member.scene.lanes.now old)) new
+
+-- ---- a trigger leaves
+
+-- the shelf of a trigger can go: the shelves are views of acts, which are those of all other triggers, and what the trigger still does it does to no variable of another
+pub record CanLeave (id : ℕ) (base : Base) (shelves : Shelves) : Type 0 where
+  pub acts : Acts
+  pub kept : AreKeptFor base.triggers base.lanes acts shelves
+  pub others : (at : At) → (at.trigger ≡ id → ⊥) → acts at ≡ acts_of base.triggers (merged base.lanes) at
+  pub within : (variable : Variable) (at : At) → (variable.saver ≡ id → ⊥) → at.trigger ≡ id → op_of (role_at base.triggers) (admits_on shelves) acts variable at ≡ None

@@ -16,7 +16,7 @@ use Rattle.ft_kept.specs.Bounds.{TableMoves}
 use Rattle.ft_kept.specs.Signs.{table_edit}
 use Rattle.ft_kept.specs.declared.act.Act.{Act}
 use Rattle.ft_kept.specs.inner.Changing.{MayChange, change_by}
-use Rattle.ft_kept.proofs.OneHit.{inserts_at_most}
+use Rattle.ft_kept.proofs.HitShelf.{inserts_at_most}
 use Rattle.ft_kept.proofs.apply.change_act.Goals as goal
 
 pub change_hit-requires : goal.change_hit-requires

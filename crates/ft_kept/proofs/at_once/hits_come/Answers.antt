@@ -1,9 +1,9 @@
 -- The hits of all groups are on the shelf, with what they save, and so all acts of a trigger came that reads nothing.
-use Rattle.std.proofs.Common.{◌≡◌, sym, ap, subst, ◌∙◌, Some, inl, inr}
+use Rattle.std.proofs.Common.{◌≡◌, sym, ap, ◌∙◌, Some, inl, inr}
 use Rattle.std.specs.FinMap as map
 use Rattle.std.specs.Option.{option_copied_mut}
 use Rattle.std.proofs.lemmas.Result.{on_ok_weaker}
-use Rattle.ft_shelves.specs.Joining.{OpsJoin}
+use Rattle.ft_shelves.specs.Joining.{unread}
 use Rattle.ft_kept.proofs.AtOnce.{joined_forms, plain_kept, saver_kept}
 use Rattle.ft_kept.proofs.Forms.{ops_by, role_at}
 use Rattle.ft_kept.proofs.Putting.{written, unwritten, shelved_there}
@@ -23,9 +23,10 @@ join-requires-clause-free c = λ saves key at.
 
 pub returns-in-Some-clause-joined : goal.returns-in-Some-clause-joined
 returns-in-Some-clause-joined c =
-    let joining = c.args.joining.now in
-    let triggers = joining.triggers.now in
-    let id = joining.id in
+    let triggers = c.args.joining.now.triggers.now in
+    let hist = c.args.joining.now.trigger.now in
+    let groups = c.args.joining.now.groups.now in
+    let id = c.args.joining.now.id in
     let old = c.args.tables.now in
     let shelf = c.in-Some.shelf.now in
     let after = c.join.new.self in
@@ -34,15 +35,12 @@ returns-in-Some-clause-joined c =
     let back : new ≡ map.insert old id after = lent_back id old c.shelf_mut.result c.in-Some.shelf c.in-Some.is c.shelf_mut.ensures.value new after (c.shelf_mut.follows.holds after) in
     let is = written old new id after back in
     let others = unwritten old new id after back in
-    let bare = c.requires.joins.bare.hits shelf was in
-    let role = role_at old id (Some shelf) was in
-    on_ok_weaker c.join.result (λ come. record {
-      forms = joined_forms triggers old new id shelf after was is others joining.trigger.now c.requires.joins.attached joining.groups.now come.table come.role come.readings bare;
-      right = λ events grouped before acts all kept. elim c.requires.unread [
-        | inl plain ↦ plain_kept triggers old new id shelf after was is others joining.trigger.now c.requires.joins.attached joining.groups.now come.table come.role come.readings
-            events grouped before acts all kept plain (subst (λ r. OpsJoin r id joining.groups.now after.table shelf.ops after.ops) (sym role ∙ plain) come.ops)
-        | inr saves ↦ saver_kept triggers old new id shelf after was is others joining.trigger.now c.requires.joins.attached joining.groups.now come.table come.role come.readings
-            events grouped before acts all kept saves (subst (λ r. OpsJoin r id joining.groups.now after.table shelf.ops after.ops) (sym role ∙ saves) come.ops) (c.requires.joins.bare.saves saves)
+    let joins = c.requires.joins in
+    on_ok_weaker c.join.result (λ joined. record {
+      forms = joined_forms old new id shelf after was is others hist groups unread joined.table joined.role (joins.bare.hits shelf was);
+      right = λ of before acts come kept. elim c.requires.unread [
+        | inl plain ↦ plain_kept triggers hist id joins.attached groups of before acts come old new kept shelf after was is others joined plain
+        | inr saves ↦ saver_kept triggers hist id joins.attached groups of before acts come old new kept shelf after was is others joined saves (joins.bare.saves saves)
       ];
     }) c.join.ensures.ok
 

@@ -1,23 +1,21 @@
--- The hit comes or goes with what follows of it, and then all is settled that it made stale.
-use Rattle.std.proofs.Common.{◌+◌, [], ◌∷◌, ◌++◌, arith, inl, inr}
+-- The hit comes or goes with the operations on what it saves, and then the readings are settled.
+use Rattle.std.proofs.Common.{[], ◌∷◌, ◌++◌, arith, inl, inr}
 use Rattle.std.proofs.lemmas.Result.{on_ok_weaker}
-use Rattle.ft_shelves.specs.Changes.{table_with}
+use Rattle.ft_pairs.specs.declared.role.Role.TheVariants.{Saves}
 use Rattle.ft_shelves.specs.Shelves.{role_on}
-use Rattle.ft_kept.specs.inner.Changing.{change_of}
 use Rattle.ft_kept.specs.inner.Telling.{moved_keys, own_key}
-use Rattle.ft_shelves.proofs.Decided.{on_ok_both}
-use Rattle.ft_kept.proofs.MovedRefreshed.{can_settle, changed}
-use Rattle.ft_kept.proofs.SaverTables.{few_or_moves}
+use Rattle.ft_kept.proofs.HitShelf.{saver_changed}
+use Rattle.ft_kept.proofs.InPlace.{can_settle}
 use Rattle.ft_kept.proofs.Told.{few_saving, told_few, told_trans}
 use Rattle.ft_kept.proofs.saver.change_saving.Goals as goal
 
 pub settle_moved-requires : goal.settle_moved-requires
-settle_moved-requires g c = can_settle c.args.act.now g.acts c.args.tables.now c.requires c.change_shelf.new.tables c.in-Ok.moved c.in-Ok.ensures.leaves_stale
+settle_moved-requires g c = can_settle c.args.act.now g.acts Saves c.args.tables.now c.requires c.change_shelf.new.tables c.in-Ok.ensures.followed.placed
 
 pub returns-in-Ok-clause-changed : goal.returns-in-Ok-clause-changed
-returns-in-Ok-clause-changed g c = on_ok_both c.settle_moved.result
-    (changed c.args.act.now g.acts c.args.tables.now c.requires c.change_shelf.new.tables c.in-Ok.moved c.in-Ok.ensures.leaves_stale c.settle_moved.new.tables)
-    c.settle_moved.ensures.readers c.settle_moved.ensures.right
+returns-in-Ok-clause-changed g c = on_ok_weaker c.settle_moved.result
+    (saver_changed c.args.act.now g.acts c.args.tables.now c.requires c.in-Ok.moved c.change_shelf.new.tables c.settle_moved.new.tables c.in-Ok.ensures.followed)
+    c.settle_moved.ensures.settled
 
 pub returns-in-Ok-clause-told : goal.returns-in-Ok-clause-told
 returns-in-Ok-clause-told g c =
@@ -29,16 +27,19 @@ returns-in-Ok-clause-told g c =
     on_ok_weaker c.settle_moved.result (λ told.
     told_few ((id, act.trigger.now) ∷ []) (own_key id act.key ++ moved_keys id act.key moves) was c.settle_moved.new.changes old c.settle_moved.new.tables (few_saving (role_on old) id act.trigger.now act.key moves)
     (told_trans (own_key id act.key) (moved_keys id act.key moves) was c.change_shelf.new.changes c.settle_moved.new.changes old c.change_shelf.new.tables c.settle_moved.new.tables
-    c.in-Ok.ensures.leaves_stale.forms c.in-Ok.ensures.told told)) c.settle_moved.ensures.told
+    c.in-Ok.ensures.followed.placed.forms c.in-Ok.ensures.told told)) c.settle_moved.ensures.told
 
 pub returns-in-Ok-clause-puts : goal.returns-in-Ok-clause-puts
-returns-in-Ok-clause-puts g c =
-    let leaves_stale = c.in-Ok.ensures.leaves_stale in
-    few_or_moves (table_with (change_of c.args.act.now)) c.args.tables.now c.change_shelf.new.tables c.args.act.now.at.trigger c.requires.role leaves_stale.forms leaves_stale.table
-    c.args.act.now.key c.in-Ok.moved leaves_stale.moved (c.args.work.now.puts + 2) (c.args.work.now.puts + 3) c.change_shelf.new.work.puts c.settle_moved.new.work.puts (omega arith) c.change_shelf.ensures.puts c.settle_moved.ensures.puts
+returns-in-Ok-clause-puts g c = elim c.change_shelf.ensures.puts [
+  | inr moves ↦ inr moves
+  | inl few ↦ elim c.in-Ok.ensures.moves [
+    | inr moves ↦ inr moves
+    | inl none ↦ let last = c.settle_moved.ensures.puts none in inl (omega (arith, few, last))
+  ]
+]
 
 pub returns-in-Err-clause-puts : goal.returns-in-Err-clause-puts
 returns-in-Err-clause-puts g c = elim c.change_shelf.ensures.puts [
   | inl few ↦ inl (omega (arith, few))
-  | inr moved ↦ inr moved
+  | inr moves ↦ inr moves
 ]

@@ -1,91 +1,133 @@
--- First the readings of the other key that moved are made right, then those of the own key or the next one.
-use Rattle.std.proofs.Common.{◌≡◌, List, Option, sym, subst}
+-- First the readings of the other key that moved are settled, then those of the own key or the next one.
+use Rattle.std.proofs.Common.{◌≡◌, List, Option, Some, None, true, false, refl, sym, subst, ◌∙◌, inl, inr}
+use Rattle.std.specs.Prelude.{◌⊎◌}
+use Rattle.std.proofs.lemmas.Bool.{true≢false}
 use Rattle.std.proofs.lemmas.Result.{on_ok_weaker}
 use Rattle.ft_fields.specs.declared.key.Part.{Part}
-use Rattle.ft_pairs.specs.declared.role.Variable.{Variable}
-use Rattle.ft_shelves.specs.Shelves.{Shelves}
+use Rattle.ft_pairs.specs.Next.{IsNext}
+use Rattle.ft_pairs.specs.Source.{Ops}
+use Rattle.ft_pairs.specs.declared.at.At.{At}
+use Rattle.ft_pairs.specs.declared.at.Op.{Op}
+use Rattle.ft_pairs.specs.declared.at.Op.TheVariants.{Read}
+use Rattle.ft_shelves.specs.Shelves.{Shelves, kept_on}
+use Rattle.ft_shelves.specs.declared.saver.Moved.{Moved}
+use Rattle.ft_shelves.proofs.Decided.{none_not_some}
+use Rattle.ft_kept.specs.Acts.{Acts}
 use Rattle.ft_kept.specs.Changes.{Tells, Told}
-use Rattle.ft_kept.specs.inner.Acting.{CanSettle}
+use Rattle.ft_kept.specs.declared.act.Act.{Act}
+use Rattle.ft_kept.specs.inner.Readings.{AreSettled, IsReadAt, NextIsSettled}
+use Rattle.ft_kept.specs.inner.Saving.{MovedAreSettled, ReadsMoved, variable_at}
 use Rattle.ft_kept.specs.inner.Telling.{HasReread, HasToldOf, moved_keys, other_key, variable_key}
-use Rattle.ft_kept.specs.Views.{triggers_of}
-use Rattle.ft_kept.proofs.Forms.{readers_forms}
-use Rattle.ft_kept.proofs.Refreshing.{IsOtherRefreshed, other_refreshed, no_other_refreshed, refreshed_shelved, refreshed_partly, refreshed_readers, own_refreshes, next_refreshes}
+use Rattle.ft_kept.proofs.Forms.{readers_forms, readers_ops}
+use Rattle.ft_kept.proofs.Sources.{none_settled, settled_then, settled_too}
 use Rattle.ft_kept.proofs.Told.{told_nothing, told_reread, told_trans}
+use Rattle.ft_kept.proofs.saver.settle_moved.Given.{Over}
 use Rattle.ft_kept.proofs.saver.settle_moved.Goals as goal
 use Rattle.ft_kept.proofs.saver.settle_moved.Goals.{Joined-moved, in-Some+in_ok-settle_key, in_default}
 
-refreshed : (c : goal.Joined-moved) → IsOtherRefreshed (triggers_of c.args.act.now.scene) c.args.act.now.scene.lanes.now c.args.tables.now c.match-moved.tables c.args.act.now.at.trigger c.args.moved.other
-refreshed c =
-    let triggers = triggers_of c.args.act.now.scene in
-    let lanes = c.args.act.now.scene.lanes.now in
+module _ (act : Act) (acts : Acts) (moves : Moved) (old : Shelves) where
+  -- the readings of the other key that moved, if one did
+  abbrev OtherReads : At → Type 0
+  OtherReads q = (key : List Part) × ((moves.other ≡ Some key) × ((kept_on old).ops (variable_at act key) q ≡ Some Read))
+
+  abbrev OtherSettled : Shelves → Type 0
+  OtherSettled mid = AreSettled act.scene acts OtherReads old mid
+
+  -- all that is settled, with this next operation
+  abbrev AllReads : Option (At × Op) → At → Type 0
+  AllReads next q = IsReadAt next q ⊎ ReadsMoved act moves old q
+
+  module _ (mid new : Shelves) (first : OtherSettled mid) where
+    same_ops : (key : List Part) → ◌≡◌ {A = Ops} ((kept_on mid).ops (variable_at act key)) ((kept_on old).ops (variable_at act key))
+    same_ops key i q = readers_ops old mid first.readers (variable_at act key) q i
+
+    -- then those of the own key
+    own_settled : moves.own ≡ true → AreSettled act.scene acts (λ q. (kept_on mid).ops (variable_at act act.key) q ≡ Some Read) mid new → MovedAreSettled act acts moves old new
+    own_settled own then = record {
+      next = None;
+      is_next = λ stays. absurd (true≢false (sym own ∙ stays));
+      settled = settled_then act.scene acts OtherReads (λ q. (kept_on mid).ops (variable_at act act.key) q ≡ Some Read) (AllReads None) old mid new (λ q. parts) first then;
+    }
+      where
+        parts : {q : At} → AllReads None q → OtherReads q ⊎ ((kept_on mid).ops (variable_at act act.key) q ≡ Some Read)
+        parts {q} (inl next) = absurd (none_not_some None (q, Read) refl next)
+        parts {q} (inr (key, (inl is, reads))) = inr ((λ i. same_ops act.key i q) ∙ subst (λ k. (kept_on old).ops (variable_at act k) q ≡ Some Read) is.1 reads)
+        parts {q} (inr (key, (inr other, reads))) = inl (key, (other, reads))
+
+    -- or the next one
+    next_settled : moves.own ≡ false → NextIsSettled act.scene acts (variable_at act act.key) act.at mid new → MovedAreSettled act acts moves old new
+    next_settled stays then = record {
+      next = then.next;
+      is_next = λ _. subst (λ (ops : Ops). IsNext ops (Some act.at) then.next) (same_ops act.key) then.is_next;
+      settled = settled_then act.scene acts OtherReads (IsReadAt then.next) (AllReads then.next) old mid new (λ q. parts) first then.settled;
+    }
+      where
+        parts : {q : At} → AllReads then.next q → OtherReads q ⊎ IsReadAt then.next q
+        parts (inl next) = inr next
+        parts (inr (key, (inl is, reads))) = absurd (true≢false (sym is.0 ∙ stays))
+        parts (inr (key, (inr other, reads))) = inl (key, (other, reads))
+
+same_key : (a b : List Part) → Some a ≡ Some b → a ≡ b
+same_key a b e = cc
+
+other_settled : (g : Over) (c : goal.Joined-moved g) → OtherSettled c.args.act.now g.acts c.args.moved c.args.tables.now c.match-moved.tables
+other_settled g c =
+    let acts = g.acts in
+    let act = c.args.act.now in
+    let moves = c.args.moved in
     let old = c.args.tables.now in
-    let id = c.args.act.now.at.trigger in
     elim c.match-moved.branch [
-      | in-Some+in_ok-settle_key w ↦ other_refreshed triggers lanes old w.settle_key.new.tables c.match-moved.tables id c.args.moved.other w.in-Some.key
-          w.in-Some.is w.tables-is w.in_ok-settle_key.ensures.readers w.in_ok-settle_key.ensures.right
-      | in_default w ↦ no_other_refreshed triggers lanes old c.match-moved.tables id c.args.moved.other w.in_default.is w.tables-is
+      | in-Some+in_ok-settle_key w ↦ subst (OtherSettled act acts moves old) (sym w.tables-is)
+          (settled_too act.scene acts (λ q. (kept_on old).ops (variable_at act w.in-Some.key) q ≡ Some Read) (OtherReads act acts moves old) old w.settle_key.new.tables
+          (λ q h. subst (λ k. (kept_on old).ops (variable_at act k) q ≡ Some Read) (same_key h.0 w.in-Some.key (sym h.1.0 ∙ w.in-Some.is)) h.1.1) w.in_ok-settle_key.ensures.settled)
+      | in_default w ↦ subst (OtherSettled act acts moves old) (sym w.tables-is)
+          (none_settled act.scene acts old c.requires (OtherReads act acts moves old) (λ q h. none_not_some moves.other h.0 w.in_default.is h.1.0))
     ]
 
-can : (c : goal.Joined-moved) → CanSettle c.args.act.now.scene c.match-moved.tables
-can c = record {
-  shelved = refreshed_shelved (triggers_of c.args.act.now.scene) c.args.act.now.scene.lanes.now c.args.tables.now c.match-moved.tables c.args.act.now.at.trigger c.args.moved (refreshed c) c.requires.shelved;
-  partly = refreshed_partly (triggers_of c.args.act.now.scene) c.args.act.now.scene.lanes.now c.args.tables.now c.match-moved.tables c.args.act.now.at.trigger c.args.moved (refreshed c) c.requires.partly;
-}
-
 pub settle_key-requires-then-moved : goal.settle_key-requires-then-moved
-settle_key-requires-then-moved c = can (goal.at.settle_key-requires-then-moved c).Joined-moved
+settle_key-requires-then-moved g c = (other_settled g (goal.at.settle_key-requires-then-moved g c).Joined-moved).can
 
 pub settle_next-requires : goal.settle_next-requires
-settle_next-requires c = can (goal.at.settle_next-requires c).Joined-moved
+settle_next-requires g c = (other_settled g (goal.at.settle_next-requires g c).Joined-moved).can
 
-pub returns-then-moved-clause-readers : goal.returns-then-moved-clause-readers
-returns-then-moved-clause-readers c = on_ok_weaker c.settle_key-then-moved.result
-    (refreshed_readers (triggers_of c.args.act.now.scene) c.args.act.now.scene.lanes.now c.args.tables.now c.match-moved.tables c.args.act.now.at.trigger c.args.moved (refreshed (goal.at.returns-then-moved-clause-readers c).Joined-moved) c.settle_key-then-moved.new.tables)
-    c.settle_key-then-moved.ensures.readers
+pub returns-then-moved-clause-settled : goal.returns-then-moved-clause-settled
+returns-then-moved-clause-settled g c = on_ok_weaker c.settle_key-then-moved.result
+    (own_settled c.args.act.now g.acts c.args.moved c.args.tables.now c.match-moved.tables c.settle_key-then-moved.new.tables (other_settled g (goal.at.returns-then-moved-clause-settled g c).Joined-moved) c.if-moved.true)
+    c.settle_key-then-moved.ensures.settled
 
-pub returns-then-moved-clause-right : goal.returns-then-moved-clause-right
-returns-then-moved-clause-right c = on_ok_weaker c.settle_key-then-moved.result
-    (λ refreshes next is_next. own_refreshes (triggers_of c.args.act.now.scene) c.args.act.now.scene.lanes.now c.args.tables.now c.match-moved.tables c.args.act.now.at.trigger c.args.moved (refreshed (goal.at.returns-then-moved-clause-right c).Joined-moved) c.settle_key-then-moved.new.tables
-    c.args.act.now.key next c.if-moved.true refreshes) c.settle_key-then-moved.ensures.right
-
-pub returns-else-moved-clause-readers : goal.returns-else-moved-clause-readers
-returns-else-moved-clause-readers c = on_ok_weaker c.settle_next.result
-    (refreshed_readers (triggers_of c.args.act.now.scene) c.args.act.now.scene.lanes.now c.args.tables.now c.match-moved.tables c.args.act.now.at.trigger c.args.moved (refreshed (goal.at.returns-else-moved-clause-readers c).Joined-moved) c.settle_next.new.tables)
-    c.settle_next.ensures.readers
-
-pub returns-else-moved-clause-right : goal.returns-else-moved-clause-right
-returns-else-moved-clause-right c = on_ok_weaker c.settle_next.result
-    (λ refreshes next is_next. next_refreshes (triggers_of c.args.act.now.scene) c.args.act.now.scene.lanes.now c.args.tables.now c.match-moved.tables c.args.act.now.at.trigger c.args.moved (refreshed (goal.at.returns-else-moved-clause-right c).Joined-moved) c.settle_next.new.tables
-    c.args.act.now.key c.args.act.now.at c.if-moved.false refreshes next is_next) c.settle_next.ensures.right
+pub returns-else-moved-clause-settled : goal.returns-else-moved-clause-settled
+returns-else-moved-clause-settled g c = on_ok_weaker c.settle_next.result
+    (next_settled c.args.act.now g.acts c.args.moved c.args.tables.now c.match-moved.tables c.settle_next.new.tables (other_settled g (goal.at.returns-else-moved-clause-settled g c).Joined-moved) c.if-moved.false)
+    c.settle_next.ensures.settled
 
 -- what is told of the other key that moved
-other_told : (c : goal.Joined-moved) → HasToldOf (other_key c.args.act.now.at.trigger c.args.moved.other) c.args.changes.now c.match-moved.changes c.args.tables.now c.match-moved.tables
-other_told c = elim c.match-moved.branch [
+other_told : (g : Over) (c : goal.Joined-moved g) → HasToldOf (other_key c.args.act.now.at.trigger c.args.moved.other) c.args.changes.now c.match-moved.changes c.args.tables.now c.match-moved.tables
+other_told g c = elim c.match-moved.branch [
   | in-Some+in_ok-settle_key w ↦ subst (λ (x : Option (List Part) × (Told × Shelves)). HasToldOf (other_key c.args.act.now.at.trigger x.0) c.args.changes.now x.1.0 c.args.tables.now x.1.1)
       (λ i. (sym w.in-Some.is i, (sym w.changes-is i, sym w.tables-is i)))
-      (told_reread (record { saver = c.args.act.now.at.trigger; key = w.in-Some.key }) c.args.changes.now w.tell_key.new.self w.settle_key.new.changes c.args.tables.now w.settle_key.new.tables
+      (told_reread (variable_at c.args.act.now w.in-Some.key) c.args.changes.now w.tell_key.new.self w.settle_key.new.changes c.args.tables.now w.settle_key.new.tables
       w.tell_key.ensures.keys w.tell_key.ensures.readings w.in_ok-settle_key.ensures.told)
   | in_default w ↦ subst (λ (x : Option (List Part) × (Told × Shelves)). HasToldOf (other_key c.args.act.now.at.trigger x.0) c.args.changes.now x.1.0 c.args.tables.now x.1.1)
       (λ i. (sym w.in_default.is i, (sym w.changes-is i, sym w.tables-is i))) (told_nothing c.args.changes.now c.args.tables.now)
 ]
 
 -- and then of the own key
-both_told : (c : goal.Joined-moved) (begun after : Told) (new : Shelves)
-    → Tells (variable_key (record { saver = c.args.act.now.at.trigger; key = c.args.act.now.key })) c.match-moved.changes.keys begun.keys → begun.readings ≡ c.match-moved.changes.readings
-    → HasReread (record { saver = c.args.act.now.at.trigger; key = c.args.act.now.key }) begun after c.match-moved.tables new
+both_told : (g : Over) (c : goal.Joined-moved g) (begun after : Told) (new : Shelves)
+    → Tells (variable_key (variable_at c.args.act.now c.args.act.now.key)) c.match-moved.changes.keys begun.keys → begun.readings ≡ c.match-moved.changes.readings
+    → HasReread (variable_at c.args.act.now c.args.act.now.key) begun after c.match-moved.tables new
     → HasToldOf (moved_keys c.args.act.now.at.trigger c.args.act.now.key c.args.moved) c.args.changes.now after c.args.tables.now new
-both_told c begun after new key same reread =
-    let own : Variable = record { saver = c.args.act.now.at.trigger; key = c.args.act.now.key } in
+both_told g c begun after new key same reread =
+    let own = variable_at c.args.act.now c.args.act.now.key in
     told_trans (other_key own.saver c.args.moved.other) (variable_key own) c.args.changes.now c.match-moved.changes after c.args.tables.now c.match-moved.tables new
-    (readers_forms c.args.tables.now c.match-moved.tables (refreshed c).readers) (other_told c)
+    (readers_forms c.args.tables.now c.match-moved.tables (other_settled g c).readers) (other_told g c)
     (told_reread own c.match-moved.changes begun after c.match-moved.tables new key same reread)
 
 pub returns-then-moved-clause-told : goal.returns-then-moved-clause-told
-returns-then-moved-clause-told c = on_ok_weaker c.settle_key-then-moved.result
-    (both_told (goal.at.returns-then-moved-clause-told c).Joined-moved c.tell_key-2.new.self c.settle_key-then-moved.new.changes c.settle_key-then-moved.new.tables
+returns-then-moved-clause-told g c = on_ok_weaker c.settle_key-then-moved.result
+    (both_told g (goal.at.returns-then-moved-clause-told g c).Joined-moved c.tell_key-2.new.self c.settle_key-then-moved.new.changes c.settle_key-then-moved.new.tables
     c.tell_key-2.ensures.keys c.tell_key-2.ensures.readings) c.settle_key-then-moved.ensures.told
 
 pub returns-else-moved-clause-told : goal.returns-else-moved-clause-told
-returns-else-moved-clause-told c = on_ok_weaker c.settle_next.result
-    (both_told (goal.at.returns-else-moved-clause-told c).Joined-moved c.tell_key-2.new.self c.settle_next.new.changes c.settle_next.new.tables
+returns-else-moved-clause-told g c = on_ok_weaker c.settle_next.result
+    (both_told g (goal.at.returns-else-moved-clause-told g c).Joined-moved c.tell_key-2.new.self c.settle_next.new.changes c.settle_next.new.tables
     c.tell_key-2.ensures.keys c.tell_key-2.ensures.readings) c.settle_next.ensures.told

@@ -1,57 +1,45 @@
-use Rattle.std.proofs.Common.{Some, Ok, Err, Result, OnOk, sym, ap, subst, ◌∙◌}
-use Rattle.ft_kept.specs.Entries.{IsKeptBut}
-use Rattle.ft_kept.specs.inner.Settling.{without_next_read}
-use Rattle.ft_shelves.specs.Shelves.{role_on, kept_on}
-use Rattle.ft_table.specs.Values.{values_by}
-use Rattle.ft_kept.proofs.Forms.{readers_refl, readers_ops}
-use Rattle.ft_kept.proofs.Sources.{held_read, read_not_lost, read_stamped, read_own, read_refreshed}
+-- The event of a read is held, and its reading is settled there.
+use Rattle.std.proofs.Common.{◌≡◌, Some, Option, sym, ap, ◌∙◌, unwrap_or}
+use Rattle.std.proofs.lemmas.Bool.{true≢false}
+use Rattle.std.proofs.lemmas.Result.{on_ok_weaker}
+use Rattle.ft_pairs.specs.declared.at.At.{At}
+use Rattle.ft_pairs.specs.declared.at.Op.{Op}
+use Rattle.ft_pairs.specs.Source.{is_read}
+use Rattle.ft_pairs.specs.declared.at.Op.TheVariants.{Save, Read}
+use Rattle.ft_shelves.specs.Shelves.{kept_on}
+use Rattle.ft_kept.specs.inner.Readings.{IsReadAt}
+use Rattle.ft_kept.proofs.Sources.{none_settled, one_settled, read_acting, read_held, read_is, read_ready}
 use Rattle.ft_kept.proofs.Told.{reread_nothing}
 use Rattle.ft_kept.proofs.settle.settle_op.Goals as goal
 
--- what follows of three things that hold where there is an answer
-on_ok_all : {T E P Q R S : Type 0} (r : Result T E) → (P → Q → R → S) → OnOk r P → OnOk r Q → OnOk r R → OnOk r S
-on_ok_all (Ok x) all p q r = all p q r
-on_ok_all (Err e) all p q r = tt
+pub settle-requires : goal.settle-requires
+settle-requires g c =
+    read_ready c.args.act.now.scene g.acts c.args.tables.now c.requires.0 _ (c.requires.1 ∙ ap (λ op. Some op) c.in-Read.is) (sym c.in-Some.ensures)
 
-pub settle-requires-clause-role : goal.settle-requires-clause-role
-settle-requires-clause-role c =
-    let h = c.requires.can.partly in
-    (held_read (role_on c.args.tables.now) (values_by c.args.scene.now.triggers.now) c.args.scene.now.lanes.now h.admits h.acts h.stale (kept_on c.args.tables.now) h.held h.kept
-    c.args.variable.now c.args.operation.0 (c.requires.there ∙ ap (λ op. Some op) c.in-Read.is)).reads
+-- a save is no read
+save_no_read : (at q : At) (op : Op) → op ≡ Save → IsReadAt (Some (at, op)) q → ⊥
+save_no_read at q op save is = true≢false (sym (ap is_read (sym save ∙ ap (λ (o : Option (At × Op)). (unwrap_or o (q, Read)).1) is)))
 
-pub settle-requires-clause-own : goal.settle-requires-clause-own
-settle-requires-clause-own c =
-    let h = c.requires.can.partly in
-    read_own (role_on c.args.tables.now) (values_by c.args.scene.now.triggers.now) c.args.scene.now.lanes.now h.admits h.acts h.stale (kept_on c.args.tables.now) h.held h.kept
-    c.args.variable.now c.args.operation.0 (c.requires.there ∙ ap (λ op. Some op) c.in-Read.is) c.in-Some.event (sym c.in-Some.ensures)
-
-pub settle-requires-clause-stamped : goal.settle-requires-clause-stamped
-settle-requires-clause-stamped c =
-    let h = c.requires.can.partly in
-    read_stamped (role_on c.args.tables.now) (values_by c.args.scene.now.triggers.now) c.args.scene.now.lanes.now h.admits h.acts h.stale (kept_on c.args.tables.now) h.held h.kept
-    c.args.variable.now c.args.operation.0 (c.requires.there ∙ ap (λ op. Some op) c.in-Read.is) c.in-Some.event (sym c.in-Some.ensures)
-
-pub returns-in-Save-clause-readers : goal.returns-in-Save-clause-readers
-returns-in-Save-clause-readers c = readers_refl c.args.tables.now
+pub returns-in-Save-clause-settled : goal.returns-in-Save-clause-settled
+returns-in-Save-clause-settled g c =
+    let operation = c.args.operation.now in
+    none_settled c.args.act.now.scene g.acts c.args.tables.now c.requires.0 (IsReadAt (Some (operation.at, operation.op))) (λ q. save_no_read operation.at q operation.op c.in-Save.is)
 
 pub returns-in-Save-clause-told : goal.returns-in-Save-clause-told
-returns-in-Save-clause-told c = reread_nothing c.args.variable.now c.args.changes.now c.args.tables.now
+returns-in-Save-clause-told g c = reread_nothing c.args.operation.now.variable c.args.changes.now c.args.tables.now
 
-pub returns-in-Some-clause-right : goal.returns-in-Some-clause-right
-returns-in-Some-clause-right c = on_ok_all c.settle.result (λ readers others right admits acts stale held kept.
-    subst (λ op. IsKeptBut (role_on c.args.tables.now) (values_by c.args.scene.now.triggers.now) admits acts (kept_on c.settle.new.tables) (without_next_read (Some (c.args.operation.0, op)) stale)) (sym c.in-Read.is)
-    (read_refreshed (role_on c.args.tables.now) (values_by c.args.scene.now.triggers.now) c.args.scene.now.lanes.now admits acts stale (kept_on c.args.tables.now) held kept
-    c.args.variable.now c.args.operation.0 (c.requires.there ∙ ap (λ op. Some op) c.in-Read.is) c.in-Some.event (sym c.in-Some.ensures)
-    (kept_on c.settle.new.tables) (readers_ops c.args.tables.now c.settle.new.tables readers) others right))
-    c.settle.ensures.readers c.settle.ensures.others c.settle.ensures.right
+pub returns-in-Some-clause-settled : goal.returns-in-Some-clause-settled
+returns-in-Some-clause-settled g c =
+    let operation = c.args.operation.now in
+    let scene = c.args.act.now.scene in
+    let old = c.args.tables.now in
+    let read : (kept_on old).ops operation.variable operation.at ≡ Some Read = c.requires.1 ∙ ap (λ op. Some op) c.in-Read.is in
+    on_ok_weaker c.settle.result (λ settled.
+    one_settled scene g.acts old c.requires.0 c.settle.new.tables _ settled (read_is scene g.acts old c.requires.0 operation.variable operation.at read).1.1
+    (read_acting scene g.acts old c.requires.0 operation.variable operation.at read c.in-Some.event (sym c.in-Some.ensures))
+    (IsReadAt (Some (operation.at, operation.op))) (λ q is. ap (λ (o : Option (At × Op)). (unwrap_or o (q, Read)).0) (sym is))) c.settle.ensures.settled
 
-pub returns-in-None-clause-readers : goal.returns-in-None-clause-readers
-returns-in-None-clause-readers c = readers_refl c.args.tables.now
-
-pub returns-in-None-clause-right : goal.returns-in-None-clause-right
-returns-in-None-clause-right c = λ admits acts stale held kept.
-    absurd (read_not_lost (role_on c.args.tables.now) (values_by c.args.scene.now.triggers.now) c.args.scene.now.lanes.now admits acts stale (kept_on c.args.tables.now) held kept
-    c.args.variable.now c.args.operation.0 (c.requires.there ∙ ap (λ op. Some op) c.in-Read.is) (sym c.in-None.ensures))
-
-pub returns-in-None-clause-told : goal.returns-in-None-clause-told
-returns-in-None-clause-told c = reread_nothing c.args.variable.now c.args.changes.now c.args.tables.now
+pub returns-in-None : goal.returns-in-None
+returns-in-None g c =
+    let operation = c.args.operation.now in
+    absurd (cc (read_held c.args.act.now.scene g.acts c.args.tables.now c.requires.0 operation.variable operation.at (c.requires.1 ∙ ap (λ op. Some op) c.in-Read.is), c.in-None.ensures))

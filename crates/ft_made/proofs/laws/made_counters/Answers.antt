@@ -1,6 +1,4 @@
-use Rattle.ft_made.proofs.Counting.{made_count, made_none}
-use Rattle.ft_made.proofs.Naming.{making-named}
-use Rattle.ft_made.proofs.Turns.{first-is, none-made}
+use Rattle.ft_made.proofs.Counters.{first-is, made_count, made_none, making-named, none-made}
 use Rattle.ft_made.proofs.laws.made_counters.Goals as goal
 
 pub returns : goal.returns

@@ -28,21 +28,19 @@ held_stamp lanes pos = elim (event_at lanes pos.cpu pos.line) as (λ o. HasStamp
 made_stamp : (maker : Hist) (pos : Pos) (event : Traced) (saved : Pos) → pos.stamp ≡ event.stamp → HasStamp pos (made_of maker pos event saved)
 made_stamp maker pos event saved same = elim maker.onmatch as (λ o. HasStamp pos (option_map (made_event pos event saved) o)) [ None ↦ tt | Some onmatch ↦ same ]
 
-pub returns-clause-made : goal.returns-clause-made
-returns-clause-made c =
+pub returns : goal.returns
+returns c =
     let pos : Pos = c.args.change.now.pos in
     let saved : c.args.found ≡ Some c.in_ok-saved.saved = search rules in
     let attached : map.get c.args.triggers.now c.args.change.now.id ≡ Some c.in_ok-maker.maker.now = search rules in
     let there : held_at c.args.lanes.now pos ≡ Some c.in_ok-event.event = search rules in
-    c.made.ensures pos (subst (HasStamp pos) there (held_stamp c.args.lanes.now pos))
-    ∙ sym (λ i. option_and_then (λ event. option_and_then (λ hist. option_and_then (made_of hist pos event) (saved i)) (attached i)) ((merged_at pos c.args.lanes.now ∙ there) i))
-
-pub returns-clause-stamped : goal.returns-clause-stamped
-returns-clause-stamped c =
-    let pos : Pos = c.args.change.now.pos in
-    let there : held_at c.args.lanes.now pos ≡ Some c.in_ok-event.event = search rules in
     let stamp : pos.stamp ≡ c.in_ok-event.event.stamp = subst (HasStamp pos) there (held_stamp c.args.lanes.now pos) in
-    subst (HasStamp pos) (sym (c.made.ensures pos stamp)) (made_stamp c.in_ok-maker.maker.now pos c.in_ok-event.event c.in_ok-saved.saved stamp)
+    record {
+      made =
+          c.made.ensures pos stamp
+          ∙ sym (λ i. option_and_then (λ event. option_and_then (λ hist. option_and_then (made_of hist pos event) (saved i)) (attached i)) ((merged_at pos c.args.lanes.now ∙ there) i));
+      stamped = subst (HasStamp pos) (sym (c.made.ensures pos stamp)) (made_stamp c.in_ok-maker.maker.now pos c.in_ok-event.event c.in_ok-saved.saved stamp);
+    }
 
 pub returns-in_err-event-clause-made : goal.returns-in_err-event-clause-made
 returns-in_err-event-clause-made c =

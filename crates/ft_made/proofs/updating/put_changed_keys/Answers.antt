@@ -1,5 +1,6 @@
-use Rattle.std.proofs.Common.{◌≡◌, ◌+◌, ◌++◌, List, arith, drop, get_or, ap, ◌∙◌}
-use Rattle.std.proofs.lemmas.List.{append_assoc, drop_all, drop_more}
+use Rattle.std.proofs.Common.{◌≡◌, ◌+◌, ◌++◌, List, arith, drop, get_or, sym, ap, ◌∙◌}
+use Rattle.std.specs.List.{flat_map}
+use Rattle.std.proofs.lemmas.List.{append-nil, append_assoc, at_drop_all, at_drop_more}
 use Rattle.ft_hist.specs.Hist.{Hist}
 use Rattle.ft_fields.specs.declared.key.Part.{Part}
 use Rattle.ft_changes.specs.declared.changed.ReadingChange.{ReadingChange}
@@ -7,8 +8,7 @@ use Rattle.ft_hist.specs.Triggers.{Triggers}
 use Rattle.ft_replay.specs.Merged.{Events, merged}
 use Rattle.ft_replay.proofs.Stepping.{grow_more}
 use Rattle.ft_made.specs.Updating.{keys_at, keys_of_made, changed_keys, made_as}
-use Rattle.ft_made.proofs.Updated.{no_change}
-use Rattle.ft_made.proofs.Views.{flat_done, flat_step}
+use Rattle.ft_made.proofs.MadeTables.{no_change}
 use Rattle.ft_made.proofs.updating.put_changed_keys.Goals as goal
 
 pub loop-change-preserved : goal.loop-change-preserved
@@ -18,6 +18,7 @@ loop-change-preserved c =
     let hist : Hist = c.args.trigger.now in
     let changes : List ReadingChange = c.args.changes.now in
     let change : ReadingChange = get_or changes c.loop-change.change-index no_change in
+    let left : List ReadingChange = drop (c.loop-change.change-index + 1) changes in
     let old : List (List Part) = c.loop-change.keys.items in
     let one : List (List Part) = keys_of_made hist (made_as triggers events change change.before) in
     let two : List (List Part) = keys_of_made hist (made_as triggers events change change.after) in
@@ -27,13 +28,18 @@ loop-change-preserved c =
     ∙ ap (λ made. (old ++ keys_of_made hist made) ++ two) c.made_of_change-before.ensures.made
     ∙ append_assoc old one two in
     record {
-      all = flat_step (keys_at triggers events hist) old c.put_key-in-loop-change.new.keys.items _ change (drop (c.loop-change.change-index + 1) changes) (drop c.loop-change.change-index changes)
-          (drop_more changes c.loop-change.change-index no_change c.loop-change-test.true) puts c.loop-change.invariant.all;
+      all =
+          ap (λ (keys : List (List Part)). keys ++ flat_map (keys_at triggers events hist) left) puts
+          ∙ append_assoc old (keys_at triggers events hist change) (flat_map (keys_at triggers events hist) left)
+          ∙ sym (at_drop_more (λ (more : List ReadingChange). old ++ flat_map (keys_at triggers events hist) more) changes c.loop-change.change-index no_change c.loop-change-test.true)
+          ∙ c.loop-change.invariant.all;
       grow = grow_more _ _ _ (grow_more _ _ _ c.loop-change.invariant.grow c.in_ok-put_key.ensures.grow) c.in_ok-put_key-2.ensures.grow;
     }
 
 pub returns-clause-keys : goal.returns-clause-keys
 unfolding changed_keys
 returns-clause-keys c =
-    flat_done (keys_at c.args.triggers.now (merged c.args.lanes.now) c.args.trigger.now) c.loop-change.keys.items _ (drop c.loop-change.change-index c.args.changes.now)
-    (drop_all c.loop-change.change-index c.args.changes.now (omega (arith, c.loop-change-test.false))) c.loop-change.invariant.all
+    let keys : List (List Part) = c.loop-change.keys.items in
+    sym (append-nil keys)
+    ∙ sym (at_drop_all (λ (more : List ReadingChange). keys ++ flat_map (keys_at c.args.triggers.now (merged c.args.lanes.now) c.args.trigger.now) more) c.args.changes.now c.loop-change.change-index (omega (arith, c.loop-change-test.false)))
+    ∙ c.loop-change.invariant.all

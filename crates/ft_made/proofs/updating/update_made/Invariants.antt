@@ -3,7 +3,7 @@ use Rattle.ft_hist.specs.Steps.{StepsGrow}
 use Rattle.ft_changes.specs.Findings.{Findings, Lead}
 use Rattle.ft_replay.specs.Merged.{merged}
 use Rattle.ft_made.specs.MadeTables.{IsMadeTable}
-use Rattle.ft_made.proofs.Updated.{IsOnTheWay}
+use Rattle.ft_made.proofs.MadeTables.{IsOnTheWay}
 use Rattle.ft_made.proofs.updating.update_made.Given as goal
 
 -- whatever readings found at first, the table is made of what they have come to find, and the changes that are left lead on; no count of steps fell, and nothing is done where nothing changed

@@ -1,4 +1,4 @@
-use Rattle.std.proofs.Common.{◌≡◌, ℕ, Bool, true, false, List, refl, sym, ap, subst, ◌∙◌, Option, Some, None, Ok, Err, Result, unwrap_or, arith}
+use Rattle.std.proofs.Common.{◌≡◌, ℕ, List, ◌∷◌, refl, sym, ap, subst, ◌∙◌, Option, Some, None, Ok, Err, Result, unwrap_or, arith}
 use Rattle.std.specs.declared.alloc.AllocError.{AllocError}
 use Rattle.std.specs.FinMap as map
 use Rattle.std.proofs.lemmas.Map.Iter.{rest_all}
@@ -6,11 +6,14 @@ use Rattle.ft_fields.specs.Traced.{Traced}
 use Rattle.ft_fields.specs.declared.pos.Pos.{Pos}
 use Rattle.ft_kept.specs.Input.{input_of}
 use Rattle.ft_kept.specs.Repairs.{IsHeldAt}
-use Rattle.ft_kept.specs.Shelves.{FormsStay}
+use Rattle.ft_kept.specs.Memory.{AllActPlainly}
+use Rattle.ft_kept.specs.Shelves.{FormsStay, Shelves}
 use Rattle.ft_kept.specs.Views.{HasAt, triggers_of, with_event}
 use Rattle.ft_kept.proofs.Forms.{forms_refl, forms_trans}
+use Rattle.ft_lanes.proofs.Counts.{remove_none}
 use Rattle.ft_lanes.specs.Held.{Lane, Lanes}
 use Rattle.ft_lanes.specs.Walks.{traced_line}
+use Rattle.ft_shelves.specs.declared.sign.Sign.TheVariants.{Retract}
 use Rattle.ft_base.specs.Base.{Base, Triggers}
 use Rattle.ft_base.specs.Reachable.{HasSavers}
 use Rattle.ft_answers.specs.Costs.{count_on_lane}
@@ -20,18 +23,20 @@ use Rattle.ft_replay.proofs.Stepping.{grow_none, grow_more}
 use Rattle.ft_repair.specs.KeptShelves.{AreKept, AreKeptOf}
 use Rattle.ft_repair.specs.ReadingsTold.{ReadingsTold}
 use Rattle.ft_repair.proofs.Changing.{next_of, next_views, next_held, next_before, changing_fewer}
-use Rattle.ft_repair.proofs.LaneGoes.{IsGoing, placed, line_next, going_all, going_plain, going_none, no_lane, no_lines, its_lines}
-use Rattle.ft_repair.proofs.LanesCome.{count_events, counted}
-use Rattle.ft_repair.proofs.Outside.{if_still}
-use Rattle.ft_repair.proofs.Repaired.{if_there, there_if}
-use Rattle.ft_repair.proofs.Telling.{telling_none, telling_more}
+use Rattle.ft_repair.proofs.EventLists.{IsGoing, placed, line_next, going_all, going_plain, events_none, no_lines, its_lines, count_events, counted}
+use Rattle.ft_repair.proofs.Repaired.{if_still, if_there, telling_none, telling_more, there_if}
 use Rattle.ft_repair.proofs.lanes.let_lane_go.Goals as goal
+
+-- if a base's lane is of plain hits, so is its next event
+line_plain : (base : Base) {triggers : Triggers} {lanes : Lanes} → triggers ≡ base.triggers → lanes ≡ base.lanes → (cpu : ℕ) (e : ℕ × Traced) (rest : List (ℕ × Traced)) {shelves : Shelves}
+    → IsGoing triggers lanes cpu (e ∷ rest) shelves → IsPlainLane base.triggers base.lanes cpu → AllActPlainly triggers shelves e.1
+line_plain base {triggers} {lanes} own all cpu e rest going plain = going_plain triggers lanes cpu e rest going (subst (λ (held : Triggers × Lanes). IsPlainLane held.0 held.1 cpu) (λ i. (sym own i, sym all i)) plain)
 
 pub returns-in_default-lane-clause-kept : goal.returns-in_default-lane-clause-kept
 returns-in_default-lane-clause-kept c =
     let base : Base = c.args.content.now in
     let none : map.get base.lanes c.args.cpu ≡ None = ap (λ (lanes : Lanes). map.get lanes c.args.cpu) (sym c.scene_of-scene.ensures.lanes) ∙ no_lines (map.get c.scene_of-scene.result.lanes.now c.args.cpu) c.in_default-lane.ensures.rest in
-    subst (λ (lanes : Lanes). AreKept base.triggers (merged lanes) c.in-Some.tables) (sym (no_lane base.lanes c.args.cpu none)) (there_if (AreKeptOf base) c.in-Some.tables c.args.kept.now c.in-Some.ensures.value c.requires)
+    subst (λ (lanes : Lanes). AreKept base.triggers (merged lanes) c.in-Some.tables) (sym (remove_none base.lanes c.args.cpu none)) (there_if (AreKeptOf base) c.in-Some.tables c.args.kept.now c.in-Some.ensures.value c.requires)
 
 pub loop-line-init : goal.loop-line-init
 loop-line-init c =
@@ -46,8 +51,8 @@ loop-line-init c =
     record {
       going = subst (λ (es : List (ℕ × Traced)). IsGoing triggers lanes c.args.cpu es c.in-Some.tables) (sym all) (going_all triggers lanes c.args.cpu its.0 its.1.0 savers c.in-Some.tables kept);
       evals = λ lane there.
-          let same : its.0 ≡ lane = ap (λ (o : Option Lane). unwrap_or o lane) (sym its.1.0 ∙ there) in
-          let counts : count_events triggers c.into_iter-line-iterator.result ≡ count_on_lane triggers lane = ap (count_events triggers) all ∙ ap (count_on_lane triggers) same in
+          let same : its.0 ≡ lane = ap (λ (o : Option Lane). unwrap_or o lane) (sym its.1.0 ∙ ap (λ (all : Lanes). map.get all c.args.cpu) c.scene_of-scene.ensures.lanes ∙ there) in
+          let counts : count_events triggers c.into_iter-line-iterator.result ≡ count_on_lane c.args.content.now.triggers lane = ap (count_events triggers) all ∙ (λ i. count_on_lane (c.scene_of-scene.ensures.triggers i) (same i)) in
           omega (arith, counts);
       forms = if_there (λ before. FormsStay before c.in-Some.tables) c.in-Some.tables c.args.kept.now c.in-Some.ensures.value (forms_refl c.in-Some.tables);
       reread = if_there (λ before. ReadingsTold c.args.changes.now.readings c.args.changes.now.readings before c.in-Some.tables) c.in-Some.tables c.args.kept.now c.in-Some.ensures.value (telling_none c.args.changes.now.readings c.in-Some.tables);
@@ -55,25 +60,18 @@ loop-line-init c =
       grow = grow_none _;
     }
 
-pub apply-requires-clause-views : goal.apply-requires-clause-views
-apply-requires-clause-views c =
+pub apply-requires : goal.apply-requires
+apply-requires c =
+    let triggers : Triggers = triggers_of c.scene_of-scene.result in
+    let lanes : Lanes = c.scene_of-scene.result.lanes.now in
     let more = line_next _ _ _ _ _ c.in-Some-2.is c.next.ensures.steps c.event-event.ensures in
-    let going = next_of (ap (placed c.args.cpu) more) c.loop-line.invariant.going in
-    next_views going
-
-pub apply-requires-clause-held : goal.apply-requires-clause-held
-apply-requires-clause-held c =
-    let more = line_next _ _ _ _ _ c.in-Some-2.is c.next.ensures.steps c.event-event.ensures in
-    let going = next_of (ap (placed c.args.cpu) more) c.loop-line.invariant.going in
+    let is = next_of (ap (placed c.args.cpu) more) c.loop-line.invariant.going in
     let place : place_of c.args.cpu (c.in-Some-2.line, c.event-event.result) ≡ (record { stamp = c.event.inside.stamp; cpu = c.args.cpu; line = c.in-Some-2.line }) = λ i. record { stamp = ap (λ (x : Traced). x.stamp) (sym c.event.view_is) i; cpu = c.args.cpu; line = c.in-Some-2.line } in
-    subst (λ (pos : Pos). IsHeldAt c.scene_of-scene.result.lanes.now pos c.event-event.result) place (next_held going)
-
-pub apply-requires-clause-before : goal.apply-requires-clause-before
-apply-requires-clause-before c =
-    let more = line_next _ _ _ _ _ c.in-Some-2.is c.next.ensures.steps c.event-event.ensures in
-    let going = next_of (ap (placed c.args.cpu) more) c.loop-line.invariant.going in
-    let place : place_of c.args.cpu (c.in-Some-2.line, c.event-event.result) ≡ (record { stamp = c.event.inside.stamp; cpu = c.args.cpu; line = c.in-Some-2.line }) = λ i. record { stamp = ap (λ (x : Traced). x.stamp) (sym c.event.view_is) i; cpu = c.args.cpu; line = c.in-Some-2.line } in
-    subst (λ (pos : Pos). HasAt (triggers_of c.scene_of-scene.result) (input_of c.scene_of-scene.result.lanes.now c.loop-line.tables) pos (Some c.event-event.result)) place (λ id. next_before going id refl)
+    record {
+      views = next_views is;
+      held = subst (λ (pos : Pos). IsHeldAt lanes pos c.event-event.result) place (next_held is);
+      before = subst (λ (pos : Pos). HasAt triggers (input_of lanes c.loop-line.tables) pos (Some c.event-event.result)) place (λ id. next_before is id refl);
+    }
 
 pub loop-line-preserved : goal.loop-line-preserved
 loop-line-preserved c =
@@ -87,46 +85,33 @@ loop-line-preserved c =
       forms = if_still (λ before. FormsStay before c.loop-line.tables) (λ before. FormsStay before c.apply.new.self) c.args.kept.now (λ before was. forms_trans before c.loop-line.tables c.apply.new.self was c.in_default-apply.ensures.forms) c.loop-line.invariant.forms;
       reread = if_still (λ before. ReadingsTold c.args.changes.now.readings c.loop-line.changes.readings before c.loop-line.tables) (λ before. ReadingsTold c.args.changes.now.readings c.apply.new.changes.readings before c.apply.new.self) c.args.kept.now
           (λ before was. telling_more c.args.changes.now.readings c.loop-line.changes c.apply.new.changes before c.loop-line.tables c.apply.new.self was c.in_default-apply.ensures.told.told) c.loop-line.invariant.reread;
-      quiet = λ plain. c.in_default-apply.ensures.quiet (going_plain _ _ _ (c.in-Some-2.line, c.event-event.result) c.next.new.self going plain) ∙ c.loop-line.invariant.quiet plain;
+      quiet = λ plain. c.in_default-apply.ensures.quiet (line_plain c.args.content.now c.scene_of-scene.ensures.triggers c.scene_of-scene.ensures.lanes c.args.cpu (c.in-Some-2.line, c.event-event.result) c.next.new.self going plain) ∙ c.loop-line.invariant.quiet plain;
       grow = grow_more _ _ _ c.loop-line.invariant.grow c.in_default-apply.ensures.grow;
     }
-
--- whether a call went through
-abbrev went : Result Unit AllocError → Bool
-went (Ok done) = true
-went (Err fault) = false
 
 pub returns-in-Err-clause-now : goal.returns-in-Err-clause-now
 returns-in-Err-clause-now c plain gone =
     let more = line_next _ _ _ _ _ c.in-Some-2.is c.next.ensures.steps c.event-event.ensures in
     let going = next_of (ap (placed c.args.cpu) more) c.loop-line.invariant.going in
-    let hits : IsPlainLane (triggers_of c.scene_of-scene.result) c.scene_of-scene.result.lanes.now c.args.cpu = subst (λ (held : Triggers × Lanes). IsPlainLane held.0 held.1 c.args.cpu) (λ i. (sym c.scene_of-scene.ensures.triggers i, sym c.scene_of-scene.ensures.lanes i)) plain in
-    let done : c.apply.result ≡ Ok tt = c.apply.ensures.memory (going_plain _ _ _ (c.in-Some-2.line, c.event-event.result) c.next.new.self going hits) in
-    let both : ◌≡◌ {A = Bool} true false = ap went (sym done ∙ c.in-Err.is) in
+    let done : c.apply.result ≡ Ok tt = c.apply.ensures.memory (line_plain c.args.content.now c.scene_of-scene.ensures.triggers c.scene_of-scene.ensures.lanes c.args.cpu (c.in-Some-2.line, c.event-event.result) c.next.new.self going plain) in
+    let both : ◌≡◌ {A = Result Unit AllocError} (Ok tt) (Err c.in-Err.field-0) = sym done ∙ c.in-Err.is in
     absurd cc
 
 pub returns-in-Err-clause-quiet : goal.returns-in-Err-clause-quiet
 returns-in-Err-clause-quiet c plain =
     let more = line_next _ _ _ _ _ c.in-Some-2.is c.next.ensures.steps c.event-event.ensures in
     let going = next_of (ap (placed c.args.cpu) more) c.loop-line.invariant.going in
-    let hits : IsPlainLane (triggers_of c.scene_of-scene.result) c.scene_of-scene.result.lanes.now c.args.cpu = subst (λ (held : Triggers × Lanes). IsPlainLane held.0 held.1 c.args.cpu) (λ i. (sym c.scene_of-scene.ensures.triggers i, sym c.scene_of-scene.ensures.lanes i)) plain in
-    c.apply.ensures.quiet (going_plain _ _ _ (c.in-Some-2.line, c.event-event.result) c.next.new.self going hits) ∙ c.loop-line.invariant.quiet hits
+    c.apply.ensures.quiet (line_plain c.args.content.now c.scene_of-scene.ensures.triggers c.scene_of-scene.ensures.lanes c.args.cpu (c.in-Some-2.line, c.event-event.result) c.next.new.self going plain) ∙ c.loop-line.invariant.quiet plain
 
 pub returns-in-Err-clause-evals : goal.returns-in-Err-clause-evals
 returns-in-Err-clause-evals c lane there =
     let more = line_next _ _ _ _ _ c.in-Some-2.is c.next.ensures.steps c.event-event.ensures in
-    let before = c.loop-line.invariant.evals lane (ap (λ (lanes : Lanes). map.get lanes c.args.cpu) c.scene_of-scene.ensures.lanes ∙ there) in
-    let count = counted (triggers_of c.scene_of-scene.result) more in
-    omega (arith, before, count, c.apply.ensures.evals, ap (λ (ts : Triggers). count_on_lane ts lane) c.scene_of-scene.ensures.triggers)
+    omega (arith, c.loop-line.invariant.evals lane there, counted (triggers_of c.scene_of-scene.result) more, c.apply.ensures.evals)
 
 pub returns-clause-kept : goal.returns-clause-kept
 returns-clause-kept c =
     subst (λ (held : Triggers × Lanes). AreKept held.0 (merged (map.remove held.1 c.args.cpu)) c.loop-line.tables) (λ i. (c.scene_of-scene.ensures.triggers i, c.scene_of-scene.ensures.lanes i))
-    (going_none _ _ _ (rest_all traced_line _ _ _ c.in-None.is c.next.ensures.steps) c.loop-line.invariant.going)
-
-pub returns-clause-quiet : goal.returns-clause-quiet
-returns-clause-quiet c plain =
-    c.loop-line.invariant.quiet (subst (λ (held : Triggers × Lanes). IsPlainLane held.0 held.1 c.args.cpu) (λ i. (sym c.scene_of-scene.ensures.triggers i, sym c.scene_of-scene.ensures.lanes i)) plain)
+    (events_none _ _ Retract _ _ (ap (placed c.args.cpu) (rest_all traced_line _ _ _ c.in-None.is c.next.ensures.steps)) c.loop-line.invariant.going)
 
 pub returns-in_default-lane-clause-forms : goal.returns-in_default-lane-clause-forms
 returns-in_default-lane-clause-forms c =

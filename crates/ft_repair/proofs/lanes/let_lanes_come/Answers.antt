@@ -7,6 +7,7 @@ use Rattle.ft_kept.specs.Shelves.{FormsStay}
 use Rattle.ft_kept.specs.Views.{triggers_of}
 use Rattle.ft_kept.proofs.Forms.{forms_refl, forms_trans}
 use Rattle.ft_lanes.specs.Held.{Lanes}
+use Rattle.ft_shelves.specs.declared.sign.Sign.TheVariants.{Insert}
 use Rattle.ft_maps.specs.Mapped.{entries_by}
 use Rattle.ft_store.specs.Stored.{held}
 use Rattle.ft_store.specs.declared.stored.Stored.{Stored}
@@ -20,11 +21,8 @@ use Rattle.ft_replay.specs.Merged.{merged}
 use Rattle.ft_replay.specs.Named.{named}
 use Rattle.ft_replay.proofs.Stepping.{grow_none, grow_more}
 use Rattle.ft_repair.proofs.Changing.{next_of, next_views, next_held, next_before, changing_fewer}
-use Rattle.ft_repair.proofs.LanesCome.{AreComing, coming_all, coming_none, count_events, counted}
-use Rattle.ft_repair.proofs.Outside.{if_still}
-use Rattle.ft_repair.proofs.Repaired.{if_there, there_if}
-use Rattle.ft_repair.proofs.Telling.{telling_none, telling_more}
-use Rattle.ft_repair.proofs.Unpacked.{first_left}
+use Rattle.ft_repair.proofs.EventLists.{AreComing, coming_all, events_none, count_events, counted, first_left}
+use Rattle.ft_repair.proofs.Repaired.{if_still, if_there, telling_none, telling_more, there_if}
 use Rattle.ft_repair.proofs.lanes.let_lanes_come.Goals as goal
 
 pub loop-pos-init : goal.loop-pos-init
@@ -40,26 +38,20 @@ loop-pos-init c =
     (there_if (AreKeptOfLanes cpus c.args.content.now) c.in-Some.tables c.args.kept.now c.in-Some.ensures.value c.requires) in
     record {
       coming = subst (λ (es : List (Pos × Traced)). AreComing lanes triggers cpus es c.in-Some.tables) (sym all) (coming_all lanes triggers cpus savers c.in-Some.tables kept);
-      evals = omega (arith, ap (count_events triggers) all);
+      evals =
+          let same : count_events triggers (map.entries (named triggers (merged (lanes_but cpus lanes)))) ≡ count_coming cpus c.args.content.now =
+          λ i. count_events (c.scene_of-scene.ensures.triggers i) (map.entries (named (c.scene_of-scene.ensures.triggers i) (merged (lanes_but cpus (c.scene_of-scene.ensures.lanes i))))) in
+          omega (arith, ap (count_events triggers) all, same);
       forms = if_there (λ before. FormsStay before c.in-Some.tables) c.in-Some.tables c.args.kept.now c.in-Some.ensures.value (forms_refl c.in-Some.tables);
       reread = if_there (λ before. ReadingsTold c.args.changes.now.readings c.args.changes.now.readings before c.in-Some.tables) c.in-Some.tables c.args.kept.now c.in-Some.ensures.value (telling_none c.args.changes.now.readings c.in-Some.tables);
       grow = grow_none _;
     }
 
-pub apply-requires-clause-views : goal.apply-requires-clause-views
-apply-requires-clause-views c =
+pub apply-requires : goal.apply-requires
+apply-requires c =
     let more = first_left c.deref-pos-items.result.now c.loop-pos.pos-index c.loop-pos-item.result c.event.result c.loop-pos-test.true c.loop-pos-item.is c.event.ensures in
-    next_views (next_of more c.loop-pos.invariant.coming)
-
-pub apply-requires-clause-held : goal.apply-requires-clause-held
-apply-requires-clause-held c =
-    let more = first_left c.deref-pos-items.result.now c.loop-pos.pos-index c.loop-pos-item.result c.event.result c.loop-pos-test.true c.loop-pos-item.is c.event.ensures in
-    next_held (next_of more c.loop-pos.invariant.coming)
-
-pub apply-requires-clause-before : goal.apply-requires-clause-before
-apply-requires-clause-before c =
-    let more = first_left c.deref-pos-items.result.now c.loop-pos.pos-index c.loop-pos-item.result c.event.result c.loop-pos-test.true c.loop-pos-item.is c.event.ensures in
-    λ id. next_before (next_of more c.loop-pos.invariant.coming) id refl
+    let is = next_of more c.loop-pos.invariant.coming in
+    record { views = next_views is; held = next_held is; before = λ id. next_before is id refl }
 
 pub loop-pos-preserved : goal.loop-pos-preserved
 loop-pos-preserved c =
@@ -77,12 +69,9 @@ pub returns-clause-kept : goal.returns-clause-kept
 returns-clause-kept c =
     let none = ap (entries_by held) (drop_all c.loop-pos.pos-index c.deref-pos-items.result.now c.loop-pos-test.false) in
     subst (λ (both : Triggers × Lanes). AreKept both.0 (merged both.1) c.loop-pos.tables) (λ i. (c.scene_of-scene.ensures.triggers i, c.scene_of-scene.ensures.lanes i))
-    (coming_none c.scene_of-scene.result.lanes.now (triggers_of c.scene_of-scene.result) c.args.before.now none c.loop-pos.invariant.coming)
+    (events_none (triggers_of c.scene_of-scene.result) c.scene_of-scene.result.lanes.now Insert _ (merged c.scene_of-scene.result.lanes.now) none c.loop-pos.invariant.coming)
 
 pub returns-in-Err-clause-evals : goal.returns-in-Err-clause-evals
 returns-in-Err-clause-evals c =
     let more = first_left c.deref-pos-items.result.now c.loop-pos.pos-index c.loop-pos-item.result c.event.result c.loop-pos-test.true c.loop-pos-item.is c.event.ensures in
-    let count = counted (triggers_of c.scene_of-scene.result) more in
-    let same : count_events (triggers_of c.scene_of-scene.result) (map.entries (named (triggers_of c.scene_of-scene.result) (merged (lanes_but c.args.before.now c.scene_of-scene.result.lanes.now)))) ≡ count_coming c.args.before.now c.args.content.now =
-    λ i. count_events (c.scene_of-scene.ensures.triggers i) (map.entries (named (c.scene_of-scene.ensures.triggers i) (merged (lanes_but c.args.before.now (c.scene_of-scene.ensures.lanes i))))) in
-    omega (arith, c.loop-pos.invariant.evals, count, c.apply.ensures.evals, same)
+    omega (arith, c.loop-pos.invariant.evals, counted (triggers_of c.scene_of-scene.result) more, c.apply.ensures.evals)

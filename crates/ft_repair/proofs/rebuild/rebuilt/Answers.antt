@@ -6,24 +6,30 @@ use Rattle.ft_hist.specs.Hist.{Hist}
 use Rattle.ft_lanes.specs.Held.{Lanes}
 use Rattle.ft_maps.specs.Mapped.{entries_by}
 use Rattle.ft_kept.specs.Views.{triggers_of}
+use Rattle.ft_kept.specs.Shelves.{Shelves}
 use Rattle.ft_store.specs.Stored.{held}
 use Rattle.ft_base.specs.Base.{Triggers}
 use Rattle.ft_replay.proofs.Stepping.{grow_none, grow_more}
+use Rattle.ft_base.specs.Reachable.{HasSavers}
+use Rattle.ft_repair.specs.KeptShelves.{AreKept}
+use Rattle.ft_repair.specs.Outside.{AreRenewed}
 use Rattle.ft_repair.proofs.AtOnce.{named_listed}
 use Rattle.ft_replay.specs.Merged.{merged}
-use Rattle.ft_repair.proofs.Joining.{new_idle}
+use Rattle.ft_repair.proofs.Outside.{new_idle}
 use Rattle.ft_repair.proofs.KeptFor.{for_kept}
 use Rattle.ft_repair.proofs.Putting.{IsPut, next_put, put_none, put_more, put_all, told_idle, idle_first}
 use Rattle.ft_repair.proofs.rebuild.rebuilt.Goals as goal
 
 pub loop-id-init : goal.loop-id-init
 loop-id-init c =
-    let triggers : Triggers = triggers_of c.args.scene.now in
-    let lanes : Lanes = c.args.scene.now.lanes.now in
+    let triggers : Triggers = triggers_of c.scene_of-scene.result in
+    let lanes : Lanes = c.scene_of-scene.result.lanes.now in
     let all : c.into_iter-id-iterator.result ≡ map.entries triggers = c.into_iter-id-iterator.ensures.into_iter_gives ∙ c.iter-id-items.ensures.rest in
+    let savers : HasSavers triggers = subst HasSavers (sym c.scene_of-scene.ensures.triggers) c.scene_of-scene.ensures.savers in
     record {
-      put = subst (λ (es : List (ℕ × Hist)). IsPut triggers lanes (λ _. true) es c.in_ok-tables.tables) (sym all)
-          (put_none triggers lanes (λ _. true) c.in_ok-tables.tables (new_idle triggers lanes c.requires c.in_ok-tables.tables c.in_ok-tables.ensures));
+      put = subst (λ (es : List (ℕ × Hist)). IsPut triggers lanes (λ _. true) es c.renew_shelves.new.tables) (sym all)
+          (put_none triggers lanes (λ _. true) c.renew_shelves.new.tables (new_idle triggers lanes savers c.renew_shelves.new.tables
+          (subst (λ (old : Shelves). AreRenewed triggers (λ _. true) old c.renew_shelves.new.tables) c.new-tables.ensures c.in_ok-renew_shelves.ensures)));
       grow = grow_none _;
     }
 
@@ -31,7 +37,7 @@ pub put_events-requires : goal.put_events-requires
 put_events-requires c =
     let is = next_put (rest_more (deref_pair {K = ℕ} {X = Hist}) _ _ _ _ c.in-Some.is c.next.ensures.steps) c.loop-id.invariant.put in
     record {
-      listed = named_listed (triggers_of c.args.scene.now) c.args.scene.now.lanes.now c.in-Some.id.now c.in-Some.trigger.now is.attached.0 (entries_by held c.deref.result.now) (ap (entries_by held) c.deref.ensures.value ∙ c.in_ok-events.ensures);
+      listed = named_listed (triggers_of c.scene_of-scene.result) c.scene_of-scene.result.lanes.now c.in-Some.id.now c.in-Some.trigger.now is.attached.0 (entries_by held c.deref.result.now) (ap (entries_by held) c.deref.ensures.value ∙ c.in_ok-events.ensures);
       can = record {
         attached = is.attached.0;
         kept = told_idle is;
@@ -49,5 +55,6 @@ loop-id-preserved c =
 
 pub returns-clause-kept : goal.returns-clause-kept
 returns-clause-kept c =
-    for_kept (triggers_of c.args.scene.now) c.args.scene.now.lanes.now (merged c.args.scene.now.lanes.now) c.loop-id.tables
-    (put_all (rest_all (deref_pair {K = ℕ} {X = Hist}) _ _ _ c.in-None.is c.next.ensures.steps) c.loop-id.invariant.put)
+    let lanes : Lanes = c.scene_of-scene.result.lanes.now in
+    subst (λ (held : Triggers × Lanes). AreKept held.0 (merged held.1) c.loop-id.tables) (λ i. (c.scene_of-scene.ensures.triggers i, c.scene_of-scene.ensures.lanes i))
+    (for_kept (triggers_of c.scene_of-scene.result) lanes (merged lanes) c.loop-id.tables (put_all (rest_all (deref_pair {K = ℕ} {X = Hist}) _ _ _ c.in-None.is c.next.ensures.steps) c.loop-id.invariant.put))

@@ -10,6 +10,6 @@ use Rattle.ft_repair.proofs.trigger_joins.join_family.Given as goal
 abbrev pub invariant-loop-id : goal.invariant-loop-id
 invariant-loop-id l = record {
   put : IsPut (triggers_of l.scene) l.scene.lanes.now (is_in_family (triggers_of l.scene) l.head) l.id-iterator l.tables;
-  evals : l.work.evals + tests_in (is_in_family (triggers_of l.scene) l.head) l.scene.lanes.now l.id-iterator ≤ l.fn.work.evals + family_tests (triggers_of l.scene) l.scene.lanes.now l.head;
+  evals : l.work.evals + tests_in (is_in_family (triggers_of l.scene) l.head) l.scene.lanes.now l.id-iterator ≤ l.fn.work.evals + family_tests l.content.triggers l.content.lanes l.head;
   grow : StepsGrow l.fn.work l.work;
 }

@@ -5,8 +5,8 @@ use Rattle.ft_hist.specs.Hist.{Hist}
 use Rattle.ft_kept.specs.Shelves.{AddsShelf}
 use Rattle.ft_pairs.specs.declared.role.Role.{Role}
 use Rattle.ft_base.specs.Base.{Triggers}
-use Rattle.ft_base.specs.OneTrigger.{is_in_family}
 use Rattle.ft_base.specs.Roles.{role_of}
+use Rattle.ft_repair.specs.inner.Joining.{family_of}
 use Rattle.ft_repair.proofs.Families.{in_family}
 use Rattle.ft_repair.proofs.Putting.{AreRenewedBut, next_renewed, renewed_none, renewed_skip, renewed_more, renewed_all}
 use Rattle.ft_repair.proofs.trigger_joins.renew_shelves.Goals as goal
@@ -14,7 +14,7 @@ use Rattle.ft_repair.proofs.trigger_joins.renew_shelves.Goals as goal
 pub loop-id-init : goal.loop-id-init
 loop-id-init c =
     let triggers : Triggers = c.args.triggers.now in
-    let family = is_in_family triggers c.args.head in
+    let family = family_of triggers c.args.head in
     subst (λ (es : List (ℕ × Hist)). AreRenewedBut triggers family c.args.tables.now es c.args.tables.now) (sym (c.into_iter-id-iterator.ensures.into_iter_gives ∙ c.iter-id-items.ensures.rest)) (renewed_none triggers family c.args.tables.now)
 
 pub loop-id-preserved-in-Continue-1 : goal.loop-id-preserved-in-Continue-1

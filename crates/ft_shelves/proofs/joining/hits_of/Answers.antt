@@ -1,50 +1,38 @@
--- Each event of the run gives its hit.
-use Rattle.std.proofs.Common.{◌≡◌, ◌++◌, List, [], drop, sym, ap, subst, ◌∙◌, None}
-use Rattle.std.specs.Borrow.{Bor}
-use Rattle.std.specs.List.{AllByRecursion}
-use Rattle.std.proofs.lemmas.List.{drop_all}
+-- Each event of the run gives its hit, if it is one.
+use Rattle.std.proofs.Common.{◌≡◌, ◌<◌, ◌++◌, List, [], ◌∷◌, length, get_or, take, sym, ap, ◌∙◌, arith}
+use Rattle.std.proofs.lemmas.List.{take_all, take_more}
+use Rattle.std.proofs.lemmas.List.Elements.{filter_map-append}
 use Rattle.ft_fields.specs.Traced.{Traced}
 use Rattle.ft_fields.specs.declared.pos.Pos.{Pos}
-use Rattle.ft_groups.specs.Grouped.{referenced_events}
-use Rattle.ft_store.specs.declared.stored.Stored.{Stored}
-use Rattle.ft_shelves.specs.Joining.{hits_of_run}
-use Rattle.ft_shelves.proofs.KeyByKey.{first_event, made_all, made_more, stamped_run}
+use Rattle.ft_groups.specs.Grouped.{run_of}
+use Rattle.ft_store.specs.Stored.{held}
+use Rattle.ft_shelves.specs.inner.Joining.{hits_of_run}
+use Rattle.ft_shelves.proofs.Listed.{event_there, length_run, stamped_there}
 use Rattle.ft_shelves.proofs.joining.hits_of.Goals as goal
 
--- an event has the stamp of its place
-abbrev HasStamp : Pos × Traced → Type 0
-HasStamp e = e.1.stamp ≡ e.0.stamp
+pub loop-i-init : goal.loop-i-init
+loop-i-init c = λ read are. c.in_ok-hits.ensures.items
 
-pub loop-event-init : goal.loop-event-init
-loop-event-init c =
+pub add_hit-requires : goal.add_hit-requires
+add_hit-requires c =
+    stamped_there c.args.joining.now.trigger.now c.args.joining.now.groups.now c.requires c.args.key.now c.run-run.result.now c.run-run.ensures c.loop-i.i c.index-run-i.result c.loop-i-test.true c.index-run-i.is
+
+pub loop-i-preserved : goal.loop-i-preserved
+loop-i-preserved c = λ read are.
     let hist = c.args.joining.now.trigger.now in
-    let groups = c.args.joining.now.groups.now in
-    record {
-      made = ap (λ hits. hits ++ hits_of_run hist (referenced_events c.run-run.result.now)) c.in_ok-hits.ensures.items ∙ ap (hits_of_run hist) c.run-run.ensures;
-      stamped = subst (AllByRecursion HasStamp) (sym c.run-run.ensures) (stamped_run hist groups c.requires c.args.key.now);
-    }
-
-pub sums_at-values-requires : goal.sums_at-values-requires
-sums_at-values-requires c =
-    let first = first_event c.run-run.result.now c.loop-event.event-index c.event-item.result c.loop-event-test.true c.event-item.is in
-    (subst (AllByRecursion HasStamp) first c.loop-event.invariant.stamped).0
-
-pub loop-event-preserved : goal.loop-event-preserved
-loop-event-preserved c =
-    let hist = c.args.joining.now.trigger.now in
-    let e = c.event-item.result in
-    let first = first_event c.run-run.result.now c.loop-event.event-index e c.loop-event-test.true c.event-item.is in
-    let stamped = subst (AllByRecursion HasStamp) first c.loop-event.invariant.stamped in
-    record {
-      made = made_more c.loop-event.hits.items c.push.new.self.items _ _ _ _ _ c.in_ok-push.ensures.items
-          (λ i. (c.traced.ensures i, c.sums_at-values.ensures i))
-          (ap (hits_of_run hist) first)
-          c.loop-event.invariant.made;
-      stamped = stamped.1;
-    }
+    let run : List (Pos × Traced) = run_of c.args.joining.now.groups.now c.args.key.now in
+    let i = c.loop-i.i in
+    let e = c.index-run-i.result in
+    let event : Pos × Traced = (e.now.0, held e.now.1) in
+    let many = length_run c.run-run.result.now c.run-run.ensures in
+    let within : i < length run = omega (arith, many, c.loop-i-test.true) in
+    let there : get_or run i event ≡ event = event_there c.run-run.result.now c.run-run.ensures i e c.index-run-i.is in
+    c.in_ok-add_hit.ensures
+    ∙ (λ j. c.loop-i.invariant read are j ++ hits_of_run hist (λ _. (c.read_at.ensures ∙ sym (are i event within)) j) (sym there j ∷ []))
+    ∙ sym (filter_map-append _ (take i run) (get_or run i event ∷ []))
+    ∙ ap (hits_of_run hist read) (sym (take_more run i event within))
 
 pub returns : goal.returns
-returns c =
-    let items : List (Bor (Pos × Stored)) = c.run-run.result.now in
-    let none : referenced_events (drop c.loop-event.event-index items) ≡ [] = ap (referenced_events) (drop_all c.loop-event.event-index items c.loop-event-test.false) in
-    made_all c.loop-event.hits.items _ _ (ap (hits_of_run c.args.joining.now.trigger.now) none) c.loop-event.invariant.made
+returns c = λ read are.
+    let run : List (Pos × Traced) = run_of c.args.joining.now.groups.now c.args.key.now in
+    c.loop-i.invariant read are ∙ ap (hits_of_run c.args.joining.now.trigger.now read) (take_all c.loop-i.i run (omega (arith, length_run c.run-run.result.now c.run-run.ensures, c.loop-i-test.false)))

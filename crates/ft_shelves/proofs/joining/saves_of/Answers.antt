@@ -9,7 +9,7 @@ use Rattle.ft_pairs.specs.declared.at.At.{At}
 use Rattle.ft_pairs.specs.declared.at.Op.{Op}
 use Rattle.ft_pairs.specs.declared.at.Op.TheVariants.{Save}
 use Rattle.ft_store.specs.declared.stored.Stored.{Stored}
-use Rattle.ft_shelves.specs.Joining.{saves_of_run}
+use Rattle.ft_shelves.specs.inner.Joining.{saves_of_run}
 use Rattle.ft_shelves.proofs.joining.saves_of.Goals as goal
 
 pub returns : goal.returns

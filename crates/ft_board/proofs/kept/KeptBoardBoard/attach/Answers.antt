@@ -2,7 +2,8 @@ use Rattle.ft_base.specs.Base.{Base}
 use Rattle.ft_base.specs.OneTrigger.{is_in_family}
 use Rattle.ft_repair.specs.KeptShelves.{AreKeptOf}
 use Rattle.ft_repair.specs.Outside.{AreKeptOutside}
-use Rattle.ft_repair.proofs.Outside.{if_still, joins_outside}
+use Rattle.ft_repair.proofs.Outside.{joins_outside}
+use Rattle.ft_repair.proofs.Repaired.{if_still}
 use Rattle.ft_board.specs.inner.Views.{made_in}
 use Rattle.ft_board.proofs.MadeStays.{joins_await}
 use Rattle.ft_board.proofs.kept.KeptBoardBoard.attach.Goals as goal

@@ -1,22 +1,25 @@
-use Rattle.std.proofs.Common.{rules, ◌≡◌, true, false, refl, sym, ap, subst, ◌∙◌, inr, List, Some, Result, Ok}
+use Rattle.std.proofs.Common.{rules, ◌≡◌, true, false, not, refl, sym, ap, subst, ◌∙◌, inr, List, Some, Result, Ok}
 use Rattle.std.proofs.lemmas.Result.{err_from_is_err_and}
 use Rattle.std.specs.FinMap as map
 use Rattle.ft_hist.specs.Hist.{Hist}
 use Rattle.ft_kept.specs.Shelves.{Readings}
+use Rattle.ft_replay.specs.Found.{pairs_in}
 use Rattle.ft_replay.specs.declared.pair.Pair.{Pair}
-use Rattle.ft_base.specs.declared.refused.Refused.{Refused}
-use Rattle.ft_answers.specs.Answers.{pairs_shown}
 use Rattle.ft_base.specs.Base.{Base, Triggers}
 use Rattle.ft_base.specs.Roles.{is_reader}
+use Rattle.ft_base.specs.declared.refused.Refused.{Refused}
+use Rattle.ft_answers.specs.Answers.{pairs_shown}
 use Rattle.ft_answers.specs.Shown.{Shown}
-use Rattle.ft_replay.specs.Found.{pairs_in}
-use Rattle.ft_board.proofs.KeptBoardTold.{told, unattached, pairs_by, pairs-is, pairs-unread, pairs-told}
+use Rattle.ft_board.proofs.KeptBoardTold.{pairs_by, pairs-unread, pairs-told, unattached}
 use Rattle.ft_board.proofs.kept.KeptBoardBoard.pairs.Goals as goal
 
 pub returns-in_err-trigger-clause-gives : goal.returns-in_err-trigger-clause-gives
+unfolding pairs_shown
 returns-in_err-trigger-clause-gives c =
     let p = err_from_is_err_and c.from_residual.result c.from_residual.ensures.1 in
-    unattached (λ l. l.items) pairs_shown pairs_by pairs-is c.args.self.now c.self.inside.content c.self.inside.views.shelves c.self.inside.views.work _ c.args.id c.in_err-trigger.field-0.0 c.from_residual.result c.self.view_is c.triggers.ensures c.in_err-trigger.ensures.refused (cc (p.1, p.2))
+    let none = c.in_err-trigger.ensures.refused in
+    let gone = ap (λ (s : Shown). map.get s.base.triggers c.args.id) (sym c.self.view_is) ∙ ap (λ (t : Triggers). map.get t c.args.id) (sym c.triggers.ensures) ∙ none.1 in
+    unattached (λ l. l.items) c.args.self.now c.args.self.now c.args.id (pairs_by c.args.self.now.base c.args.id) c.in_err-trigger.field-0.0 (none.0, (gone, refl)) c.from_residual.result (cc (p.1, p.2))
 
 pub returns-then-not-is_reader-clause-gives : goal.returns-then-not-is_reader-clause-gives
 returns-then-not-is_reader-clause-gives c =
@@ -35,5 +38,5 @@ returns-clause-gives c =
     let gives : pairs_shown base c.args.id ≡ Ok c.in_ok-pairs_of.field-0.items =
     pairs-told base c.args.id hist there reads c.in_ok-shelf.shelf.now (c.in_ok-shelf.ensures.tells base hist c.catch_up.ensures.fresh there)
     ∙ ap (λ (l : List Pair). let given : Result (List Pair) Refused = Ok l in given) (ap (λ (r : Readings). pairs_in r) (sym c.readings.ensures) ∙ sym c.in_ok-pairs_of.ensures) in
-    told (λ l. l.items) (λ b. pairs_shown b c.args.id) c.args.self.now base c.self.inside.views.shelves c.catch_up.new.self.shelves c.self.inside.views.work c.catch_up.new.self.work (Ok c.in_ok-pairs_of.field-0)
-    c.self.view_is c.catch_up.ensures.now (gives, c.in_ok-shelf.ensures.there)
+    let base_is = ap (λ (s : Shown). s.base) c.self.view_is in
+    (base_is, subst (λ (b : Base). pairs_shown b c.args.id ≡ Ok c.in_ok-pairs_of.field-0.items) base_is gives, ap not c.in_ok-shelf.ensures.there)

@@ -9,46 +9,44 @@ use Rattle.ft_hist.specs.Hist.{Hist}
 use Rattle.ft_maps.specs.Seen.{seen, get-seen, seen-found}
 use Rattle.ft_table.specs.Tabled.{Tabled}
 use Rattle.ft_board.specs.MadeShelves.{MadeTables, made_on}
-use Rattle.ft_board.specs.inner.Mending.{CanUpdateBy}
+use Rattle.ft_board.specs.inner.Mending.{CanUpdateTo}
 use Rattle.ft_board.proofs.MadeShelves.{others_put, table_by, table_put}
 use Rattle.ft_board.proofs.mend.Mending.update_kept.Goals as goal
 
-pub update_table-requires : goal.update_table-requires
-update_table-requires c =
-    subst (CanUpdateBy c.args.self.now c.args.trigger.now)
+pub update-requires : goal.update-requires
+update-requires c =
+    subst (CanUpdateTo c.args.self.now c.args.trigger.now)
     (ap (table_by c.args.trigger.now) (get-seen nat_cmp_total c.args.made.now c.args.id ∙ sym c.in-Some.ensures.value)) c.requires
 
-pub update_table-requires-in-None : goal.update_table-requires-in-None
-update_table-requires-in-None c =
-    subst (CanUpdateBy c.args.self.now c.args.trigger.now)
+pub update-requires-in-None : goal.update-requires-in-None
+update-requires-in-None c =
+    subst (CanUpdateTo c.args.self.now c.args.trigger.now)
     (ap (table_by c.args.trigger.now) (get-seen nat_cmp_total c.args.made.now c.args.id ∙ sym c.in-None.ensures.value) ∙ sym (c.new-table.ensures ∙ (λ i. record { hits = map.empty; size = c.size.ensures.value i }))) c.requires
 
 pub returns-in-Some : goal.returns-in-Some
 returns-in-Some c =
     let made : MadeTables = seen nat_cmp c.args.made.now in
     let hist : Hist = c.args.trigger.now in
-    let after : Tabled = c.update_table.new.table in
+    let after : Tabled = c.update.new.table in
     let was : made_on made c.args.id hist ≡ c.in-Some.table.now = ap (table_by hist) (get-seen nat_cmp_total c.args.made.now c.args.id ∙ sym c.in-Some.ensures.value) in
     let put : seen nat_cmp (c.get_mut.follows.lender after) ≡ map.insert made c.args.id after =
     seen-found nat_cmp_total nat_cmp-IsAntisymmetric c.args.made.now (c.get_mut.follows.lender after) c.args.id c.in-Some.table.now after c.in-Some.ensures.value (c.get_mut.follows.holds after) in
     record {
-      updated = on_ok_weaker c.update_table.result (λ is. rw was (rw (table_put made _ c.args.id after put hist) is)) c.update_table.ensures.updated;
-      others = on_ok_weaker c.update_table.result (λ _. others_put made _ c.args.id after put) c.update_table.ensures.updated;
-      rows = on_ok_weaker c.update_table.result (λ _. rw was c.update_table.ensures.rows) c.update_table.ensures.updated;
-      grow = c.update_table.ensures.grow;
+      updated = on_ok_weaker c.update.result (λ is. rw was (rw (table_put made _ c.args.id after put hist) is)) c.update.ensures.updated;
+      others = on_ok_weaker c.update.result (λ _. others_put made _ c.args.id after put) c.update.ensures.updated;
+      grow = c.update.ensures.grow;
     }
 
-pub returns-in_ok-update_table-in-None : goal.returns-in_ok-update_table-in-None
-returns-in_ok-update_table-in-None c =
+pub returns-in_ok-update-in-None : goal.returns-in_ok-update-in-None
+returns-in_ok-update-in-None c =
     let made : MadeTables = seen nat_cmp c.args.made.now in
     let hist : Hist = c.args.trigger.now in
-    let after : Tabled = c.update_table-in-None.new.table in
+    let after : Tabled = c.update-in-None.new.table in
     let was : made_on made c.args.id hist ≡ c.new-table.result =
     ap (table_by hist) (get-seen nat_cmp_total c.args.made.now c.args.id ∙ sym c.in-None.ensures.value) ∙ sym (c.new-table.ensures ∙ (λ i. record { hits = map.empty; size = c.size.ensures.value i })) in
     let still : map.insert (seen nat_cmp c.get_mut.follows.lender-at-none) c.args.id after ≡ map.insert made c.args.id after = ap (λ m. map.insert (seen nat_cmp m) c.args.id after) c.get_mut.follows.holds-at-none in
     record {
-      updated = on_ok_weaker c.put.result (λ is. rw was (rw (table_put made _ c.args.id after (is ∙ still) hist) c.in_ok-update_table-in-None.ensures.updated)) c.put.ensures.ok;
+      updated = on_ok_weaker c.put.result (λ is. rw was (rw (table_put made _ c.args.id after (is ∙ still) hist) c.in_ok-update-in-None.ensures.updated)) c.put.ensures.ok;
       others = on_ok_weaker c.put.result (λ is. others_put made _ c.args.id after (is ∙ still)) c.put.ensures.ok;
-      rows = on_ok_weaker c.put.result (λ _. rw was c.in_ok-update_table-in-None.ensures.rows) c.put.ensures.ok;
-      grow = c.in_ok-update_table-in-None.ensures.grow;
+      grow = c.in_ok-update-in-None.ensures.grow;
     }

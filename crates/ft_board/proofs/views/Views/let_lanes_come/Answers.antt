@@ -9,11 +9,8 @@ use Rattle.ft_board.proofs.views.Views.let_lanes_come.Goals as goal
 pub mend-requires : goal.mend-requires
 mend-requires c =
     let base : Base = c.args.content.now in
-    record {
-      told = can_mend c.kept_shelves.ensures.readings base.triggers (merged (lanes_of c.args.before.now base.lanes)) (merged base.lanes) (chosen_among base.lanes c.args.before.now)
-          c.changes_to_report-changes.result.readings c.let_lanes_come.new.changes.readings c.args.self.now.shelves c.let_lanes_come.new.kept (made_in c.args.self.now) c.changes_to_report-changes.ensures.readings c.requires c.let_lanes_come.ensures.deferred c.let_lanes_come.ensures.reread;
-      none = tt;
-    }
+    can_mend c.kept_shelves.ensures.readings base.triggers (merged (lanes_of c.args.before.now base.lanes)) (merged base.lanes) (chosen_among base.lanes c.args.before.now)
+    c.changes_to_report-changes.result.readings c.let_lanes_come.new.changes.readings c.args.self.now.shelves c.let_lanes_come.new.kept (made_in c.args.self.now) c.changes_to_report-changes.ensures.readings c.requires c.let_lanes_come.ensures.deferred c.let_lanes_come.ensures.reread
 
 pub returns-clause-fresh : goal.returns-clause-fresh
 returns-clause-fresh c =

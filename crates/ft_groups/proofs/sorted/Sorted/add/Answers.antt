@@ -1,10 +1,22 @@
--- A key that stands there is within the keys.
-use Rattle.std.proofs.Common.{sym}
+-- An event comes to its key, once this is noted.
+use Rattle.std.proofs.Common.{◌++◌, ◌∷◌, cond, [], ap, ◌∙◌, List}
+use Rattle.std.specs.List.{list_any}
 use Rattle.std.proofs.lemmas.Option.{slice_get_within}
+use Rattle.ft_fields.specs.declared.pos.Pos.{Pos}
+use Rattle.ft_fields.specs.Traced.{Traced}
+use Rattle.ft_fields.specs.Parts.{same_key}
+use Rattle.ft_store.specs.Stored.{held}
 use Rattle.ft_groups.proofs.sorted.Sorted.add.Goals as goal
 
 pub push-requires-clause-within : goal.push-requires-clause-within
-push-requires-clause-within c = slice_get_within c.args.self.now.keys.items c.in-Some.place c.args.key (c.requires.stands c.args.key c.in-Some.place (sym c.in-Some.ensures))
+push-requires-clause-within c = slice_get_within c.place_for.new.self.keys.items c.in_ok-place.place c.args.key c.in_ok-place.ensures.stands
 
-pub returns-in_ok-push-in-Some-clause-adds : goal.returns-in_ok-push-in-Some-clause-adds
-returns-in_ok-push-in-Some-clause-adds c = c.in_ok-push-in-Some.ensures.adds c.args.key (c.requires.stands c.args.key c.in-Some.place (sym c.in-Some.ensures))
+pub returns-clause-adds : goal.returns-clause-adds
+returns-clause-adds c =
+    let event : Pos × Traced = (c.args.event.now.0, held c.args.event.now.1) in
+    let at = c.in_ok-place.ensures in
+    let pushed = c.in_ok-push.ensures in
+    record {
+      keys = λ q. ap (list_any (same_key q)) pushed.keys ∙ at.notes.keys q;
+      runs = λ q. (pushed.adds c.args.key at.stands).runs q ∙ ap (λ (es : List (Pos × Traced)). es ++ cond (same_key q c.args.key) (event ∷ []) []) (at.notes.runs q);
+    }

@@ -5,7 +5,7 @@ use Rattle.ft_pairs.specs.declared.at.Op.TheVariants.{Read}
 use Rattle.ft_shelves.specs.Changes.{op_after, set_op}
 use Rattle.ft_shelves.specs.Edits.{OpsChange}
 use Rattle.ft_kept.proofs.Forms.{ops_by}
-use Rattle.ft_kept.proofs.OneHit.{inserts_at_most}
+use Rattle.ft_kept.proofs.HitShelf.{inserts_at_most}
 use Rattle.ft_kept.proofs.Shelving.{lent_changes, lent_was}
 use Rattle.ft_kept.proofs.tables.Tables.change_read.Goals as goal
 

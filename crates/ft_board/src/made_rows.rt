@@ -1,0 +1,94 @@
+//! The rows of triggers that count made events that may differ as their tables are mended.
+
+ghost use Rattle.std.specs.Prelude.{◌≡◌, ◌++◌, IfSome, OnOk};
+ghost use Rattle.std.specs.Ordering.{nat_cmp};
+ghost use Rattle.ft_hist.specs.Steps.{StepsGrow};
+ghost use Rattle.ft_changes.specs.Findings.{Findings};
+ghost use Rattle.ft_kept.specs.Report.{rows_at};
+ghost use Rattle.ft_maps.specs.Seen.{seen};
+ghost use Rattle.ft_replay.specs.Merged.{merged};
+ghost use Rattle.ft_answers.specs.Counting.{MakesNothing};
+ghost use Rattle.ft_board.specs.inner.MadeRows.{AreUpdatedRows, keys_named};
+ghost use Rattle.ft_board.specs.inner.Mending.{CanMendTo};
+ghost use Rattle.ft_board.specs.inner.Told.{tabled_in};
+
+use crate::answers::{TableOf, table_of};
+use crate::making::are_made;
+use ft_base::Content;
+use ft_changes::{Changed, ReadingChange, rivals};
+use ft_hist::Work;
+use ft_kept::{Changes, distinct, put_rows};
+use ft_made::put_changed_keys;
+use ft_table::Table;
+use std::alloc::{AllocError, Global};
+use std::collections::BTreeMap;
+
+/// The rows of triggers that count made events that may differ once their tables are mended by what
+/// a repair reported of readings. `None` if that was not reported, or memory runs out. If no made
+/// event is counted, it takes neither memory nor steps.
+#[tactic(auto, unfolding(crate::specs::inner::MadeRows::updated_rows))]
+pub(crate) fn made_rows(
+    alloc: Global,
+    content: &Content,
+    made: &BTreeMap<u32, Table>,
+    changes: &Changes,
+    work: &mut Work,
+) -> Option<Vec<Changed>>
+    ensures rows { (now : Findings) → CanMendTo content.now.triggers (merged content.now.lanes)
+        changes.now.readings now (seen nat_cmp made.now)
+        → IfSome result (λ rows. AreUpdatedRows content.now.triggers (merged content.now.lanes) now
+        (seen nat_cmp made.now) rows.items) }
+    ensures nothing { MakesNothing content.now.triggers → work.new ≡ work.old }
+    ensures grow { StepsGrow work.old work.new }
+{
+    ft_changes::some_rivals();
+    ft_made::changed_keys();
+    let mut rows = Vec::new(alloc);
+    if !are_made(content.triggers()) {
+        return Some(rows);
+    }
+    let changes = changes.readings()?;
+    let rereading = Rereading { content, changes };
+    for (id, trigger) in content.triggers().iter() {
+        if trigger.counts_made() {
+            let told = table_of(alloc, made, *id, trigger);
+            let Ok(()) = rereading.put_rows(&mut rows, *id, &told, work) else {
+                return None;
+            };
+        }
+    }
+    Some(rows)
+}
+
+/// What is held and attached, and how readings changed.
+#[derive(Clone, Copy)]
+struct Rereading<'a> {
+    content: &'a Content,
+    changes: &'a [ReadingChange],
+}
+
+impl Rereading<'_> {
+    /// Adds the rows of a trigger that may differ to others: those of the keys of what the readings
+    /// made and make, and of the rivals of these in the trigger's table. Refused for memory.
+    fn put_rows(
+        &self,
+        rows: &mut Vec<Changed>,
+        id: u32,
+        told: &TableOf<'_>,
+        work: &mut Work,
+    ) -> Result<(), AllocError>
+        ensures rows { OnOk result (rows.new.items ≡ rows.old.items ++ rows_at id
+            (keys_named self.now.content.now.triggers (merged self.now.content.now.lanes)
+            self.now.changes.now (tabled_in told.now) told.now.trigger.now)) }
+        ensures grow { StepsGrow work.old work.new }
+    {
+        let TableOf { alloc, trigger, .. } = *told;
+        let (lanes, triggers) = (self.content.lanes(), self.content.triggers());
+        let mut updated = Vec::new(alloc);
+        put_changed_keys(&mut updated, lanes, triggers, trigger, self.changes, work)?;
+        let mut keys = distinct(alloc, &updated)?;
+        let others = rivals(alloc, told.as_table(), &keys)?;
+        keys.extend_from_slice(&others)?;
+        put_rows(rows, id, &keys)
+    }
+}

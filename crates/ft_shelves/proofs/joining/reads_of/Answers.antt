@@ -1,0 +1,20 @@
+-- Each event of the run gives its read.
+use Rattle.std.proofs.Common.{Bor, List, sym, ap, ◌∙◌, rules}
+use Rattle.std.proofs.lemmas.Iterator.{YieldsList-from_map, YieldsList-from_slice, items_from_collect}
+use Rattle.std.proofs.lemmas.Iterator.Consumers.{YieldsList-at}
+use Rattle.std.proofs.lemmas.Result.{IfOk-weaker}
+use mathlib.Core.List.{map-map}
+use Rattle.ft_fields.specs.declared.pos.Pos.{Pos}
+use Rattle.ft_pairs.specs.declared.at.At.{At}
+use Rattle.ft_store.specs.declared.stored.Stored.{Stored}
+use Rattle.ft_shelves.specs.inner.Joining.{reads_of_run}
+use Rattle.ft_shelves.proofs.joining.reads_of.Goals as goal
+
+pub returns : goal.returns
+returns c =
+    let id = c.args.joining.now.id in
+    let run : List (Bor (Pos × Stored)) = c.run-run.result.now in
+    let read : Bor (Pos × Stored) → At = λ e. record { pos = e.now.0; trigger = id } in
+    IfOk-weaker c.collect.result _ _ (λ reads made. made ∙ sym (map-map _ _ run) ∙ ap (reads_of_run id) c.run-run.ensures)
+    (items_from_collect c.collect.result c.collect.ensures.ran
+    (YieldsList-from_map _ read (YieldsList-at c.map.ensures.source (YieldsList-from_slice run c.iter.ensures.rest)) c.map.ensures.closure (λ x r q k. search rules)))
