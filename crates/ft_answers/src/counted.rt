@@ -15,7 +15,7 @@ ghost use Rattle.ft_answers.specs.inner.Counts.{counted_table};
 use crate::readings::ReplayedReadings;
 use ft_hist::{Trigger, Triggers, Work};
 use ft_lanes::Lanes;
-use ft_made::made_table;
+use ft_made::Counting;
 use ft_replay::{Counter, replay_held};
 use ft_table::Table;
 use std::alloc::{AllocError, Global};
@@ -105,5 +105,10 @@ fn made_at(
     ft_made::replayed_pairs();
     let counters = replay_held(alloc, lanes, triggers, work)?;
     let readings = ReplayedReadings { alloc, counters };
-    made_table(alloc, lanes, triggers, &readings, trigger, work)
+    let counting = Counting {
+        lanes,
+        triggers,
+        trigger,
+    };
+    counting.made_table(alloc, &readings, work)
 }

@@ -1,19 +1,17 @@
 -- The tests that the events of new lanes take are at most those of the events that were loaded.
 use Rattle.std.proofs.Common.{◌≡◌, ◌+◌, ◌≤◌, ℕ, Bool, true, false, cond, List, [], ◌∷◌, map as list_map, refl, sym, ap, subst, ◌∙◌, Option, Some, None, Ok, unwrap_or, is_some, arith}
-use Rattle.std.specs.Prelude.{filter, fold, not}
+use Rattle.std.specs.Prelude.{fold, not}
 use Rattle.std.specs.List.{flat_map, sum_by}
 use Rattle.std.specs.Option.{option_map_or}
 use Rattle.std.specs.Ordering.{nat_cmp}
 use Rattle.std.specs.Cmp.{nat_cmp_total}
 use Rattle.std.specs.FinMap as map
-use Rattle.std.specs.FinMap.{from_entries, get-empty, same_map, nat_cmp-IsAntisymmetric}
+use Rattle.std.specs.FinMap.{get-empty, same_map, nat_cmp-IsAntisymmetric}
 use Rattle.std.proofs.lemmas.List.Filters.{sum_by-filter_both}
 use Rattle.std.proofs.lemmas.List.Folds.{fold-map}
 use Rattle.std.proofs.lemmas.List.Sums.{sum_by-append, sum_by-cons}
 use Rattle.std.proofs.lemmas.Option.{none-some}
-use Rattle.ft_fields.specs.Traced.{Traced}
-use Rattle.ft_fields.specs.Places.{pos_cmp, pos_cmp_total}
-use Rattle.ft_fields.specs.declared.pos.Pos.{Pos}
+use Rattle.ft_fields.specs.Places.{pos_cmp_total, pos_cmp}
 use Rattle.ft_hist.specs.Tests.{count_on}
 use Rattle.ft_lanes.specs.Edits.{lane_with, lanes_with, new_lane}
 use Rattle.ft_lanes.specs.Held.{Lane, Lanes}
@@ -22,19 +20,29 @@ use Rattle.ft_lanes.specs.inner.Slots.{has_cpu}
 use Rattle.ft_lanes.proofs.Counts.{sum-insert}
 use Rattle.ft_lanes.proofs.Loads.{free-held, with_lanes-at, with_lanes-fold}
 use Rattle.ft_maps.specs.Entries.{entries-empty}
-use Rattle.ft_base.specs.After.{after_load}
-use Rattle.ft_base.specs.Base.{Base, Triggers}
 use Rattle.ft_base.proofs.After.{load-gives}
 use Rattle.ft_replay.specs.Chosen.{is_among, lanes_but}
-use Rattle.ft_replay.specs.Merged.{Events, merged, merged_with, placed, place_of}
+use Rattle.ft_replay.specs.Merged.{merged_with, placed, place_of, Events, merged}
 use Rattle.ft_replay.specs.Named.{is_named, named}
 use Rattle.ft_replay.proofs.Choosing.{get-chosen}
+use Rattle.ft_replay.proofs.Naming.{entries-named}
 use Rattle.ft_answers.specs.Costs.{count_on_all, count_on_lane}
 use Rattle.ft_repair.specs.SomeLanes.{count_coming}
+use Rattle.ft_base.specs.After.{after_load}
+use Rattle.ft_base.specs.Base.{Base, Triggers}
+use Rattle.ft_fields.specs.Traced.{Traced}
+use Rattle.ft_fields.specs.declared.pos.Pos.{Pos}
 use Rattle.ft_repair.proofs.EventLists.{among_lanes, count_events}
 
 sum-map : {X Y : Type 0} (f : Y → ℕ) (g : X → Y) (xs : List X) → sum_by f (list_map g xs) ≡ sum_by (λ x. f (g x)) xs
 sum-map f g xs = fold-map (λ a x. a + f x) g 0 xs
+
+-- what each step adds at most, a fold adds at most
+fold_adds : {S X : Type 0} (size : S → ℕ) (f : X → ℕ) (step : S → X → S) → ((s : S) (x : X) → size (step s x) ≤ size s + f x) → (s : S) (xs : List X) → size (fold step s xs) ≤ size s + sum_by f xs
+fold_adds size f step one s [] = omega arith
+fold_adds size f step one s (x ∷ xs) =
+    let rest : size (fold step (step s x) xs) ≤ size (step s x) + sum_by f xs = fold_adds size f step one (step s x) xs in
+    omega (arith, rest, one s x, sum_by-cons f x xs)
 
 module _ (triggers : Triggers) where
   abbrev tests : Traced → ℕ
@@ -54,24 +62,10 @@ module _ (triggers : Triggers) where
   tests-insert : (events : Events) (pos : Pos) (event : Traced) → tests_of (map.insert events pos event) ≤ tests_of events + tests event
   tests-insert events pos event = omega (arith, sum-insert pos_cmp_total tests events pos event)
 
-  tests-with : (events : Events) (es : List (Pos × Traced)) → tests_of (fold merged_with events es) ≤ tests_of events + count_events triggers es
-  tests-with events [] = omega arith
-  tests-with events (e ∷ es) =
-      let rest : tests_of (fold merged_with (merged_with events e) es) ≤ tests_of (merged_with events e) + count_events triggers es = tests-with (merged_with events e) es in
-      omega (arith, rest, tests-insert events e.0 e.1, sum_by-cons (λ (x : Pos × Traced). tests x.1) e es)
-
-  tests-from : (es : List (Pos × Traced)) → tests_of (from_entries es) ≤ count_events triggers es
-  tests-from [] = omega (arith, tests-none)
-  tests-from (e ∷ es) =
-      let rest : tests_of (from_entries es) ≤ count_events triggers es = tests-from es in
-      omega (arith, rest, tests-insert (from_entries es) e.0 e.1, sum_by-cons (λ (x : Pos × Traced). tests x.1) e es)
-
   tests-named : (events : Events) → count_events triggers (map.entries (named triggers events)) ≤ tests_of events
-  unfolding named
   tests-named events = omega (
     arith,
-    tests-entries (named triggers events),
-    tests-from (filter (λ entry. is_named triggers entry.1) (map.entries events)),
+    ap (λ (es : List (Pos × Traced)). count_events triggers es) (entries-named triggers events),
     sum_by-filter_both (λ entry. is_named triggers entry.1) (λ entry. not (is_named triggers entry.1)) (λ _. refl) (λ (e : Pos × Traced). tests e.1) (map.entries events),
     tests-entries events,
   )
@@ -93,7 +87,12 @@ module _ (triggers : Triggers) where
 
   tests-merged : (lanes : Lanes) → tests_of (merged lanes) ≤ tests_in lanes
   unfolding merged
-  tests-merged lanes = omega (arith, tests-with map.empty (flat_map placed (map.entries lanes)), tests-none, tests-flat (map.entries lanes))
+  tests-merged lanes = omega (
+    arith,
+    fold_adds tests_of (λ (e : Pos × Traced). tests e.1) merged_with (λ events e. tests-insert events e.0 e.1) map.empty (flat_map placed (map.entries lanes)),
+    tests-none,
+    tests-flat (map.entries lanes),
+  )
 
   -- one more on its lane
   tests-lane : (lane : Lane) (event : Traced) → count_on_lane triggers (lane_with lane event) ≤ count_on_lane triggers lane + tests event
@@ -114,12 +113,6 @@ module _ (triggers : Triggers) where
       let lane : Lane = unwrap_or (map.get lanes event.cpu) new_lane in
       omega (arith, tests-or_new (map.get lanes event.cpu), tests-lane lane event, sum-insert nat_cmp_total (λ (l : Lane). count_on_lane triggers l) lanes event.cpu (lane_with lane event))
 
-  tests-all : (lanes : Lanes) (events : List Traced) → tests_in (fold lanes_with lanes events) ≤ tests_in lanes + count_on_all triggers events
-  tests-all lanes [] = omega arith
-  tests-all lanes (e ∷ es) =
-      let rest : tests_in (fold lanes_with (lanes_with lanes e) es) ≤ tests_in (lanes_with lanes e) + count_on_all triggers es = tests-all (lanes_with lanes e) es in
-      omega (arith, rest, tests-one lanes e, sum_by-cons tests e es)
-
   tests-no_lane : tests_in map.empty ≡ 0
   tests-no_lane = ap (λ (es : List (ℕ × Lane)). sum_by (λ lane. count_on_lane triggers lane) (list_map (λ e. e.1) es)) (entries-empty nat_cmp)
 
@@ -130,7 +123,7 @@ module _ (triggers : Triggers) where
         arith,
         tests-named (merged (fold lanes_with map.empty events)),
         tests-merged (fold lanes_with map.empty events),
-        tests-all map.empty events,
+        fold_adds tests_in tests lanes_with tests-one map.empty events,
         tests-no_lane,
       ))
 

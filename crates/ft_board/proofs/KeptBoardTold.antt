@@ -3,29 +3,29 @@ use Rattle.std.proofs.Common.{◌≡◌, ℕ, Bool, true, false, inr, refl, sym,
 use Rattle.std.specs.Prelude.{IfSome, IsSome, unwrap_or, if◌then◌else◌}
 use Rattle.std.specs.Option.{option_map_or, is_none}
 use Rattle.std.specs.FinMap as map
-use Rattle.ft_hist.specs.Hist.{Hist}
-use Rattle.ft_hist.specs.Made.{counts_made}
-use Rattle.ft_hist.specs.Steps.{Steps}
-use Rattle.ft_kept.specs.Shelves.{Shelved, Shelves}
 use Rattle.ft_table.specs.Rows.{AllFit}
-use Rattle.ft_table.specs.Tabled.{Tabled}
-use Rattle.ft_base.specs.Base.{Base, Triggers}
 use Rattle.ft_base.specs.Roles.{is_reader}
-use Rattle.ft_base.specs.declared.refused.Refused.{Refused}
 use Rattle.ft_base.specs.declared.refused.Refused.TheVariants.{NoTrigger, NotReading}
-use Rattle.ft_replay.specs.Found.{pairs_in, saving_found}
-use Rattle.ft_replay.specs.Merged.{Events, merged}
 use Rattle.ft_replay.specs.Replay.{State, replay}
 use Rattle.ft_replay.specs.Tally.{Tally, empty_tally, tally_of}
-use Rattle.ft_replay.specs.declared.pair.Pair.{Pair}
 use Rattle.ft_replay.proofs.Growing.{pairs-tally}
 use Rattle.ft_made.specs.Laws.{HeldAreCounted, MadeTablesFit, TablesAreTallied}
 use Rattle.ft_answers.specs.Answers.{of_attached, pairs_as, pairs_shown, tally_at, tally_made, tally_shown}
 use Rattle.ft_answers.specs.Edited.{AnswersFrom}
-use Rattle.ft_answers.specs.Shown.{Shown}
 use Rattle.ft_answers.proofs.Answering.{answered, of_attached-some, pairs-reader, pairs-other}
-use Rattle.ft_board.specs.MadeShelves.{MadeTables, made_on, AreMade, AreMadeBy}
-use Rattle.ft_board.specs.declared.answers.TableOf.{TableOf}
+use Rattle.ft_board.specs.declared.kept.TableOf.{TableOf}
+use Rattle.ft_answers.specs.Shown.{Shown}
+use Rattle.ft_base.specs.Base.{Base, Triggers}
+use Rattle.ft_base.specs.declared.refused.Refused.{Refused}
+use Rattle.ft_board.specs.MadeShelves.{AreMade, AreMadeBy, made_on, MadeTables}
+use Rattle.ft_hist.specs.Hist.{Hist}
+use Rattle.ft_hist.specs.Made.{counts_made}
+use Rattle.ft_hist.specs.Steps.{Steps}
+use Rattle.ft_kept.specs.Shelves.{Shelved, Shelves}
+use Rattle.ft_replay.specs.Found.{pairs_in, saving_found}
+use Rattle.ft_replay.specs.Merged.{Events, merged}
+use Rattle.ft_replay.specs.declared.pair.Pair.{Pair}
+use Rattle.ft_table.specs.Tabled.{Tabled}
 use Rattle.ft_board.specs.inner.Told.{ShelfTells, TableTells, tabled_in}
 
 -- a board that keeps tables, with its steps

@@ -2,12 +2,7 @@ pub mod CountComing
 pub mod KeptBoardTold
 pub mod MadeShelves
 pub mod Makers
-pub mod Updating
-pub mod CountingNone
-pub mod StillMade
 pub mod MadeStays
-pub mod MendedEdits
 pub mod Reports
 pub mod MadeRows
-pub mod MadeReports
 pub mod Changes

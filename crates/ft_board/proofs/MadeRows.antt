@@ -4,30 +4,30 @@ use Rattle.std.specs.Prelude.{ℕ, Bool, if◌then◌else◌}
 use Rattle.std.specs.List.{IsDistinct}
 use Rattle.std.specs.FinMap.{same_map}
 use Rattle.std.proofs.lemmas.Bool.{true≢false}
-use Rattle.ft_hist.specs.Hist.{Hist}
-use Rattle.ft_fields.specs.declared.key.Part.{Part}
 use Rattle.ft_fields.specs.Parts.{same_key}
 use Rattle.ft_changes.specs.Findings.{Findings, Lead}
 use Rattle.ft_changes.specs.Rivals.{is_of, rivals, ButForAmong, RivalsAreOthers, RivalsDiffer, RowsStayBut}
-use Rattle.ft_changes.specs.declared.changed.ReadingChange.{ReadingChange}
 use Rattle.ft_hits.specs.Marks.{mark_cmp_total, mark_same}
 use Rattle.ft_table.specs.Rows.{row_at}
-use Rattle.ft_table.specs.Tabled.{Tabled}
 use Rattle.ft_kept.specs.Touched.{each_once}
 use Rattle.ft_kept.proofs.Once.{each_distinct, neither, of_each_once, rivals_once}
 use Rattle.ft_kept.proofs.Rows.{not_reported, once, whose}
-use Rattle.ft_base.specs.Base.{Triggers}
-use Rattle.ft_replay.specs.Merged.{Events}
 use Rattle.ft_made.specs.Laws.{KeysAreUpdated, UpdatedButForKeys}
+use Rattle.ft_made.specs.Updating.{changed_keys}
+use Rattle.ft_board.specs.inner.MadeRows.{keys_named, updated_rows, AreUpdatedRows, keys_counted}
+use Rattle.ft_made.proofs.Same.{none_makes}
+use Rattle.ft_answers.specs.Counting.{CountNone}
+use Rattle.ft_base.specs.Base.{Triggers}
+use Rattle.ft_board.specs.MadeShelves.{AreMadeBy, made_on, MadeTables}
+use Rattle.ft_changes.specs.declared.changed.ReadingChange.{ReadingChange}
+use Rattle.ft_fields.specs.declared.key.Part.{Part}
+use Rattle.ft_hist.specs.Hist.{Hist}
+use Rattle.ft_hist.specs.Made.{counts_made}
 use Rattle.ft_made.specs.MadeTables.{IsMadeTable}
 use Rattle.ft_made.specs.Making.{MakeNone}
-use Rattle.ft_made.specs.Updating.{changed_keys}
-use Rattle.ft_hist.specs.Made.{counts_made}
-use Rattle.ft_answers.specs.Counting.{CountNone}
-use Rattle.ft_board.specs.MadeShelves.{MadeTables, AreMadeBy, made_on}
-use Rattle.ft_board.specs.inner.MadeRows.{AreUpdatedRows, keys_counted, keys_named, updated_rows}
-use Rattle.ft_board.proofs.MadeShelves.{none_made}
-use Rattle.ft_board.proofs.StillMade.{table_stays}
+use Rattle.ft_replay.specs.Merged.{Events}
+use Rattle.ft_table.specs.Tabled.{Tabled}
+use Rattle.ft_board.proofs.MadeShelves.{table_stays}
 
 -- there is one table of what readings make
 one_table : (triggers : Triggers) (events : Events) (found : Findings) (hist : Hist) (a b : Tabled) → IsMadeTable triggers events found hist a → IsMadeTable triggers events found hist b → b ≡ a
@@ -44,7 +44,7 @@ module _ (triggers : Triggers) (events : Events) (made : MadeTables) where
   -- and where no event is made, or none is counted, they are those of any findings
   pub made_of_any : (found now : Findings) → MakeNone triggers ⊎ CountNone triggers → AreMadeBy triggers events found made → AreMadeBy triggers events now made
   made_of_any found now (inl none) are id hist there counts =
-      table_stays triggers triggers events events found now (λ spot. none_made triggers events now none spot ∙ sym (none_made triggers events found none spot)) hist (made_on made id hist) (are id hist there counts)
+      table_stays triggers triggers events events found now (λ spot. none_makes triggers events spot none (now spot.maker spot.pos) ∙ sym (none_makes triggers events spot none (found spot.maker spot.pos))) hist (made_on made id hist) (are id hist there counts)
   made_of_any found now (inr none) are id hist there counts = absurd (true≢false (sym counts ∙ none id hist there))
 
   -- then no row differs

@@ -5,45 +5,51 @@ use Rattle.std.specs.Option.{IfSome, option_map_or}
 use Rattle.std.specs.Ordering.{eq_by_cmp, nat_cmp}
 use Rattle.std.specs.Cmp.{nat_cmp_total}
 use Rattle.std.specs.FinMap as map
-use Rattle.std.specs.FinMap.{FinMap, nat_cmp-IsAntisymmetric}
-use Rattle.std.proofs.lemmas.Bool.{and_parts, cases_eq, eqb-false, eqb-true, false_from_ne_true, ne_eqb, or_from, or_parts, true≢false}
+use Rattle.std.specs.FinMap.{nat_cmp-IsAntisymmetric}
+use Rattle.std.proofs.lemmas.Bool.{and_parts, cases_Bool, cases_eq, false_from_ne_true, ne_eqb, or_from, or_parts, true≢false}
+use Rattle.std.proofs.Math.Bool.{and-false}
 use Rattle.std.proofs.lemmas.Option.{none-some, same_Some}
-use Rattle.ft_fields.specs.Traced.{Traced}
-use Rattle.ft_fields.specs.declared.pos.Pos.{Pos}
-use Rattle.ft_fields.specs.declared.key.Part.{Part}
-use Rattle.ft_hist.specs.Hist.{Hist}
-use Rattle.ft_hist.specs.Hit.{hit}
-use Rattle.ft_hist.specs.Made.{counts_made, made_of}
+use Rattle.ft_hist.specs.Made.{made_event, made_of, counts_made}
 use Rattle.ft_hist.specs.declared.label.Var.{Var}
 use Rattle.ft_hist.specs.declared.label.Var.TheVariants as vars
-use Rattle.ft_kept.specs.Shelves.{Shelves}
-use Rattle.ft_maps.specs.Entries.{get-remove_other, get-remove_same, same_from_tie}
-use Rattle.ft_lanes.specs.Held.{Lanes}
+use Rattle.ft_kept.specs.Entries.{IsReading}
+use Rattle.ft_pairs.specs.Source.{Ops}
+use Rattle.ft_pairs.specs.declared.at.At.{At}
+use Rattle.ft_maps.specs.Entries.{get-remove_other, same_from_tie}
 use Rattle.ft_pairs.specs.declared.role.Role.{Role}
 use Rattle.ft_pairs.specs.declared.role.Role.TheVariants.{Plain, Saves, Reads}
 use Rattle.ft_pairs.specs.declared.role.Variable.{Variable}
-use Rattle.ft_table.specs.Spots.{traced}
-use Rattle.ft_table.specs.Tabled.{Tabled}
-use Rattle.ft_table.specs.Values.{values_at}
 use Rattle.ft_hits.specs.declared.spot.Spot.{Spot}
-use Rattle.ft_base.specs.Base.{Base, Triggers}
 use Rattle.ft_base.specs.OneTrigger.{GetsFilter, IsUnread, JoinsAs, base_without, is_in_family, reads_from}
 use Rattle.ft_base.specs.Roles.{is_reader, role_at, role_of, saver_of}
-use Rattle.ft_replay.specs.Found.{saving_found}
-use Rattle.ft_replay.specs.Hits.{TriggerHit, found_at, hit_at, read_as}
-use Rattle.ft_replay.specs.Merged.{Events, merged}
+use Rattle.ft_made.proofs.Views.{nothing}
 use Rattle.ft_made.specs.MadeEvents.{made_at}
-use Rattle.ft_made.specs.MadeTables.{IsMadeTable}
 use Rattle.ft_repair.specs.ButOneTrigger.{AreKeptBut}
-use Rattle.ft_repair.specs.KeptShelves.{AreKept, AreKeptOf, HasItsShelf}
+use Rattle.ft_repair.proofs.KeptFor.{its_shelf}
+use Rattle.ft_repair.proofs.Repaired.{if_there, there_if}
+use Rattle.ft_repair.proofs.Alike.{rest_none, rest_same}
+use Rattle.ft_repair.proofs.Families.{nothing_read, outside_apart, outside_reads, reads_from_is, role_there}
+use Rattle.ft_repair.proofs.KeptShelves.{filter_alike, replayed, replayed_right}
 use Rattle.ft_repair.specs.Staying.{IsReadAlike, ReadsAsBefore}
-use Rattle.ft_board.specs.Makers.{LeavesMakers, MadeStay, MakersStay, makes, makes_with, shares_read}
-use Rattle.ft_board.specs.MadeShelves.{MadeTables, AreMade, AreMadeBy, made_on}
+use Rattle.ft_board.specs.Makers.{MadeStay, MakersStay, makes, shares_read, LeavesMakers}
 use Rattle.ft_board.specs.inner.Views.{AreMadeBut}
 use Rattle.ft_board.specs.inner.Mending.{OtherTablesStay}
-use Rattle.ft_board.proofs.MadeShelves.{no_event, table_by}
-use Rattle.ft_board.proofs.Makers.{makes_none}
-use Rattle.ft_board.proofs.StillMade.{AreRightIf, ReadingsAre, made_here, nothing_at, table_stays}
+use Rattle.ft_board.proofs.MadeShelves.{AreRightIf, ReadingsAre, made_here, nothing_at, table_by, table_stays}
+use Rattle.ft_answers.specs.Deferral.{ReadsNothing}
+use Rattle.ft_base.specs.Base.{Base, Triggers}
+use Rattle.ft_board.specs.MadeShelves.{AreMade, AreMadeBy, made_on, MadeTables}
+use Rattle.ft_fields.specs.Traced.{Traced}
+use Rattle.ft_fields.specs.declared.key.Part.{Part}
+use Rattle.ft_fields.specs.declared.pos.Pos.{Pos}
+use Rattle.ft_hist.specs.Hist.{Hist}
+use Rattle.ft_kept.specs.Shelves.{Shelves}
+use Rattle.ft_lanes.specs.Held.{Lanes}
+use Rattle.ft_made.specs.MadeTables.{IsMadeTable}
+use Rattle.ft_repair.specs.KeptShelves.{AreKept, AreKeptOf}
+use Rattle.ft_replay.specs.Found.{saving_found}
+use Rattle.ft_replay.specs.Merged.{Events, merged}
+use Rattle.ft_table.specs.Tabled.{Tabled}
+use Rattle.ft_board.proofs.Makers.{filter_same, makes_none}
 
 -- a reader keeps its readings, where its saver stays and those that read it stay
 abbrev pub ReadersStay : Type 0
@@ -57,10 +63,6 @@ reads_role : (triggers : Triggers) (variable : Option Var) → is_reader variabl
 reads_role triggers None reads = let both : ◌≡◌ {A = Bool} false true = reads in absurd cc
 reads_role triggers (Some (vars.Saves label)) reads = let both : ◌≡◌ {A = Bool} false true = reads in absurd cc
 reads_role triggers (Some (vars.Reads own source)) reads = (unwrap_or (saver_of triggers source) 0, refl)
-
-pub role_there : (triggers : Triggers) (id : ℕ) (hist : Hist) → map.get triggers id ≡ Some hist → role_at triggers id ≡ role_of triggers hist.variable
-unfolding role_at
-role_there triggers id hist there = ap (λ (o : Option Hist). option_map_or (λ (h : Hist). role_of triggers h.variable) o Plain) there
 
 pub role_gone : (triggers : Triggers) (id : ℕ) → map.get triggers id ≡ None → role_at triggers id ≡ Plain
 unfolding role_at
@@ -76,11 +78,6 @@ maker_role triggers id hist there makes =
 reads_own : (saver : ℕ) (role : Role) → role ≡ Reads saver → reads_from saver role ≡ true
 reads_own saver role is = ap (reads_from saver) is ∙ eq-eqb saver saver refl
 
-reads_from_is : (id : ℕ) (role : Role) → reads_from id role ≡ true → role ≡ Reads id
-reads_from_is id Plain is = let both : ◌≡◌ {A = Bool} false true = is in absurd cc
-reads_from_is id Saves is = let both : ◌≡◌ {A = Bool} false true = is in absurd cc
-reads_from_is id (Reads saver) is = ap (λ (k : ℕ). Reads k) (eqb-true saver id is)
-
 not_read : (saver : ℕ) (role : Role) → (role ≡ Reads saver → ⊥) → reads_from saver role ≡ false
 not_read saver role apart = false_from_ne_true (reads_from saver role) (λ reads. apart (reads_from_is saver role reads))
 
@@ -94,7 +91,7 @@ module _ (triggers : Triggers) (id : ℕ) (leaves : LeavesMakers triggers id) (m
         ∙ leaves maker hist there
 
     apart_saver : saver ≡ id → ⊥
-    apart_saver same = eqb-false id saver (or_parts (id == saver) (reads_from saver (role_at triggers id)) outside).0 (sym same)
+    apart_saver same = outside_apart triggers saver id outside (sym same)
 
     reads_other : reads_from saver (role_at triggers id) ≡ false
     reads_other = (or_parts (id == saver) (reads_from saver (role_at triggers id)) outside).1
@@ -112,125 +109,81 @@ module _ (triggers : Triggers) (id : ℕ) (leaves : LeavesMakers triggers id) (m
 -- ---- one that goes
 
 module _ (triggers : Triggers) (id : ℕ) where
-  stays : {X : Type 0} (entries : FinMap nat_cmp X) (q : ℕ) → (q ≡ id → ⊥) → map.get (map.remove entries id) q ≡ map.get entries q
-  stays entries q apart = get-remove_other nat_cmp_total nat_cmp-IsAntisymmetric entries id q apart
-
-  apart_of : (q : ℕ) (hist : Hist) → map.get (map.remove triggers id) q ≡ Some hist → q ≡ id → ⊥
-  apart_of q hist still same = none-some hist (sym (ap (map.get (map.remove triggers id)) same ∙ get-remove_same nat_cmp_total triggers id) ∙ still)
-
   -- one that reads nothing, and is not read, leaves those that make events
   pub unread_leaves : IsUnread triggers id → ((hist : Hist) → map.get triggers id ≡ Some hist → is_reader hist.variable ≡ false) → LeavesMakers triggers id
-  unread_leaves unread quiet maker hist there = by_onmatch (is_some hist.onmatch) refl
+  unread_leaves unread quiet maker hist there = ap (λ (b : Bool). is_some hist.onmatch && b) (no_kin (role_of triggers hist.variable) (role_there triggers maker hist there)) ∙ and-false (is_some hist.onmatch)
     where
-      other_role : (variable : Option Var) → is_reader variable ≡ false → (saver : ℕ) → role_of triggers variable ≡ Reads saver → ⊥
-      other_role None none saver is = let both : ◌≡◌ {A = Role} Plain (Reads saver) = is in absurd cc
-      other_role (Some (vars.Saves label)) none saver is = let both : ◌≡◌ {A = Role} Saves (Reads saver) = is in absurd cc
-      other_role (Some (vars.Reads own source)) none saver is = let both : ◌≡◌ {A = Bool} true false = none in absurd cc
-
-      role : (saver : ℕ) → role_at triggers id ≡ Reads saver → ⊥
-      role saver is = elim (map.get triggers id) as (λ (o : Option Hist). map.get triggers id ≡ o → ⊥) [
-        | None ↦ λ gone. let both : ◌≡◌ {A = Role} Plain (Reads saver) = sym (role_gone triggers id gone) ∙ is in absurd cc
-        | Some own ↦ λ attached. other_role own.variable (quiet own attached) saver (sym (role_there triggers id own attached) ∙ is)
-      ] refl
-
       no_kin : (own : Role) → role_at triggers maker ≡ own → shares_read triggers id own ≡ false
       no_kin Plain is = refl
       no_kin Saves is = refl
       no_kin (Reads saver) is = or_from (id == saver) (reads_from saver (role_at triggers id))
           (ne_eqb id saver (λ same. unread.unread maker (is ∙ ap (λ (k : ℕ). Reads k) (sym same))))
-          (not_read saver (role_at triggers id) (role saver))
-
-      by_onmatch : (b : Bool) → is_some hist.onmatch ≡ b → makes_with triggers id hist ≡ false
-      by_onmatch false none = ap (λ (b : Bool). b && shares_read triggers id (role_of triggers hist.variable)) none
-      by_onmatch true some = ap (λ (b : Bool). b && shares_read triggers id (role_of triggers hist.variable)) some ∙ no_kin (role_of triggers hist.variable) (role_there triggers maker hist there)
+          (not_read saver (role_at triggers id) (nothing_read triggers id quiet saver))
 
   -- those that make events stay without one that leaves them
   pub left_stay : IsUnread triggers id → LeavesMakers triggers id → MakersStay triggers (map.remove triggers id)
   left_stay unread leaves = record {
-    stay = λ maker hist there making. stays triggers maker (apart_maker triggers id leaves maker hist there making) ∙ there;
-    come = λ maker hist still making. sym (stays triggers maker (apart_of maker hist still)) ∙ still;
+    stay = λ maker hist there making. rest_same triggers id maker (apart_maker triggers id leaves maker hist there making) ∙ there;
+    come = λ maker hist still making. sym (rest_same triggers id maker (λ same. none-some hist (sym (rest_none triggers id maker same) ∙ still))) ∙ still;
     alike = λ maker hist there making saver reads. record {
-      own = stays triggers saver (apart_saver triggers id leaves maker hist there making saver reads);
+      own = rest_same triggers id saver (apart_saver triggers id leaves maker hist there making saver reads);
       readers = λ other. ⊎_elim
-          (λ same. ap (λ (k : ℕ). reads_from saver (role_at (map.remove triggers id) k)) same
-          ∙ ap (reads_from saver) (role_gone (map.remove triggers id) id (get-remove_same nat_cmp_total triggers id))
-          ∙ sym (reads_other triggers id leaves maker hist there making saver reads)
-          ∙ ap (λ (k : ℕ). reads_from saver (role_at triggers k)) (sym same))
+          (λ same. subst (λ (k : ℕ). reads_from saver (role_at (map.remove triggers id) k) ≡ reads_from saver (role_at triggers k)) (sym same)
+          (ap (reads_from saver) (role_gone (map.remove triggers id) id (rest_none triggers id id refl)) ∙ sym (reads_other triggers id leaves maker hist there making saver reads)))
           (λ apart. ap (reads_from saver) (unread.others other apart))
           (cases_eq other id);
-      stay = λ other is. stays triggers other (apart_reader triggers id leaves maker hist there making saver reads other is);
+      stay = λ other is. rest_same triggers id other (apart_reader triggers id leaves maker hist there making saver reads other is);
     };
   }
 
 -- ---- one that gets another filter
 
-pub filter_same : (id : ℕ) (old new : Base) → GetsFilter id old new → (other : ℕ) → (other ≡ id → ⊥) → map.get new.triggers other ≡ map.get old.triggers other
-filter_same id old new gets other apart = sym (stays new.triggers id new.triggers other apart) ∙ ap (λ (t : Triggers). map.get t other) gets.others ∙ stays old.triggers id old.triggers other apart
-
 -- they stay as one gets another filter that leaves them, where it made events just if it does
 pub filter_stay : (id : ℕ) (old new : Base) (gets : GetsFilter id old new) → makes gets.hist ≡ makes gets.was → LeavesMakers new.triggers id → MakersStay old.triggers new.triggers
 filter_stay id old new gets alike leaves = record {
   stay = stay;
-  come = λ maker hist there making. sym (same maker (apart_maker new.triggers id leaves maker hist there making)) ∙ there;
+  come = λ maker hist there making. sym (filter_same id old new gets maker (apart_maker new.triggers id leaves maker hist there making)) ∙ there;
   alike = λ maker hist there making saver reads.
-      let still = stay maker hist there making in
-      let reads_still : role_at new.triggers maker ≡ Reads saver = gets.roles maker ∙ reads in
-      record {
-        own = same saver (apart_saver new.triggers id leaves maker hist still making saver reads_still);
-        readers = λ other. ap (reads_from saver) (gets.roles other);
-        stay = λ other is. same other (apart_reader new.triggers id leaves maker hist still making saver reads_still other (ap (reads_from saver) (gets.roles other) ∙ is));
-      };
+      let out = outside new.triggers id leaves maker hist (stay maker hist there making) making saver (gets.roles maker ∙ reads) in
+      filter_alike id old new gets saver (λ same. outside_apart new.triggers saver id out (sym same)) (λ own. outside_reads new.triggers saver id out (gets.roles id ∙ own));
 }
   where
-    same : (other : ℕ) → (other ≡ id → ⊥) → map.get new.triggers other ≡ map.get old.triggers other
-    same = filter_same id old new gets
-
-    still_there : (maker : ℕ) (hist : Hist) → map.get old.triggers maker ≡ Some hist → makes hist ≡ true → maker ≡ id → ⊥
-    still_there maker hist there making is =
-        let was : gets.was ≡ hist = same_Some _ _ (sym gets.attached_before ∙ ap (map.get old.triggers) (sym is) ∙ there) in
-        apart_maker new.triggers id leaves id gets.hist gets.attached (alike ∙ ap makes was ∙ making) refl
-
     stay : (maker : ℕ) (hist : Hist) → map.get old.triggers maker ≡ Some hist → makes hist ≡ true → map.get new.triggers maker ≡ Some hist
-    stay maker hist there making = same maker (still_there maker hist there making) ∙ there
+    stay maker hist there making = filter_same id old new gets maker (λ same.
+        let was : gets.was ≡ hist = same_Some _ _ (sym gets.attached_before ∙ ap (map.get old.triggers) (sym same) ∙ there) in
+        apart_maker new.triggers id leaves id gets.hist gets.attached (alike ∙ ap makes was ∙ making) refl) ∙ there
 
 -- ---- what a trigger finds that makes no events
 
--- what a hit read, if it is one
-abbrev saved_of : Option TriggerHit → Option Pos
-saved_of found = option_and_then (λ (hit : TriggerHit). hit.saved) found
-
-saved_none : {X : Type 0} (f : X → Option TriggerHit) (o : Option X) → ((x : X) → o ≡ Some x → saved_of (f x) ≡ None) → saved_of (option_and_then f o) ≡ None
-saved_none f None each = refl
-saved_none f (Some x) each = each x refl
-
-unread : (triggers : Triggers) (variable : Option Var) → is_reader variable ≡ false → (found : Variable → Option Pos) (key : List Part) → read_as (role_of triggers variable) found key ≡ Some None
-unread triggers None none found key = refl
-unread triggers (Some (vars.Saves label)) none found key = refl
-unread triggers (Some (vars.Reads own source)) none found key = let both : ◌≡◌ {A = Bool} true false = none in absurd cc
-
--- one that reads nothing finds nothing
-unread_found : (triggers : Triggers) (events : Events) (id : ℕ) → ((hist : Hist) → map.get triggers id ≡ Some hist → is_reader hist.variable ≡ false) → (at : Pos) → saving_found triggers events id at ≡ None
-unfolding saving_found hit_at
-unread_found triggers events id none at =
-    saved_none _ (map.get events at) (λ event _. saved_none _ (map.get triggers id) (λ hist there. saved_none _ (hit hist event) (λ key _.
-    ap (λ (read : Option (Option Pos)). saved_of (option_map (λ (saved : Option Pos). let made : TriggerHit = record { spot = traced at; key = key; saved = saved; values = values_at hist at event saved } in made) read))
-    (unread triggers hist.variable (none hist there) (λ variable. found_at triggers events variable (record { pos = at; trigger = id })) key))))
+no_reading : (ops : Variable → Ops) (at : At) (role : Role) (act : Option (List Part × Traced)) (read : Option Pos) → IsReading ops at role act read → ((saver : ℕ) → role ≡ Reads saver → ⊥) → read ≡ None
+no_reading ops at role None read is apart = is
+no_reading ops at Plain (Some act) read is apart = is
+no_reading ops at Saves (Some act) read is apart = is
+no_reading ops at (Reads saver) (Some act) read is apart = absurd (apart saver refl)
 
 module _ (triggers : Triggers) (events : Events) where
+  -- one that reads nothing finds nothing
+  unread_found : (id : ℕ) → ReadsNothing triggers id → (pos : Pos) → saving_found triggers events id pos ≡ None
+  unread_found id nothing pos =
+      let at : At = record { pos = pos; trigger = id } in
+      no_reading (replayed triggers events).ops at (role_at triggers id) _ _ (replayed_right triggers events at).0 (nothing_read triggers id nothing)
+
   -- one that makes no events of readings makes none
   makes_nothing : (id : ℕ) (hist : Hist) → map.get triggers id ≡ Some hist → makes hist ≡ false → (at : Pos) (event : Traced) → option_and_then (made_of hist at event) (saving_found triggers events id at) ≡ None
   makes_nothing id hist there none at event = elim (is_some hist.onmatch) as (λ (b : Bool). is_some hist.onmatch ≡ b → option_and_then (made_of hist at event) (saving_found triggers events id at) ≡ None) [
-    | false ↦ λ without. no_event hist at event (makes_none hist.onmatch without) (saving_found triggers events id at)
+    | false ↦ λ without. nothing _ (saving_found triggers events id at) (λ saved _. ap (option_map (made_event at event saved)) (makes_none hist.onmatch without))
     | true ↦ λ some.
         let quiet : is_reader hist.variable ≡ false = sym (ap (λ (b : Bool). b && is_reader hist.variable) some) ∙ none in
-        nothing_at (made_of hist at event) _ (unread_found triggers events id (λ own attached. subst (λ (h : Hist). is_reader h.variable ≡ false) (same_Some _ _ (sym there ∙ attached)) quiet) at)
+        nothing_at (made_of hist at event) _ (unread_found id (λ own attached. subst (λ (h : Hist). is_reader h.variable ≡ false) (same_Some _ _ (sym there ∙ attached)) quiet) at)
   ] refl
 
-  nothing_here : (spot : Spot) (event : Traced) → ((hist : Hist) → map.get triggers spot.maker ≡ Some hist → makes hist ≡ true → ⊥) → made_here (saving_found triggers events) spot event (map.get triggers spot.maker) ≡ None
-  nothing_here spot event none = elim (map.get triggers spot.maker) as (λ (o : Option Hist). map.get triggers spot.maker ≡ o → made_here (saving_found triggers events) spot event o ≡ None) [
-    | None ↦ λ _. refl
-    | Some hist ↦ λ there. makes_nothing spot.maker hist there (false_from_ne_true (makes hist) (none hist there)) spot.pos event
-  ] refl
+  -- where an event is made, a trigger is attached that makes such
+  by_maker : (spot : Spot) (event : Traced) → (made_here (saving_found triggers events) spot event (map.get triggers spot.maker) ≡ None) ⊎ ((hist : Hist) × ((map.get triggers spot.maker ≡ Some hist) × (makes hist ≡ true)))
+  by_maker spot event = by (map.get triggers spot.maker) refl
+    where
+      by : (o : Option Hist) → map.get triggers spot.maker ≡ o → (made_here (saving_found triggers events) spot event o ≡ None) ⊎ ((hist : Hist) × ((map.get triggers spot.maker ≡ Some hist) × (makes hist ≡ true)))
+      by None gone = inl refl
+      by (Some hist) there = ⊎_elim (λ making. inr (hist, (there, making))) (λ none. inl (makes_nothing spot.maker hist there none spot.pos event)) (cases_Bool (makes hist))
 
 -- ---- what is made
 
@@ -240,29 +193,26 @@ module _ (readings : ReadingsAre) (reread : ReadersStay) (triggers others : Trig
   found_still : (id : ℕ) (hist : Hist) → map.get triggers id ≡ Some hist → map.get others id ≡ Some hist → makes hist ≡ true → (at : Pos) → saving_found others events id at ≡ saving_found triggers events id at
   found_still id hist there still making at =
       let role = maker_role triggers id hist there making in
-      let had : HasItsShelf triggers (Some hist) (map.get old id) = subst (λ (o : Option Hist). HasItsShelf triggers o (map.get old id)) there (kept.each id) in
-      let has : HasItsShelf others (Some hist) (map.get new id) = subst (λ (o : Option Hist). HasItsShelf others o (map.get new id)) still (will.each id) in
+      let had = its_shelf triggers old kept.each id hist there in
+      let has = its_shelf others new will.each id hist still in
       let stay = reread triggers others events old new kept will role.0 (same.alike id hist there making role.0 role.1) id role.1 had.0 has.0 had.1.0 has.1.0 in
       sym (readings others events new will id hist has.0 still has.1.0 at) ∙ ap (λ r. map.get r at) stay.1 ∙ readings triggers events old kept id hist had.0 there had.1.0 at
 
+  same_here : (spot : Spot) (event : Traced) (hist : Hist) → map.get triggers spot.maker ≡ Some hist → map.get others spot.maker ≡ Some hist → makes hist ≡ true
+      → made_here (saving_found others events) spot event (map.get others spot.maker) ≡ made_here (saving_found triggers events) spot event (map.get triggers spot.maker)
+  same_here spot event hist there still making =
+      ap (made_here (saving_found others events) spot event) still
+      ∙ ap (option_and_then (made_of hist spot.pos event)) (found_still spot.maker hist there still making spot.pos)
+      ∙ sym (ap (made_here (saving_found triggers events) spot event) there)
+
   here_still : (spot : Spot) (event : Traced) → made_here (saving_found others events) spot event (map.get others spot.maker) ≡ made_here (saving_found triggers events) spot event (map.get triggers spot.maker)
-  here_still spot event = elim (map.get others spot.maker) as (λ (o : Option Hist). map.get others spot.maker ≡ o
-      → made_here (saving_found others events) spot event (map.get others spot.maker) ≡ made_here (saving_found triggers events) spot event (map.get triggers spot.maker)) [
-        | None ↦ λ gone. nothing_here others events spot event (λ hist still making. none-some hist (sym gone ∙ still))
-            ∙ sym (nothing_here triggers events spot event (λ hist there making. none-some hist (sym gone ∙ same.stay spot.maker hist there making)))
-        | Some hist ↦ λ still. by_making hist still (makes hist) refl
-      ] refl
-    where
-      by_making : (hist : Hist) → map.get others spot.maker ≡ Some hist → (b : Bool) → makes hist ≡ b
-          → made_here (saving_found others events) spot event (map.get others spot.maker) ≡ made_here (saving_found triggers events) spot event (map.get triggers spot.maker)
-      by_making hist still true making =
-          let there : map.get triggers spot.maker ≡ Some hist = same.come spot.maker hist still making in
-          ap (made_here (saving_found others events) spot event) still
-          ∙ ap (option_and_then (made_of hist spot.pos event)) (found_still spot.maker hist there still making spot.pos)
-          ∙ sym (ap (made_here (saving_found triggers events) spot event) there)
-      by_making hist still false none =
-          nothing_here others events spot event (λ own attached making. true≢false (sym making ∙ ap makes (same_Some _ _ (sym attached ∙ still)) ∙ none))
-          ∙ sym (nothing_here triggers events spot event (λ own attached making. true≢false (sym making ∙ ap makes (same_Some _ _ (sym (same.stay spot.maker own attached making) ∙ still)) ∙ none)))
+  here_still spot event = ⊎_elim
+      (λ none. ⊎_elim
+      (λ gone. none ∙ sym gone)
+      (λ its. same_here spot event its.0 its.1.0 (same.stay spot.maker its.0 its.1.0 its.1.1) its.1.1)
+      (by_maker triggers events spot event))
+      (λ its. same_here spot event its.0 (same.come spot.maker its.0 its.1.0 its.1.1) its.1.0 its.1.1)
+      (by_maker others events spot event)
 
   -- so the same is made at each spot
   pub made_still : (spot : Spot) → made_at others events spot ≡ made_at triggers events spot
@@ -283,10 +233,10 @@ module _ (stay : MadeStay) where
       (kept : AreKept triggers events old) (left : AreKept (map.remove triggers id) events new) where
     left_made : (made : MadeTables) → AreMadeBy triggers events (saving_found triggers events) made → AreMadeBy (map.remove triggers id) events (saving_found (map.remove triggers id) events) (map.remove made id)
     left_made made are other hist still counts =
-        let apart : other ≡ id → ⊥ = apart_of triggers id other hist still in
-        subst (IsMadeTable (map.remove triggers id) events (saving_found (map.remove triggers id) events) hist) (sym (ap (table_by hist) (stays triggers id made other apart)))
+        let apart : other ≡ id → ⊥ = λ same. none-some hist (sym (rest_none triggers id other same) ∙ still) in
+        subst (IsMadeTable (map.remove triggers id) events (saving_found (map.remove triggers id) events) hist) (sym (ap (table_by hist) (get-remove_other nat_cmp_total nat_cmp-IsAntisymmetric made id other apart)))
         (same_table triggers (map.remove triggers id) events (stay triggers (map.remove triggers id) events old new kept left (left_stay triggers id unread leaves)) hist (made_on made other hist)
-        (are other hist (sym (stays triggers id triggers other apart) ∙ still) counts))
+        (are other hist (sym (rest_same triggers id other apart) ∙ still) counts))
 
   pub left_if : (base : Base) (id : ℕ) (old new : Option Shelves) (made : MadeTables) → IsUnread base.triggers id → LeavesMakers base.triggers id → AreRightIf base.triggers (merged base.lanes) old made
       → IfSome new (AreKeptBut id base) → (old ≡ None → new ≡ None) → AreRightIf (map.remove base.triggers id) (merged base.lanes) new (map.remove made id)
@@ -302,7 +252,7 @@ module _ (stay : MadeStay) where
         let were : AreMade (base_without new id) made = subst (λ (b : Base). AreMade b made) (sym joins.before) are in
         same_table (map.remove new.triggers id) new.triggers (merged new.lanes)
         (λ spot. sym (stay new.triggers (map.remove new.triggers id) (merged new.lanes) has had will before (left_stay new.triggers id joins.unread leaves) spot)) its (made_on made other its)
-        (were other its (stays new.triggers id new.triggers other apart ∙ there) counts)
+        (were other its (rest_same new.triggers id other apart ∙ there) counts)
 
     pub joins_await : (kept : Option Shelves) (made : MadeTables) → AreRightIf old.triggers (merged old.lanes) kept made
         → IfSome kept (λ _. LeavesMakers new.triggers id → (has : Shelves) → AreKeptOf new has → AreMadeBut id new made)
@@ -324,26 +274,23 @@ module _ (stay : MadeStay) where
     filter_await None (Some later) made gone right = let both : ◌≡◌ {A = Option Shelves} (Some later) None = gone refl in absurd cc
     filter_await (Some had) (Some later) made gone right = λ leaves has will. filter_made had has made right.0 right.1 leaves will
 
--- the others' tables are right as a trigger joins, where there are shelves, if it leaves those alone that make events
-pub others_right : (base : Base) (id : ℕ) (kept : Option Shelves) (made : MadeTables) → LeavesMakers base.triggers id → IfSome kept (AreKeptOf base)
-    → IfSome kept (λ _. LeavesMakers base.triggers id → (has : Shelves) → AreKeptOf base has → AreMadeBut id base made) → IfSome kept (λ _. AreMadeBut id base made)
-others_right base id None made leaves has await = tt
-others_right base id (Some shelves) made leaves has await = await leaves shelves has
-
--- and all are, if it counts no such events itself
-pub settled : (base : Base) (id : ℕ) (kept : Option Shelves) (made : MadeTables) → ((hist : Hist) → map.get base.triggers id ≡ Some hist → counts_made hist ≡ false)
-    → IfSome kept (λ _. AreMadeBut id base made) → IfSome kept (λ _. AreMade base made)
-settled base id None made uncounted but = tt
-settled base id (Some shelves) made uncounted but = λ other hist there counts.
-    but other hist there counts (λ same. true≢false (sym counts ∙ uncounted hist (ap (map.get base.triggers) (sym same) ∙ there)))
-
--- a trigger's table that is right among others that are makes all right
-pub one_right : (base : Base) (id : ℕ) (hist : Hist) → map.get base.triggers id ≡ Some hist → (old new : MadeTables) → OtherTablesStay id old new → AreMadeBut id base old
-    → IsMadeTable base.triggers (merged base.lanes) (saving_found base.triggers (merged base.lanes)) hist (made_on new id hist) → AreMade base new
-one_right base id hist attached old new stay but its other own there counts = ⊎_elim
-    (λ same. subst (λ (x : ℕ × Hist). IsMadeTable base.triggers (merged base.lanes) (saving_found base.triggers (merged base.lanes)) x.1 (made_on new x.0 x.1))
-    (λ i. (sym same i, same_Some _ _ (sym attached ∙ ap (map.get base.triggers) (sym same) ∙ there) i)) its)
-    (λ apart. subst (IsMadeTable base.triggers (merged base.lanes) (saving_found base.triggers (merged base.lanes)) own)
-    (sym (ap (table_by own) (stay other (false_from_ne_true (eq_by_cmp nat_cmp other id) (λ tie. apart (same_from_tie nat_cmp-IsAntisymmetric other id tie))))))
-    (but other own there counts apart))
+-- all tables are right, if those of other triggers are, and the trigger's own if it counts made events
+pub one_right : (base : Base) (id : ℕ) (old new : MadeTables) → OtherTablesStay id old new → AreMadeBut id base old
+    → ((hist : Hist) → map.get base.triggers id ≡ Some hist → counts_made hist ≡ true → IsMadeTable base.triggers (merged base.lanes) (saving_found base.triggers (merged base.lanes)) hist (made_on new id hist)) → AreMade base new
+one_right base id old new stay but its other hist there counts = ⊎_elim
+    (λ same. subst (λ (k : ℕ). IsMadeTable base.triggers (merged base.lanes) (saving_found base.triggers (merged base.lanes)) hist (made_on new k hist)) (sym same) (its hist (ap (map.get base.triggers) (sym same) ∙ there) counts))
+    (λ apart. subst (IsMadeTable base.triggers (merged base.lanes) (saving_found base.triggers (merged base.lanes)) hist)
+    (sym (ap (table_by hist) (stay other (false_from_ne_true (eq_by_cmp nat_cmp other id) (λ tie. apart (same_from_tie nat_cmp-IsAntisymmetric other id tie))))))
+    (but other hist there counts apart))
     (cases_eq other id)
+
+-- so all are where there are shelves, if the trigger leaves those alone that make events
+pub refitted : (base : Base) (id : ℕ) (old new : MadeTables) (shelves : Shelves) (kept : Option Shelves) → Some shelves ≡ kept → LeavesMakers base.triggers id → IfSome kept (AreKeptOf base)
+    → IfSome kept (λ _. LeavesMakers base.triggers id → (has : Shelves) → AreKeptOf base has → AreMadeBut id base old) → OtherTablesStay id old new
+    → ((hist : Hist) → map.get base.triggers id ≡ Some hist → counts_made hist ≡ true → IsMadeTable base.triggers (merged base.lanes) (saving_found base.triggers (merged base.lanes)) hist (made_on new id hist))
+    → AreRightIf base.triggers (merged base.lanes) kept new
+refitted base id old new shelves kept there leaves are await stay its = (
+  are,
+  if_there (λ _. AreMade base new) shelves kept there (one_right base id old new stay
+      (there_if (λ _. LeavesMakers base.triggers id → (has : Shelves) → AreKeptOf base has → AreMadeBut id base old) shelves kept there await leaves shelves (there_if (AreKeptOf base) shelves kept there are)) its),
+)

@@ -2,7 +2,6 @@
 
 ghost use Rattle.std.specs.Prelude.{◌≡◌, ◌⊎◌, ◌+◌, ◌≤◌, None, Some, IfSome};
 ghost use Rattle.std.specs.FinMap as map;
-ghost use Rattle.ft_hist.specs.Steps.{StepsGrow};
 ghost use Rattle.ft_lanes.specs.Held.{Lane};
 ghost use Rattle.ft_replay.specs.Chosen.{lanes_of};
 ghost use Rattle.ft_replay.specs.Merged.{merged};
@@ -10,15 +9,15 @@ ghost use Rattle.ft_answers.specs.Costs.{count_on_lane, family_tests};
 ghost use Rattle.ft_answers.specs.Counting.{MakesNothing};
 ghost use Rattle.ft_answers.specs.Deferral.{IsPlainLane, ReadsNothing};
 ghost use Rattle.ft_base.specs.OneTrigger.{IsUnread, base_without, is_in_family};
-ghost use Rattle.ft_repair.specs.ButOneTrigger.{AreKeptBut, AwaitFilter};
+ghost use Rattle.ft_repair.specs.ButOneTrigger.{AreKeptBut};
 ghost use Rattle.ft_repair.specs.Outside.{AreKeptOutside};
 ghost use Rattle.ft_repair.specs.SomeLanes.{count_coming};
 ghost use Rattle.ft_kept.specs.Repairs.{IsHeldAt};
 ghost use Rattle.ft_repair.specs.OneEvent.{ChangeCosts, EventNeedsNoMemory};
 ghost use Rattle.ft_board.specs.Makers.{LeavesMade, LeavesMakers};
 ghost use Rattle.ft_board.specs.inner.Edits.{AreAfter, AreBefore, Edit, IsEdit, ReportsEdit};
-ghost use Rattle.ft_board.specs.inner.Reported.{IsReportBy, RepairsReported};
-ghost use Rattle.ft_board.specs.inner.Views.{AreFresh, AreOf, AwaitTrigger, EndsAs, made_in};
+ghost use Rattle.ft_board.specs.inner.Reported.{IsReportBy};
+ghost use Rattle.ft_board.specs.inner.Views.{AreFresh, AreOf, AwaitTrigger, EndsAs};
 
 use crate::laws::made_events_stay;
 use crate::made_rows::made_rows;
@@ -27,9 +26,9 @@ use ft_answers::{Done, Edited, Kept};
 use ft_base::{Content, Place};
 use ft_changes::Changed;
 use ft_fields::{Event, Pos};
-use ft_kept::{Changes, Delta, Sign, changed_rows};
+use ft_kept::{Changes, Delta, Log, Sign, changed_rows};
 use ft_maps::take;
-use ft_repair::{join, kept_shelves, leave, let_change, let_lane_go, let_lanes_come, make_way};
+use ft_repair::{join, kept_shelves, leave, let_change, let_lane_go, let_lanes_come};
 
 impl Views {
     /// Adds a held event to what is kept, or removes it, and returns its place and which rows may have
@@ -55,23 +54,19 @@ impl Views {
             → ReportsEdit edit self.new result.value }
     {
         kept_shelves();
-        reported_edits();
+        ft_kept::reported_rows();
+        ft_made::made_counters();
         ft_made::made_tables();
         let delta = Delta { sign, pos, event };
-        let mut changes = self.changes_to_report(content).with_keys(self.alloc);
-        let_change(
-            &mut self.shelves,
-            content,
-            &delta,
-            &mut changes,
-            &mut self.work,
-        );
-        let made = made_rows(self.alloc, content, &self.made, &changes, &mut self.work);
-        let kept = self.mend(content, &changes);
+        let changes = &mut self.changes_to_report(content);
+        changes.keys = Log::new(self.alloc);
+        let_change(&mut self.shelves, content, &delta, changes, &mut self.work);
+        let made = made_rows(self.alloc, content, &self.made, changes, &mut self.work);
+        let kept = self.mend(content, changes);
         let Pos { cpu, line, .. } = pos;
         let value = Edited {
             place: Place { cpu, line },
-            report: self.report(content, &changes),
+            report: self.report(content, changes),
             made: self.shelves.as_ref().and(made),
         };
         Done { value, kept }
@@ -86,7 +81,7 @@ impl Views {
             IsReportBy content.now.triggers self.now.shelves changes.now.keys rows.items) }
     {
         let tables = self.shelves.as_ref()?;
-        let keys = changes.keys()?;
+        let keys = changes.keys.items()?;
         changed_rows(self.alloc, tables, content.triggers(), keys).ok()
     }
 
@@ -101,16 +96,9 @@ impl Views {
             ≤ self.old.work.evals + count_coming before.now content.now }
     {
         kept_shelves();
-        let mut changes = self.changes_to_report(content);
-        let_lanes_come(
-            &mut self.shelves,
-            self.alloc,
-            content,
-            before,
-            &mut changes,
-            &mut self.work,
-        );
-        self.mend(content, &changes)
+        let changes = &mut self.changes_to_report(content);
+        let_lanes_come(&mut self.shelves, content, before, changes, &mut self.work);
+        self.mend(content, changes)
     }
 
     /// Removes the events of a CPU's lane, which is still held, from what is kept, and returns whether
@@ -127,15 +115,9 @@ impl Views {
             ≤ self.old.work.evals + count_on_lane content.now.triggers lane }
     {
         kept_shelves();
-        let mut changes = self.changes_to_report(content);
-        let_lane_go(
-            &mut self.shelves,
-            content,
-            cpu,
-            &mut changes,
-            &mut self.work,
-        );
-        self.mend(content, &changes)
+        let changes = &mut self.changes_to_report(content);
+        let_lane_go(&mut self.shelves, content, cpu, changes, &mut self.work);
+        self.mend(content, changes)
     }
 
     /// Adds a trigger that was attached, or got another filter, to what is kept, with those that read
@@ -151,50 +133,30 @@ impl Views {
             → self.new.work.evals
             ≤ self.old.work.evals + family_tests content.now.triggers content.now.lanes id }
     {
-        join(&mut self.shelves, self.alloc, content, id, &mut self.work);
+        join(&mut self.shelves, content, id, &mut self.work);
         self.refit(id, content)
     }
 
-    /// Removes what a trigger reads from what is kept, before it gets another filter.
-    pub(crate) fn make_way(&mut self, id: u32, content: &Content)
-        requires { AreFresh content.now self.old }
-        ensures waits { IfSome self.new.shelves (AwaitFilter id content.now) }
-        ensures missing { map.get content.now.triggers id ≡ None → self.new ≡ self.old }
-        ensures gone { self.old.shelves ≡ None → self.new.shelves ≡ None }
-        ensures none { ReadsNothing content.now.triggers id → self.new.work ≡ self.old.work }
-        ensures made { made_in self.new ≡ made_in self.old }
-        ensures grow { StepsGrow self.old.work self.new.work }
-    {
-        make_way(&mut self.shelves, self.alloc, content, id, &mut self.work);
-    }
-
-    /// Removes a trigger that is still attached, and that no other reads, from what is kept. One that
-    /// reads nothing takes no memory. The tables of made events are those of the others then, unless
-    /// it bears on those that make them.
-    pub(crate) fn leave(&mut self, id: u32, content: &Content)
+    /// Removes a trigger that is still attached, and that no other reads, from what is kept, and returns
+    /// whether there are shelves then. One that reads nothing takes no memory. The tables of made
+    /// events are those of the others then, unless it bears on those that make them.
+    pub(crate) fn leave(&mut self, id: u32, content: &Content) -> Kept
         requires unread { IsUnread content.now.triggers id }
         requires fresh { AreFresh content.now self.old }
         ensures kept { IfSome self.new.shelves (AreKeptBut id content.now) }
         ensures fresh { LeavesMakers content.now.triggers id
             → AreFresh (base_without content.now id) self.new }
-        ensures gone { self.old.shelves ≡ None → self.new.shelves ≡ None }
+        ensures ends { EndsAs result self.old self.new }
         ensures now { ReadsNothing content.now.triggers id
             → self.new.shelves ≡ None → self.old.shelves ≡ None }
         ensures none { ReadsNothing content.now.triggers id → self.new.work ≡ self.old.work }
-        ensures grow { StepsGrow self.old.work self.new.work }
     {
         made_events_stay();
-        leave(&mut self.shelves, self.alloc, content, id, &mut self.work);
+        leave(&mut self.shelves, content, id, &mut self.work);
+        if self.shelves.is_none() {
+            return self.give_up();
+        }
         take(&mut self.made, &id);
+        Kept::Now
     }
-}
-
-/// A law: the report that shelves give after the repair for one event has all rows of triggers that
-/// count held events and that differ from those before it, by replaying either base, and few others.
-pub(crate) fn reported_edits()
-    ensures { RepairsReported }
-{
-    kept_shelves();
-    ft_made::made_counters();
-    ft_kept::reported_rows();
 }

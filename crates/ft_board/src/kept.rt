@@ -3,7 +3,6 @@
 ghost use Rattle.std.specs.Prelude.{◌≡◌, true, false};
 ghost use Rattle.ft_board.specs.inner.Edits.{pos_at};
 
-use crate::answers::TableOf;
 use crate::laws::made_events_stay;
 use crate::making::bears_on_makers;
 use crate::mend::pairs_of;
@@ -17,9 +16,10 @@ use ft_fields::{Event, Name, Pos};
 use ft_filter::Filter;
 use ft_hist::{Key, Trigger};
 use ft_kept::Sign;
-use ft_repair::cpus_before;
+use ft_maps::get;
+use ft_repair::{cpus_before, make_way};
 use ft_store::Store;
-use ft_table::Totals;
+use ft_table::{Table, Totals};
 use std::alloc::Global;
 use std::marker::Model;
 
@@ -52,7 +52,12 @@ impl Model for KeptBoard {
 }
 
 impl KeptBoard {
+    ghost use Rattle.std.specs.Prelude.{IfOk, IfErr, IsSome, OnOk, OnErr};
+    ghost use Rattle.std.specs.FinMap as map;
     ghost use Rattle.ft_base.specs.Base.{empty_base};
+    ghost use Rattle.ft_base.specs.declared.refused.Refused.TheVariants.{Memory, NoTrigger};
+    ghost use Rattle.ft_answers.specs.Costs.{AnswerCosts};
+    ghost use Rattle.ft_board.specs.inner.Told.{TableTells};
 
     /// A board that holds nothing and has no trigger. It takes no memory.
     pub fn new(alloc: Global) -> KeptBoard
@@ -68,14 +73,6 @@ impl KeptBoard {
             views: Views::new(alloc),
         }
     }
-}
-
-impl KeptBoard {
-    ghost use Rattle.std.specs.Prelude.{IfOk, IfErr, IsSome, OnOk, OnErr};
-    ghost use Rattle.std.specs.FinMap as map;
-    ghost use Rattle.ft_base.specs.declared.refused.Refused.TheVariants.{Memory, NoTrigger};
-    ghost use Rattle.ft_answers.specs.Costs.{AnswerCosts};
-    ghost use Rattle.ft_board.specs.inner.Told.{TableTells};
 
     /// Builds all that was put off, if a trigger has this id. Refused if none has it.
     fn catch_up(&mut self, id: u32) -> Result<(), Refused>
@@ -91,7 +88,8 @@ impl KeptBoard {
         Ok(())
     }
 
-    /// The attached trigger with an id, and its table. Refused for memory, if that is put off.
+    /// The attached trigger with an id and its table: if it counts made events, the table of these,
+    /// otherwise the one on its shelf. Refused for memory if there are no shelves.
     fn told(&self, id: u32) -> Result<TableOf<'_>, Refused>
         requires { IsSome (map.get self.now.base.triggers id) }
         ensures tells { IfOk result (λ told. TableTells self.now.base id told) }
@@ -99,7 +97,41 @@ impl KeptBoard {
         ensures memory { IfErr result (λ refused. refused ≡ Memory) }
         ensures later { OnErr result (self.now.deferred ≡ true) }
     {
-        self.views.table(id, &self.content)
+        ft_made::made_tables();
+        let trigger = find_trigger(self.content.triggers(), id)?;
+        let shelf = self.views.shelf(id)?;
+        let bare = Table::new(self.views.alloc, trigger.size());
+        if trigger.counts_made() {
+            return Ok(TableOf {
+                trigger,
+                kept: get(&self.views.made, &id),
+                bare,
+            });
+        }
+        Ok(TableOf {
+            trigger,
+            kept: Some(shelf.table()),
+            bare,
+        })
+    }
+}
+
+/// A trigger with its table: the one that is kept, or else one without hits.
+#[derive(Drop)]
+pub(crate) struct TableOf<'a> {
+    trigger: &'a Trigger,
+    kept: Option<&'a Table>,
+    bare: Table,
+}
+
+impl TableOf<'_> {
+    ghost use Rattle.ft_board.specs.inner.Told.{tabled_in};
+
+    /// The table.
+    fn as_table(&self) -> &Table
+        ensures { result.now ≡ tabled_in self.now }
+    {
+        self.kept.unwrap_or(&self.bare)
     }
 }
 
@@ -114,13 +146,10 @@ impl Board for KeptBoard {
     fn load_store(&mut self, events: Store) -> Result<Done<u64>, Refused> {
         let before = cpus_before(self.views.alloc, self.content.lanes(), &events);
         let value = self.content.load(events)?;
-        let Ok(before) = before else {
-            let kept = self.views.give_up();
-            return Ok(Done { value, kept });
-        };
         let kept = match before {
-            Some(before) => self.views.let_lanes_come(&before, &self.content),
-            None => self.views.rebuild(&self.content),
+            Ok(Some(before)) => self.views.let_lanes_come(&before, &self.content),
+            Ok(None) => self.views.rebuild(&self.content),
+            Err(_) => self.views.give_up(),
         };
         Ok(Done { value, kept })
     }
@@ -164,7 +193,8 @@ impl Board for KeptBoard {
 
     fn refilter(&mut self, id: u32, filter: Option<Filter>) -> Result<Done<u32>, Refused> {
         made_events_stay();
-        self.views.make_way(id, &self.content);
+        let views = &mut self.views;
+        make_way(&mut views.shelves, &self.content, id, &mut views.work);
         let value = self.content.refilter(id, filter)?;
         let kept = self.views.join(id, &self.content);
         Ok(Done { value, kept })
@@ -173,13 +203,12 @@ impl Board for KeptBoard {
     fn remove(&mut self, id: u32) -> Result<Done<u32>, Refused> {
         self.content.removable(id)?;
         let bears = bears_on_makers(self.content.triggers(), id);
-        self.views.leave(id, &self.content);
+        let kept = self.views.leave(id, &self.content);
         self.content.remove(id);
         if bears {
             let kept = self.views.remake(&self.content);
             return Ok(Done { value: id, kept });
         }
-        let kept = self.views.settle();
         Ok(Done { value: id, kept })
     }
 
@@ -194,13 +223,13 @@ impl Board for KeptBoard {
     fn hist(&mut self, id: u32) -> Result<Vec<u8>, Refused> {
         self.catch_up(id)?;
         let told = self.told(id)?;
-        Ok(table_text(told.alloc, told.trigger, told.as_table())?)
+        Ok(table_text(self.views.alloc, told.trigger, told.as_table())?)
     }
 
     fn row_texts(&mut self, id: u32) -> Result<Vec<TableRow>, Refused> {
         self.catch_up(id)?;
         let told = self.told(id)?;
-        Ok(table_row_texts(told.alloc, told.trigger, told.as_table())?)
+        Ok(table_row_texts(self.views.alloc, told.trigger, told.as_table())?)
     }
 
     fn rows(&mut self, id: u32) -> Result<Vec<Row>, Refused> {
@@ -212,7 +241,7 @@ impl Board for KeptBoard {
     fn row_text(&mut self, id: u32, key: &Key) -> Result<Option<Vec<u8>>, Refused> {
         self.catch_up(id)?;
         let told = self.told(id)?;
-        Ok(table_row_text(told.alloc, told.trigger, told.as_table(), key)?)
+        Ok(table_row_text(self.views.alloc, told.trigger, told.as_table(), key)?)
     }
 
     fn totals(&mut self, id: u32) -> Result<Totals, Refused> {

@@ -8,17 +8,16 @@ ghost use Rattle.ft_kept.specs.Report.{rows_at};
 ghost use Rattle.ft_maps.specs.Seen.{seen};
 ghost use Rattle.ft_replay.specs.Merged.{merged};
 ghost use Rattle.ft_answers.specs.Counting.{MakesNothing};
-ghost use Rattle.ft_board.specs.inner.MadeRows.{AreUpdatedRows, keys_named};
+ghost use Rattle.ft_board.specs.inner.MadeRows.{AreUpdatedRows, keys_counted};
 ghost use Rattle.ft_board.specs.inner.Mending.{CanMendTo};
-ghost use Rattle.ft_board.specs.inner.Told.{tabled_in};
 
-use crate::answers::{TableOf, table_of};
 use crate::making::are_made;
 use ft_base::Content;
-use ft_changes::{Changed, ReadingChange, rivals};
-use ft_hist::Work;
-use ft_kept::{Changes, distinct, put_rows};
-use ft_made::put_changed_keys;
+use ft_changes::{Changed, ReadingChange};
+use ft_hist::{Trigger, Work};
+use ft_kept::{Changes, keys_with_rivals, put_rows};
+use ft_made::Counting;
+use ft_maps::get;
 use ft_table::Table;
 use std::alloc::{AllocError, Global};
 use std::collections::BTreeMap;
@@ -47,48 +46,60 @@ pub(crate) fn made_rows(
     if !are_made(content.triggers()) {
         return Some(rows);
     }
-    let changes = changes.readings()?;
-    let rereading = Rereading { content, changes };
+    let changes = changes.readings.items()?;
+    let rereading = Rereading {
+        alloc,
+        content,
+        made,
+        changes,
+    };
     for (id, trigger) in content.triggers().iter() {
-        if trigger.counts_made() {
-            let told = table_of(alloc, made, *id, trigger);
-            let Ok(()) = rereading.put_rows(&mut rows, *id, &told, work) else {
-                return None;
-            };
-        }
+        let Ok(()) = rereading.put_rows(&mut rows, *id, trigger, work) else {
+            return None;
+        };
     }
     Some(rows)
 }
 
-/// What is held and attached, and how readings changed.
+/// What is held and attached, the tables of made events, and how readings changed since.
 #[derive(Clone, Copy)]
 struct Rereading<'a> {
+    alloc: Global,
     content: &'a Content,
+    made: &'a BTreeMap<u32, Table>,
     changes: &'a [ReadingChange],
 }
 
 impl Rereading<'_> {
-    /// Adds the rows of a trigger that may differ to others: those of the keys of what the readings
-    /// made and make, and of the rivals of these in the trigger's table. Refused for memory.
+    /// Adds the rows of a trigger that may differ to others, if it counts made events: those of the
+    /// keys of what the readings made and make, and of the rivals of these in the trigger's table.
+    /// Refused for memory.
     fn put_rows(
         &self,
         rows: &mut Vec<Changed>,
         id: u32,
-        told: &TableOf<'_>,
+        trigger: &Trigger,
         work: &mut Work,
     ) -> Result<(), AllocError>
         ensures rows { OnOk result (rows.new.items ≡ rows.old.items ++ rows_at id
-            (keys_named self.now.content.now.triggers (merged self.now.content.now.lanes)
-            self.now.changes.now (tabled_in told.now) told.now.trigger.now)) }
+            (keys_counted self.now.content.now.triggers (merged self.now.content.now.lanes)
+            self.now.changes.now (seen nat_cmp self.now.made.now) (id, trigger.now))) }
         ensures grow { StepsGrow work.old work.new }
     {
-        let TableOf { alloc, trigger, .. } = *told;
+        if !trigger.counts_made() {
+            return Ok(());
+        }
         let (lanes, triggers) = (self.content.lanes(), self.content.triggers());
-        let mut updated = Vec::new(alloc);
-        put_changed_keys(&mut updated, lanes, triggers, trigger, self.changes, work)?;
-        let mut keys = distinct(alloc, &updated)?;
-        let others = rivals(alloc, told.as_table(), &keys)?;
-        keys.extend_from_slice(&others)?;
+        let counting = Counting {
+            lanes,
+            triggers,
+            trigger,
+        };
+        let mut updated = Vec::new(self.alloc);
+        counting.put_changed_keys(&mut updated, self.changes, work)?;
+        let bare = Table::new(self.alloc, trigger.size());
+        let table = get(self.made, &id).unwrap_or(&bare);
+        let keys = keys_with_rivals(self.alloc, table, &updated)?;
         put_rows(rows, id, &keys)
     }
 }

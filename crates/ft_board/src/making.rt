@@ -1,15 +1,11 @@
 //! Whether events are made of readings and counted, and which triggers bear on that. As any other
 //! comes, goes or gets another filter, the tables of made events stay as they are.
 
-ghost use Rattle.std.specs.Prelude.{◌≡◌, ◌⊎◌, true, false, Some, is_some};
-ghost use Rattle.std.specs.FinMap as map;
-ghost use Rattle.ft_hist.specs.Hist.{Hist};
-ghost use Rattle.ft_hist.specs.Made.{counts_made};
+ghost use Rattle.std.specs.Prelude.{◌≡◌, ◌⊎◌, true, false, is_some};
 ghost use Rattle.ft_made.specs.Making.{MakeNone};
 ghost use Rattle.ft_answers.specs.Counting.{CountNone, MakesNothing};
-ghost use Rattle.ft_base.specs.OneTrigger.{reads_from};
 ghost use Rattle.ft_base.specs.Roles.{is_reader, role_at};
-ghost use Rattle.ft_board.specs.Makers.{LeavesMakers, makes_with, shares_read};
+ghost use Rattle.ft_board.specs.Makers.{LeavesMakers, shares_read};
 
 use ft_base::role_of;
 use ft_hist::{Trigger, Triggers};
@@ -41,29 +37,9 @@ pub(crate) fn bears_on_makers(triggers: &Triggers, id: u32) -> bool
     ensures none { result ≡ false → LeavesMakers triggers.now id }
     ensures some { LeavesMakers triggers.now id → result ≡ false }
 {
-    triggers
-        .iter()
-        .any(|(_, maker)| makes_with(triggers, id, maker))
-}
-
-/// Whether the trigger with an id, if there is one, counts made events.
-pub(crate) fn counts_made(triggers: &Triggers, id: u32) -> bool
-    ensures none { result ≡ false → (hist : Hist) → map.get triggers.now id ≡ Some hist
-        → counts_made hist ≡ false }
-    ensures some { ((hist : Hist) → map.get triggers.now id ≡ Some hist
-        → counts_made hist ≡ false) → result ≡ false }
-{
-    match triggers.get(id) {
-        Some(trigger) => trigger.counts_made(),
-        None => false,
-    }
-}
-
-/// Whether a trigger makes events of a variable that the one with an id saves or reads.
-fn makes_with(triggers: &Triggers, id: u32, maker: &Trigger) -> bool
-    ensures { result ≡ makes_with triggers.now id maker.now }
-{
-    maker.onmatch().is_some() && shares_read(triggers, id, role_of(triggers, maker.variable()))
+    triggers.iter().any(|(_, maker)| {
+        maker.onmatch().is_some() && shares_read(triggers, id, role_of(triggers, maker.variable()))
+    })
 }
 
 /// Whether the trigger with an id saves what one with this role reads, or reads it too.
@@ -72,7 +48,7 @@ fn shares_read(triggers: &Triggers, id: u32, role: Role) -> bool
 {
     match role {
         Role::Plain | Role::Saves => false,
-        Role::Reads(saver) => id == saver || reads_from(saver, role_at(triggers, id)),
+        Role::Reads(saver) => id == saver || role_at(triggers, id) == role,
     }
 }
 
@@ -83,15 +59,5 @@ fn role_at(triggers: &Triggers, id: u32) -> Role
     match triggers.get(id) {
         Some(trigger) => role_of(triggers, trigger.variable()),
         None => Role::Plain,
-    }
-}
-
-/// Whether a trigger with this role reads what the one with an id saves.
-fn reads_from(id: u32, role: Role) -> bool
-    ensures { result ≡ reads_from id role }
-{
-    match role {
-        Role::Plain | Role::Saves => false,
-        Role::Reads(saver) => saver == id,
     }
 }

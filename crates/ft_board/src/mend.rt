@@ -1,8 +1,7 @@
-//! Tables of made events that are brought up to date. The repair of the shelves reports what readings
-//! had found and what they find: the events made of the one are removed from the tables, and those made
-//! of the other added. Where readings are not reported, a table is made anew of what the shelves keep.
+//! Tables of made events that are brought up to date, by what a repair of the shelves reports of
+//! readings, or else made anew of what the shelves keep.
 
-ghost use Rattle.std.specs.Prelude.{◌≡◌, ◌⊎◌, [], None, Some, IfOk, IfSome, OnOk};
+ghost use Rattle.std.specs.Prelude.{◌≡◌, ◌⊎◌, [], true, false, None, Some, Ok, IfOk, IfSome, OnOk};
 ghost use Rattle.std.specs.Ordering.{nat_cmp};
 ghost use Rattle.ft_fields.specs.Places.{pos_cmp};
 ghost use Rattle.ft_hist.specs.Steps.{StepsGrow};
@@ -11,9 +10,9 @@ ghost use Rattle.ft_replay.specs.Found.{pairs_in};
 ghost use Rattle.ft_replay.specs.Merged.{merged};
 ghost use Rattle.ft_made.specs.MadeTables.{found_in};
 ghost use Rattle.ft_made.specs.Making.{MakeNone};
-ghost use Rattle.ft_answers.specs.Counting.{CountNone, MakesNothing};
+ghost use Rattle.ft_answers.specs.Counting.{CountNone, MakesNothing, counts_made};
 ghost use Rattle.ft_board.specs.MadeShelves.{AreMadeBy, OfEachCounted, made_on};
-ghost use Rattle.ft_board.specs.inner.Mending.{CanUpdateTo, OtherTablesStay, Updates, events_in, triggers_in};
+ghost use Rattle.ft_board.specs.inner.Mending.{CanUpdateTo, OtherTablesStay, Updates, triggers_in};
 ghost use Rattle.ft_board.specs.inner.Readings.{readings_on};
 ghost use Rattle.ft_board.specs.inner.Views.{CanBeMended, EndsAs, made_in};
 
@@ -24,8 +23,8 @@ use ft_base::Content;
 use ft_changes::ReadingChange;
 use ft_fields::Pos;
 use ft_hist::{Trigger, Work};
-use ft_kept::{Changes, Tables};
-use ft_made::{KeptReadings, made_table, update_made};
+use ft_kept::{Changes, Log, Tables};
+use ft_made::{Counting, KeptReadings};
 use ft_maps::{entries, put};
 use ft_replay::Pair;
 use ft_table::Table;
@@ -59,12 +58,11 @@ impl Views {
             × (MakeNone content.now.triggers ⊎ CountNone content.now.triggers)) }
         ensures unasked { MakesNothing content.now.triggers → result.readings ≡ None }
     {
-        let changes = Changes::unasked();
+        let mut changes = Changes::unasked();
         if are_made(content.triggers()) {
-            changes.with_readings(self.alloc)
-        } else {
-            changes
+            changes.readings = Log::new(self.alloc);
         }
+        changes
     }
 
     /// Mends the tables of made events after a repair of the shelves, by what the repair reported of
@@ -83,24 +81,21 @@ impl Views {
             → (self.new.shelves ≡ self.old.shelves) × (self.new.work ≡ self.old.work) }
     {
         if self.shelves.is_none() {
-            self.made = BTreeMap::new(self.alloc);
-            return Kept::Later;
+            return self.give_up();
         }
         if !are_made(content.triggers()) {
-            return self.kept_state();
+            return Kept::Now;
         }
-        let Some(changes) = changes.readings() else {
+        let Some(changes) = changes.readings.items() else {
             return self.give_up();
         };
         if changes.is_empty() {
-            return self.kept_state();
+            return Kept::Now;
         }
-        let alloc = self.alloc;
-        let basis = Basis::Changes(changes);
         let mending = Mending {
-            alloc,
+            alloc: self.alloc,
             content,
-            basis,
+            basis: Basis::Changes(changes),
         };
         match mending.update_all(&mut self.made, &mut self.work) {
             Ok(()) => Kept::Now,
@@ -125,29 +120,32 @@ impl Mending<'_, '_> {
         ensures grow { StepsGrow work.old work.new }
     {
         for (id, trigger) in self.content.triggers().iter() {
-            if trigger.counts_made() {
-                self.update_kept(made, *id, trigger, work)?;
-            }
+            self.update_counted(made, *id, trigger, work)?;
         }
         Ok(())
     }
 
-    /// Brings the table that is kept of a trigger up to date; if none is kept, that is one without
-    /// hits. Refused for memory.
-    pub(crate) fn update_kept(
+    /// Brings the table that is kept of a trigger up to date, if it counts made events; if none is
+    /// kept, that is one without hits. Refused for memory.
+    pub(crate) fn update_counted(
         &self,
         made: &mut BTreeMap<u32, Table>,
         id: u32,
         trigger: &Trigger,
         work: &mut Work,
     ) -> Result<(), AllocError>
-        requires { CanUpdateTo self.now trigger.now (made_on (seen nat_cmp made.old) id trigger.now) }
-        ensures updated { OnOk result (Updates self.now trigger.now
+        requires { counts_made trigger.now ≡ true
+            → CanUpdateTo self.now trigger.now (made_on (seen nat_cmp made.old) id trigger.now) }
+        ensures updated { counts_made trigger.now ≡ true → OnOk result (Updates self.now trigger.now
             (made_on (seen nat_cmp made.old) id trigger.now)
             (made_on (seen nat_cmp made.new) id trigger.now)) }
         ensures others { OnOk result (OtherTablesStay id (seen nat_cmp made.old) (seen nat_cmp made.new)) }
+        ensures idle { counts_made trigger.now ≡ false → (result ≡ Ok tt) × (work.new ≡ work.old) }
         ensures grow { StepsGrow work.old work.new }
     {
+        if !trigger.counts_made() {
+            return Ok(());
+        }
         match made.get_mut(&id) {
             Some(table) => self.update(table, trigger, work),
             None => {
@@ -170,12 +168,16 @@ impl Mending<'_, '_> {
         ensures grow { StepsGrow work.old work.new }
     {
         let (lanes, triggers) = (self.content.lanes(), self.content.triggers());
+        let counting = Counting {
+            lanes,
+            triggers,
+            trigger,
+        };
         match self.basis {
-            Basis::Changes(changes) => update_made(table, lanes, triggers, trigger, changes, work),
+            Basis::Changes(changes) => counting.update_made(table, changes, work),
             Basis::Shelves(tables) => {
-                let alloc = self.alloc;
-                let readings = ShelfReadings { alloc, tables };
-                *table = made_table(alloc, lanes, triggers, &readings, trigger, work)?;
+                let readings = ShelfReadings { tables };
+                *table = counting.made_table(self.alloc, &readings, work)?;
                 Ok(())
             }
         }
@@ -185,7 +187,6 @@ impl Mending<'_, '_> {
 /// The readings that tables keep.
 #[derive(Drop)]
 pub(crate) struct ShelfReadings<'a> {
-    pub(crate) alloc: Global,
     pub(crate) tables: &'a Tables,
 }
 
@@ -196,8 +197,8 @@ impl KeptReadings for ShelfReadings<'_> {
 
     fn pairs_by(&self, id: u32) -> Result<Vec<Pair>, AllocError> {
         match self.tables.shelf(id) {
-            Some(shelf) => pairs_of(self.alloc, shelf.readings()),
-            None => Ok(Vec::new(self.alloc)),
+            Some(shelf) => pairs_of(self.tables.alloc(), shelf.readings()),
+            None => Ok(Vec::new(self.tables.alloc())),
         }
     }
 }

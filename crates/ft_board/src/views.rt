@@ -1,23 +1,26 @@
 //! What is kept of a base, so that no answer replays its events.
 
-ghost use Rattle.std.specs.Prelude.{◌≡◌, false, None, IfSome};
+ghost use Rattle.std.specs.Prelude.{◌≡◌, false, None, Some, IfErr, IfOk, IfSome, IsSome, OnErr, OnOk};
 ghost use Rattle.std.specs.FinMap as map;
 ghost use Rattle.std.specs.Option.{is_none};
+ghost use Rattle.ft_hist.specs.Hist.{Hist};
 ghost use Rattle.ft_hist.specs.Steps.{StepsGrow};
 ghost use Rattle.ft_answers.specs.Counting.{MakesNothing};
 ghost use Rattle.ft_answers.specs.Edited.{kept_of};
 ghost use Rattle.ft_base.specs.Base.{Base, empty_base};
+ghost use Rattle.ft_base.specs.declared.refused.Refused.TheVariants.{Memory};
 ghost use Rattle.ft_repair.specs.KeptShelves.{AreKeptOf};
 ghost use Rattle.ft_board.specs.Makers.{LeavesMade};
-ghost use Rattle.ft_board.specs.inner.Views.{AreFresh, AreMadeBut, AwaitTrigger, EndsAs, made_in};
+ghost use Rattle.ft_board.specs.inner.Told.{ShelfTells};
+ghost use Rattle.ft_board.specs.inner.Views.{AreFresh, AwaitTrigger, EndsAs, made_in};
 
-use crate::making::{are_made, bears_on_makers, counts_made};
+use crate::making::{are_made, bears_on_makers};
 use crate::mend::{Basis, Mending};
 use ft_answers::Kept;
-use ft_base::Content;
+use ft_base::{Content, Refused};
 use ft_hist::Work;
-use ft_kept::Tables;
-use ft_repair::{kept_shelves, renew, restore};
+use ft_kept::{Shelf, Tables};
+use ft_repair::{kept_shelves, rebuilt};
 use ft_table::Table;
 use std::alloc::Global;
 use std::collections::BTreeMap;
@@ -48,44 +51,36 @@ impl Views {
         }
     }
 
-    /// Whether there are shelves.
-    pub(crate) fn kept_state(&self) -> Kept
-        ensures { result ≡ kept_of (is_none self.now.shelves) }
-    {
-        match self.shelves {
-            Some(_) => Kept::Now,
-            None => Kept::Later,
-        }
-    }
-
     /// Builds all anew if there are shelves, and returns whether there are some then. What was kept is
     /// dropped first, so that its memory is free.
     pub(crate) fn rebuild(&mut self, content: &Content) -> Kept
         ensures fresh { AreFresh content.now self.new }
         ensures ends { EndsAs result self.old self.new }
     {
-        self.made = BTreeMap::new(self.alloc);
-        renew(&mut self.shelves, self.alloc, content, &mut self.work);
-        self.remake(content)
+        let had = self.shelves.is_some();
+        let kept = self.give_up();
+        if had { self.catch_up(content) } else { kept }
     }
 
-    /// Builds all anew if there are no shelves.
-    pub(crate) fn catch_up(&mut self, content: &Content)
+    /// Builds all anew if there are no shelves, and returns whether there are some then.
+    pub(crate) fn catch_up(&mut self, content: &Content) -> Kept
         requires { AreFresh content.now self.old }
         ensures fresh { AreFresh content.now self.new }
-        ensures now { self.new.shelves ≡ None → self.old.shelves ≡ None }
+        ensures kept { result ≡ kept_of (is_none self.new.shelves) }
+        ensures now { self.new.shelves ≡ None
+            → (self.old.shelves ≡ None) × (made_in self.new ≡ map.empty) }
         ensures none { is_none self.old.shelves ≡ false → self.new.work ≡ self.old.work }
         ensures grow { StepsGrow self.old.work self.new.work }
     {
         if self.shelves.is_none() {
-            // A refused edit may have left tables of made events.
-            self.made = BTreeMap::new(self.alloc);
-            restore(&mut self.shelves, self.alloc, content, &mut self.work);
-            self.remake(content);
+            self.shelves = rebuilt(self.alloc, content, &mut self.work).ok();
+            return self.remake(content);
         }
+        Kept::Now
     }
 
-    /// Gives up all that is kept, including the tables of made events.
+    /// Gives up all that is kept, also the tables of made events, so that what is built anew finds
+    /// their memory.
     pub(crate) fn give_up(&mut self) -> Kept
         ensures shelves { self.new.shelves ≡ None }
         ensures made { made_in self.new ≡ map.empty }
@@ -115,12 +110,10 @@ impl Views {
         if !are_made(content.triggers()) {
             return Kept::Now;
         }
-        let alloc = self.alloc;
-        let basis = Basis::Shelves(tables);
         let making = Mending {
-            alloc,
+            alloc: self.alloc,
             content,
-            basis,
+            basis: Basis::Shelves(tables),
         };
         match making.update_all(&mut self.made, &mut self.work) {
             Ok(()) => Kept::Now,
@@ -141,62 +134,47 @@ impl Views {
         ensures apart { LeavesMade content.now.triggers id
             → (self.new.shelves ≡ self.old.shelves) × (self.new.work ≡ self.old.work) }
     {
-        let triggers = content.triggers();
-        if bears_on_makers(triggers, id) {
-            return self.remake(content);
-        }
-        if counts_made(triggers, id) {
-            return self.remake_table(id, content);
-        }
-        self.settle()
-    }
-
-    /// Makes one trigger's table of made events anew while the others' are right, and returns whether
-    /// there are shelves then. If memory runs out, they are given up too. If no made event is counted,
-    /// it takes no step.
-    fn remake_table(&mut self, id: u32, content: &Content) -> Kept
-        requires kept { IfSome self.old.shelves (AreKeptOf content.now) }
-        requires made { IfSome self.old.shelves (λ _. AreMadeBut id content.now
-            (made_in self.old)) }
-        ensures fresh { AreFresh content.now self.new }
-        ensures ends { EndsAs result self.old self.new }
-        ensures nothing { MakesNothing content.now.triggers → self.new.work ≡ self.old.work }
-    {
         kept_shelves();
         let triggers = content.triggers();
         if !are_made(triggers) {
             return self.remake(content);
         }
-        let Some(trigger) = triggers.get(id) else {
+        if bears_on_makers(triggers, id) {
             return self.remake(content);
-        };
+        }
         let Some(tables) = &self.shelves else {
             return self.give_up();
         };
-        let alloc = self.alloc;
-        let basis = Basis::Shelves(tables);
         let making = Mending {
-            alloc,
+            alloc: self.alloc,
             content,
-            basis,
+            basis: Basis::Shelves(tables),
         };
-        match making.update_kept(&mut self.made, id, trigger, &mut self.work) {
-            Ok(()) => Kept::Now,
-            Err(_) => self.give_up(),
+        match triggers.get(id) {
+            Some(trigger) => {
+                match making.update_counted(&mut self.made, id, trigger, &mut self.work) {
+                    Ok(()) => Kept::Now,
+                    Err(_) => self.give_up(),
+                }
+            }
+            None => Kept::Now,
         }
     }
 
-    /// Leaves the tables of made events as they are, or gives them up if there are no shelves. Returns
-    /// whether there are some.
-    pub(crate) fn settle(&mut self) -> Kept
-        ensures fresh { (base : Base) → AreFresh base self.old → AreFresh base self.new }
-        ensures ends { EndsAs result self.old self.new }
-        ensures same { (self.new.shelves ≡ self.old.shelves) × (self.new.work ≡ self.old.work) }
-        ensures made { IfSome self.new.shelves (λ _. made_in self.new ≡ made_in self.old) }
+    /// What is kept of the attached trigger with an id. Refused for memory if there are no shelves.
+    pub(crate) fn shelf(&self, id: u32) -> Result<&Shelf, Refused>
+        ensures tells { (base : Base) (hist : Hist) → AreFresh base self.now
+            → map.get base.triggers id ≡ Some hist
+            → IfOk result (λ shelf. ShelfTells base id hist shelf.now) }
+        ensures there { OnOk result (IsSome self.now.shelves) }
+        ensures memory { IfErr result (λ refused. refused ≡ Memory) }
+        ensures none { (base : Base) (hist : Hist) → AreFresh base self.now
+            → map.get base.triggers id ≡ Some hist → OnErr result (self.now.shelves ≡ None) }
     {
-        match self.kept_state() {
-            Kept::Now => Kept::Now,
-            Kept::Later => self.give_up(),
-        }
+        kept_shelves();
+        ft_made::made_counters();
+        let tables = self.shelves.as_ref().ok_or(Refused::Memory)?;
+        // Each attached trigger has a shelf.
+        tables.shelf(id).ok_or(Refused::Memory)
     }
 }

@@ -1,2 +1,2 @@
 pub mod Bare
-mod Placing
+mod Indexing

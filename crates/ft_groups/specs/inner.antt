@@ -1,5 +1,5 @@
--- Words of private functions: what an event makes of groups, where keys stand, which triggers ask for numbers alone, and which numbers were met.
+-- Words of private functions: what an event makes of groups, where keys stand, which triggers read only numbers, and which numbers were met.
 pub mod Adding
-pub mod Asks
-pub mod Met
-pub mod Sorted
+pub mod Finding
+pub mod Recent
+pub mod Runs

@@ -8,13 +8,13 @@ ghost use Rattle.ft_store.specs.Stored.{held};
 ghost use Rattle.ft_groups.specs.Codes.{grouped_code};
 ghost use Rattle.ft_groups.specs.Grouped.{Grouped, referenced_events, run_of, AreGrouped};
 ghost use Rattle.ft_groups.specs.inner.Adding.{Adds};
-ghost use Rattle.ft_groups.specs.inner.Asks.{IsAskedRight};
-ghost use Rattle.ft_groups.specs.inner.Met.{AreMet};
-ghost use Rattle.ft_groups.specs.inner.Sorted.{IsSorted, groups_of};
+ghost use Rattle.ft_groups.specs.inner.Finding.{FindsKeys};
+ghost use Rattle.ft_groups.specs.inner.Recent.{AreMet};
+ghost use Rattle.ft_groups.specs.inner.Runs.{AreByKey, groups_of};
 
-use crate::keys::Asks;
-use crate::met::Met;
-use crate::sorted::Sorted;
+use crate::keys::KeyFinder;
+use crate::recent::Recent;
+use crate::runs::Runs;
 use ft_fields::Pos;
 use ft_hist::{Key, Trigger, Work};
 use ft_store::Stored;
@@ -26,7 +26,7 @@ use std::marker::Model;
 /// Contracts see the list of the keys, and the lists of events by key.
 #[derive(Drop)]
 pub struct Groups<'a> {
-    sorted: Sorted<'a>,
+    runs: Runs<'a>,
 }
 
 impl<'a> Model for Groups<'a> {
@@ -34,9 +34,9 @@ impl<'a> Model for Groups<'a> {
 
     ghost coded = { grouped_code };
 
-    ghost view = { λ g. groups_of g.sorted };
+    ghost view = { λ g. groups_of g.runs };
 
-    ghost invariant = { λ g. IsSorted g.sorted };
+    ghost invariant = { λ g. AreByKey g.runs };
 }
 
 impl<'a> Groups<'a> {
@@ -44,19 +44,19 @@ impl<'a> Groups<'a> {
     pub fn keys(&self) -> &[Key]
         ensures { result.now ≡ self.now.keys }
     {
-        &self.sorted.keys
+        &self.runs.keys
     }
 
     /// References to the events of a key with their places, in order.
     pub fn run(&self, key: &Key) -> &[&'a (Pos, Stored<'a>)]
         ensures { referenced_events result.now ≡ run_of self.now key.now }
     {
-        self.sorted.run(key)
+        self.runs.run(key)
     }
 }
 
-/// Groups events by the key under which a trigger counts them. Tests those on the trigger's name
-/// alone; where one number tells the key, not those of a number that was met before. Refused for memory.
+/// Groups events by the key under which a trigger counts them. Tests only those on the trigger's
+/// name; if one number tells the key, not those of a number that was met lately. Refused for memory.
 pub fn grouped<'a>(
     alloc: Global,
     trigger: &Trigger,
@@ -68,43 +68,43 @@ pub fn grouped<'a>(
     ensures puts { work.new.puts ≡ work.old.puts }
     ensures grow { StepsGrow work.old work.new }
 {
-    let asks = Asks::of(trigger);
-    let mut sorted = Sorted::new(alloc, events.len())?;
-    let mut met = Met::new(alloc, events.len())?;
+    let finder = KeyFinder::of(trigger);
+    let mut runs = Runs::new(alloc, events.len())?;
+    let mut met = Recent::new(alloc, events.len())?;
     for event in events {
-        event_comes(&mut sorted, &mut met, &asks, event, work)?;
+        add_event(&mut runs, &mut met, &finder, event, work)?;
     }
-    Ok(Groups { sorted })
+    Ok(Groups { runs })
 }
 
 /// Adds an event to the run of the key that a trigger counts it under, if it counts it. Refused for
 /// memory.
-fn event_comes<'a>(
-    sorted: &mut Sorted<'a>,
-    met: &mut Met,
-    asks: &Asks<'_>,
+fn add_event<'a>(
+    runs: &mut Runs<'a>,
+    met: &mut Recent,
+    finder: &KeyFinder<'_>,
     event: &'a (Pos, Stored<'a>),
     work: &mut Work,
 ) -> Result<(), AllocError>
-    requires placed { IsSorted sorted.old }
-    requires met { AreMet asks.now sorted.old.keys.items met.old.slots.items }
-    requires asks { IsAskedRight asks.now }
-    ensures placed { OnOk result (IsSorted sorted.new) }
-    ensures met { OnOk result (AreMet asks.now sorted.new.keys.items met.new.slots.items) }
-    ensures adds { OnOk result (Adds (hit asks.now.trigger.now (held event.now.1))
-        (event.now.0, held event.now.1) (groups_of sorted.old) (groups_of sorted.new)) }
+    requires by_key { AreByKey runs.old }
+    requires met { AreMet finder.now runs.old.keys.items met.old.slots.items }
+    requires finds { FindsKeys finder.now }
+    ensures by_key { OnOk result (AreByKey runs.new) }
+    ensures met { OnOk result (AreMet finder.now runs.new.keys.items met.new.slots.items) }
+    ensures adds { OnOk result (Adds (hit finder.now.trigger.now (held event.now.1))
+        (event.now.0, held event.now.1) (groups_of runs.old) (groups_of runs.new)) }
     ensures evals { work.new.evals ≤ work.old.evals + 1 }
     ensures puts { work.new.puts ≡ work.old.puts }
     ensures grow { work.old.evals ≤ work.new.evals }
 {
-    let number = asks.number(&event.1);
-    if let Some(place) = met.get(number) {
-        return sorted.push(place, event);
+    let number = finder.number(&event.1);
+    if let Some(index) = met.get(number) {
+        return runs.push(index, event);
     }
-    let Some(key) = asks.key_of(&event.1, work) else {
+    let Some(key) = finder.key_of(&event.1, work) else {
         return Ok(());
     };
-    let place = sorted.add(key, event)?;
-    met.note(number, place);
+    let index = runs.add(key, event)?;
+    met.note(number, index);
     Ok(())
 }

@@ -4,49 +4,48 @@ ghost use Rattle.std.specs.Prelude.{◌≡◌, ◌+◌, ◌≤◌};
 ghost use Rattle.std.specs.List.{list_any};
 ghost use Rattle.ft_hist.specs.Hit.{hit};
 ghost use Rattle.ft_store.specs.Stored.{held};
-ghost use Rattle.ft_groups.specs.inner.Asks.{IsAskedRight, asks_text, counted_by};
+ghost use Rattle.ft_groups.specs.inner.Finding.{FindsKeys, is_text_item, counted_by};
 
 use ft_fields::Field;
 use ft_hist::{Key, KeyItem, Trigger, Work};
 use ft_store::Stored;
 
-/// A trigger, and what it asks events for.
+/// A trigger, and what of an event it reads to find its key.
 #[derive(Clone, Copy)]
-pub(crate) struct Asks<'a> {
+pub(crate) struct KeyFinder<'a> {
     trigger: &'a Trigger,
-    /// Whether it asks for numbers alone.
+    /// Whether it reads numbers only.
     bare: bool,
-    /// The field whose number alone tells the key of an event, if one does.
+    /// The field whose number tells the key of an event, if one does.
     field: Option<Field>,
 }
 
-impl<'a> Asks<'a> {
-    /// A trigger, with what it asks events for.
-    pub(crate) fn of(trigger: &'a Trigger) -> Asks<'a>
+impl<'a> KeyFinder<'a> {
+    /// A trigger, with what it reads.
+    pub(crate) fn of(trigger: &'a Trigger) -> KeyFinder<'a>
         ensures trigger { result.trigger.now ≡ trigger.now }
-        ensures asks { IsAskedRight result }
+        ensures finds { FindsKeys result }
     {
         let keys = trigger.keys();
-        let mut asks = Asks {
+        let mut finder = KeyFinder {
             trigger,
             bare: false,
             field: None,
         };
         if trigger.filter().is_some() || has_text(keys) {
-            return asks;
+            return finder;
         }
-        asks.bare = true;
+        finder.bare = true;
         match keys.first() {
-            Some(key) if keys.len() == 1 => Asks {
+            Some(key) if keys.len() == 1 => KeyFinder {
                 field: Some(key.field),
-                ..asks
+                ..finder
             },
-            _ => asks,
+            _ => finder,
         }
     }
 
-    /// The number that alone tells the key of an event, if one does and the trigger is on the
-    /// event's name.
+    /// The number that tells the key of an event, if one does and the trigger is on the event's name.
     pub(crate) fn number(&self, stored: &Stored<'_>) -> Option<i64>
         ensures { result ≡ counted_by self.now (held stored.now) }
     {
@@ -60,7 +59,7 @@ impl<'a> Asks<'a> {
     /// The key that the trigger counts an event under, if the event is a hit of it. Tests the event
     /// if the trigger is on its name.
     pub(crate) fn key_of(&self, stored: &Stored<'_>, work: &mut Work) -> Option<Key>
-        requires { IsAskedRight self.now }
+        requires { FindsKeys self.now }
         ensures key { result ≡ hit self.now.trigger.now (held stored.now) }
         ensures evals { work.new.evals ≤ work.old.evals + 1 }
         ensures grow { work.old.evals ≤ work.new.evals }
@@ -79,7 +78,7 @@ impl<'a> Asks<'a> {
 
 /// Whether one of these key items is of a field that holds a text.
 fn has_text(keys: &[KeyItem]) -> bool
-    ensures { result ≡ list_any asks_text keys.now }
+    ensures { result ≡ list_any is_text_item keys.now }
 {
     keys.iter().any(|key| key.field.is_text())
 }

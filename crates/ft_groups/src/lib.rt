@@ -14,19 +14,15 @@
 //!
 //! # Contracts
 //!
-//! - `grouped`, `Groups::keys`, `Groups::run`: of a list of events those that the trigger counts
-//!   under a key, in the order of the list, for each key under which it counts any; each such key
-//!   once (`specs/Grouped.antt`). At most as many ticks of `evals` as there are events. Lets
-//!   through: running out of memory at any time; the order of the keys, which is that of their
-//!   first events; tests that are not counted. The source looks up the key of an event, uncounted,
-//!   where one number tells it and was met before, and tests each other event on the trigger's name
-//!   once.
+//! Each key under which the trigger counts an event comes once, with its events in the order of the
+//! list (`specs/Grouped.antt`). Lets through: running out of memory at any time; the order of the
+//! keys, which is that of their first events; fewer tests than there are events, since the key of a
+//! number that was met before is looked up.
 #![tactic(auto)]
 
 mod groups;
-mod hints;
 mod keys;
-mod met;
-mod sorted;
+mod recent;
+mod runs;
 
 pub use groups::{Groups, grouped};

@@ -4,9 +4,9 @@ use Rattle.std.specs.Prelude.{◌&&◌, ◌⊎◌, option_and_then, option_map, 
 use Rattle.std.specs.Ordering.{nat_cmp, eq_by_cmp}
 use Rattle.std.specs.FinMap as map
 use Rattle.std.specs.FinMap.{get-empty, nat_cmp-IsAntisymmetric}
-use Rattle.std.specs.Cmp.{nat_cmp_total, tied_then}
+use Rattle.std.specs.Cmp.{nat_cmp_total}
 use Rattle.ft_fields.specs.Traced.{Traced}
-use Rattle.ft_fields.specs.Parts.{key_cmp, same_key}
+use Rattle.ft_fields.specs.Parts.{same_key}
 use Rattle.ft_fields.specs.Ties.{key_same}
 use Rattle.ft_fields.specs.declared.key.Part.{Part}
 use Rattle.ft_fields.specs.declared.pos.Pos.{Pos}
@@ -17,7 +17,7 @@ use Rattle.ft_hits.specs.declared.mark.Mark.{Mark}
 use Rattle.ft_maps.specs.Entries.{same_from_tie}
 use Rattle.ft_maps.proofs.Common.{cond_same, and_false}
 use Rattle.ft_pairs.specs.Roles.{Admits, op_as}
-use Rattle.ft_pairs.specs.Variables.{variable_cmp}
+use Rattle.ft_pairs.specs.Variables.{variable_cmp, variable_cmp_total, variable_same}
 use Rattle.ft_pairs.specs.declared.at.At.{At}
 use Rattle.ft_pairs.specs.declared.at.Op.{Op}
 use Rattle.ft_pairs.specs.declared.at.Op.TheVariants.{Save, Read}
@@ -32,15 +32,16 @@ use Rattle.ft_kept.specs.AtOnce.{AllCome, IsBare}
 use Rattle.ft_kept.specs.Entries.{HitsHere, IsCounted, IsEntry, IsKept, IsReading, IsRight, hits_here, one_hit, read_here}
 use Rattle.ft_shelves.specs.Joining.{AreGroupsOf, HasGroups, ReadBy, acts_with, event_in, HasJoined, OpsJoin, save_in, unread, HasRead, read_from, reading_in, what_read}
 use Rattle.ft_shelves.specs.Shelves.{FormsStay, MadeStay, Shelved, Shelves, admits_on, kept_on, role_on, is_saver, ChangesShelf}
-use Rattle.ft_shelves.proofs.Decided.{decided, untied, itself, none_not_some}
-use Rattle.ft_shelves.proofs.Listed.{event_of, under, flat}
-use Rattle.ft_kept.proofs.Forms.{edited, hits_by, admits_by, by_id, ops_by, read_by, role_at, same_admits, same_hits, same_ops, same_read, changed_forms, forms_trans, shelf_stays, tells_here, tells_same}
-use Rattle.ft_kept.proofs.Staleness.{entry_same, op_absent, op_read}
-use Rattle.ft_kept.proofs.Putting.{values_there, absent_read}
+use Rattle.ft_shelves.proofs.Decided.{decided, untied, itself, none_not_some, variable_decided}
+use Rattle.ft_shelves.proofs.Listed.{event_of, under, under_other, under_own, flat}
+use Rattle.ft_kept.proofs.Forms.{edited, hits_by, admits_by, by_id, ops_by, read_by, role_at, same_admits, same_hits, same_ops, same_read, OnlyOps, only_ops, edited_ops, forms_trans, shelf_stays, tells_here, tells_same}
+use Rattle.ft_kept.proofs.Staleness.{entry_same, op_absent, op_read, same_ops_of}
+use Rattle.ft_kept.proofs.Views.{values_there}
 use Rattle.std.specs.Option.{option_map_or}
 use Rattle.ft_pairs.specs.ByKey.{ops_of, OpsByKey}
 use Rattle.ft_table.specs.Tabled.{is_in}
 use Rattle.ft_table.specs.Hits.{Hits}
+use Rattle.ft_kept.specs.inner.Edits.{OpsStay}
 use Rattle.ft_kept.specs.inner.Joining.{HasOps}
 
 pub trigger_decided : (i j : ℕ) → (i ≡ j) ⊎ (i ≡ j → ⊥)
@@ -92,25 +93,31 @@ module _ (triggers : Triggers) (hist : Hist) (id : ℕ) (attached : map.get trig
 
 -- ---- operations
 
--- what an act does to a variable depends on its own key in its own trigger's table
-op_admits : (was now : Admits) (role : Role) (variable : Variable) (id : ℕ) (key : List Part) → now id key ≡ was id key → op_as now role variable id key ≡ op_as was role variable id key
-op_admits was now Plain variable id key alike = refl
-op_admits was now Saves variable id key alike = ap (λ b. cond (eq_by_cmp variable_cmp variable (record { saver = id; key = key })) (cond b (Some Save) None) None) alike
-op_admits was now (Reads saver) variable id key alike = refl
+-- an act that does something to the variable of its key alone does it at the event of that key
+module _ (saver : ℕ) (op : List Part → Option Op) (ops : Variable → Option Op) (act : Option (List Part × Traced))
+    (here : (key : List Part) → ops (record { saver = saver; key = key }) ≡ option_and_then (λ (event : Traced). op key) (under key act))
+    (elsewhere : (variable : Variable) → (variable.saver ≡ saver → ⊥) → ops variable ≡ None) where
+  none_of_it : (variable : Variable) → (variable.saver ≡ saver → under variable.key act ≡ None) → ops variable ≡ None
+  none_of_it variable none = elim (trigger_decided variable.saver saver) [
+    | inl own ↦ ap ops (λ i. record { saver = own i; key = variable.key }) ∙ here variable.key ∙ ap (option_and_then (λ (event : Traced). op variable.key)) (none own)
+    | inr apart ↦ elsewhere variable apart
+  ]
 
--- an act that does something to the variable of its key does it at the event of that key
-pub own_op : (saver : ℕ) (op : List Part → Option Op) (variable : Variable) (act : Option (List Part × Traced))
-    → option_and_then (λ (a : List Part × Traced). cond (eq_by_cmp variable_cmp variable (record { saver = saver; key = a.0 })) (op a.0) None) act
-    ≡ cond (eq_by_cmp nat_cmp variable.saver saver) (option_and_then (λ (event : Traced). op variable.key) (under variable.key act)) None
-own_op saver op variable None = sym (cond_same (eq_by_cmp nat_cmp variable.saver saver) None)
-own_op saver op variable (Some a) =
-    ap (λ b. cond b (op a.0) None) (sym (tied_then (nat_cmp variable.saver saver) (key_cmp variable.key a.0)))
-    ∙ by (eq_by_cmp nat_cmp variable.saver saver) (same_key variable.key a.0) refl
-  where
-    by : (b t : Bool) → same_key variable.key a.0 ≡ t → cond (b && t) (op a.0) None ≡ cond b (option_and_then (λ (event : Traced). op variable.key) (cond t (Some a.1) None)) None
-    by true true tie = ap op (sym (same_from_tie key_same variable.key a.0 tie))
-    by true false tie = refl
-    by false t tie = refl
+  pub own_op : (variable : Variable) → ops variable ≡ option_and_then (λ (a : List Part × Traced). cond (eq_by_cmp variable_cmp variable (record { saver = saver; key = a.0 })) (op a.0) None) act
+  own_op variable = by act refl
+    where
+      by : (o : Option (List Part × Traced)) → act ≡ o → ops variable ≡ option_and_then (λ (a : List Part × Traced). cond (eq_by_cmp variable_cmp variable (record { saver = saver; key = a.0 })) (op a.0) None) o
+      by None is = none_of_it variable (λ _. ap (under variable.key) is)
+      by (Some a) is = elim (variable_decided variable (record { saver = saver; key = a.0 })) [
+        | inl own ↦
+            ap ops own ∙ here a.0
+            ∙ ap (λ o. option_and_then (λ (event : Traced). op a.0) (under a.0 o)) is
+            ∙ ap (option_and_then (λ (event : Traced). op a.0)) (under_own a)
+            ∙ sym (ap (λ (v : Variable). cond (eq_by_cmp variable_cmp v (record { saver = saver; key = a.0 })) (op a.0) None) own ∙ ap (λ b. cond b (op a.0) None) (itself variable_cmp_total (record { saver = saver; key = a.0 })))
+        | inr apart ↦
+            none_of_it variable (λ own. ap (under variable.key) is ∙ under_other variable.key a (λ same. apart (λ i. record { saver = own i; key = same i })))
+            ∙ sym (ap (λ b. cond b (op a.0) None) (untied variable_cmp_total variable_same variable (record { saver = saver; key = a.0 }) apart))
+      ]
 
 -- ---- all acts
 
@@ -159,21 +166,12 @@ module _ (triggers : Triggers) (hist : Hist) (id : ℕ) (attached : map.get trig
     unfolding op_of
     op_own variable pos = there.ops variable pos ∙ ap (option_and_then (λ (a : List Part × Traced). op_as (admits_on new) (role_on old id) variable id a.0)) (sym (come.here pos))
 
-    op_other : (variable : Variable) (q : At) → (q.trigger ≡ id → ⊥) → op_of (role_on old) (admits_on old) before variable q ≡ op_of (role_on old) (admits_on new) after variable q
-    unfolding op_of
-    op_other variable q apart =
-        sym (ap (option_and_then (λ act. op_as (admits_on new) (role_on old q.trigger) variable q.trigger act.0)) (come.elsewhere q apart)
-        ∙ elim (before q) as (λ o. option_and_then (λ act. op_as (admits_on new) (role_on old q.trigger) variable q.trigger act.0) o ≡ option_and_then (λ act. op_as (admits_on old) (role_on old q.trigger) variable q.trigger act.0) o) [
-          | None ↦ refl
-          | Some a ↦ op_admits (admits_on old) (admits_on new) (role_on old q.trigger) variable q.trigger a.0 (there.other_admits q.trigger apart a.0)
-        ])
-
     -- so all that is kept is right
     pub all_right : IsKept (role_on old) (values_by triggers) (admits_on new) after (kept_on new)
     all_right = record {
       ops = λ variable q. elim (trigger_decided q.trigger id) [
         | inl is ↦ subst (λ (p : At). (kept_on new).ops variable p ≡ op_of (role_on old) (admits_on new) after variable p) (λ i. record { pos = q.pos; trigger = sym is i }) (op_own variable q.pos)
-        | inr apart ↦ there.other_ops variable q apart ∙ kept.ops variable q ∙ op_other variable q apart
+        | inr apart ↦ there.other_ops variable q apart ∙ kept.ops variable q ∙ sym (same_ops_of (role_on old) (admits_on old) (admits_on new) before after variable q (there.other_admits q.trigger apart) (come.elsewhere q apart))
       ];
       entries = λ q. elim (trigger_decided q.trigger id) [
         | inl is ↦ subst (IsRight (role_on old) (values_by triggers) after (kept_on new)) (λ i. record { pos = q.pos; trigger = sym is i }) (own_right q.pos)
@@ -187,15 +185,15 @@ module _ (old new : Shelves) (id : ℕ) (shelf after : Shelved) (was : map.get o
     (others : (i : ℕ) → (i ≡ id → ⊥) → map.get new i ≡ map.get old i)
     (hist : Hist) (groups : Grouped) (read : ReadBy) (table : HasGroups hist groups read shelf.table after.table) where
   made_stays : shelf.table.hits ≡ map.empty → MadeStay shelf.table.hits after.table.hits
-  made_stays bare m made =
+  made_stays empty m made =
       table.hits m
       ∙ ap (λ b. cond b (option_and_then (λ event. option_map (values_at hist m.spot.pos event) (read m.key m.spot.pos)) (event_in groups m.key m.spot.pos)) None)
       (untied nat_cmp_total nat_cmp-IsAntisymmetric m.spot.maker 0 made)
-      ∙ sym (ap (λ hits. map.get hits m) bare ∙ get-empty _ m)
+      ∙ sym (ap (λ hits. map.get hits m) empty ∙ get-empty _ m)
 
   -- it keeps its form, as no hit of an event that a trigger made comes
   pub joined_forms : after.role ≡ shelf.role → shelf.table.hits ≡ map.empty → FormsStay old new
-  joined_forms role bare = edited old new id shelf after was is others (record { role = role; size = table.size; made = made_stays bare })
+  joined_forms role empty = edited old new id shelf after was is others (record { role = role; size = table.size; made = made_stays empty })
 
   -- its hits at a place
   pub joined_hits : (pos : Pos) (key : List Part) → hits_here (kept_on new) (record { pos = pos; trigger = id }) key ≡ option_and_then (λ event. option_map (values_at hist pos event) (read key pos)) (event_in groups key pos)
@@ -231,7 +229,8 @@ module _ (triggers : Triggers) (hist : Hist) (id : ℕ) (attached : map.get trig
       read_by new id (Some after) is pos
       ∙ ap (λ r. map.get r pos) joined.readings
       ∙ sym (read_by old id (Some shelf) was pos)
-      ∙ absent_read (role_on old) (values_by triggers) (admits_on old) before (kept_on old) kept (own_at id pos) (come.absent pos)
+      ∙ (subst (λ o. IsEntry (values_by triggers) (kept_on old).ops (own_at id pos) (role_on old id) o (hits_here (kept_on old) (own_at id pos)) (read_here (kept_on old) (own_at id pos)))
+      (come.absent pos) (kept.entries (own_at id pos))).0
 
   module _ (no_reader : (role_on old id ≡ Plain) ⊎ (role_on old id ≡ Saves))
       (ops : (variable : Variable) (pos : Pos) → (kept_on new).ops variable (own_at id pos) ≡ option_and_then (λ (a : List Part × Traced). op_as (admits_on new) (role_on old id) variable id a.0) (acts_with hist of.events pos))
@@ -254,12 +253,8 @@ module _ (triggers : Triggers) (hist : Hist) (id : ℕ) (attached : map.get trig
   -- without a variable
 
   module _ (plain : role_on old id ≡ Plain) where
-    ops_stay : (variable : Variable) (q : At) → (kept_on new).ops variable q ≡ (kept_on old).ops variable q
-    ops_stay variable q = by_id (λ i. (kept_on new).ops (record { saver = i; key = variable.key }) q ≡ (kept_on old).ops (record { saver = i; key = variable.key }) q) id
-        (ops_by new id (Some after) is variable.key q
-        ∙ ap (λ o. ops_of o variable.key q) (subst (λ r. OpsJoin r id groups after.table shelf.ops after.ops) (sym (role_at old id (Some shelf) was) ∙ plain) joined.ops)
-        ∙ sym (ops_by old id (Some shelf) was variable.key q))
-        (λ i apart. foreign_ops (record { saver = i; key = variable.key }) q apart) variable.saver
+    ops_stay : OpsStay (kept_on old) (kept_on new)
+    ops_stay = edited_ops old new id shelf after was is others (subst (λ r. OpsJoin r id groups after.table shelf.ops after.ops) (sym (role_at old id (Some shelf) was) ∙ plain) joined.ops)
 
     nothing_done : (role : Role) (variable : Variable) (act : Option (List Part × Traced)) → role ≡ Plain → None ≡ option_and_then (λ (a : List Part × Traced). op_as (admits_on new) role variable id a.0) act
     nothing_done role variable None none = refl
@@ -289,20 +284,14 @@ module _ (triggers : Triggers) (hist : Hist) (id : ℕ) (attached : map.get trig
     saves_are key true (Some e) admits = sym (ap (λ x. cond x (Some Save) None) admits)
     saves_are key false (Some e) admits = sym (ap (λ x. cond x (Some Save) None) admits)
 
-    own_saves : (variable : Variable) (pos : Pos) → (kept_on new).ops variable (own_at id pos)
-        ≡ cond (eq_by_cmp nat_cmp variable.saver id) (option_and_then (λ (event : Traced). cond (admits_on new id variable.key) (Some Save) None) (under variable.key (acts_with hist of.events pos))) None
-    own_saves variable pos = by_id (λ i. (kept_on new).ops (record { saver = i; key = variable.key }) (own_at id pos)
-        ≡ cond (eq_by_cmp nat_cmp i id) (option_and_then (λ (event : Traced). cond (admits_on new id variable.key) (Some Save) None) (under variable.key (acts_with hist of.events pos))) None) id
-        (saved variable.key (own_at id pos)
-        ∙ ap (λ b. cond (is_in after.table variable.key && b) (option_and_then (λ (event : Traced). Some Save) (event_in groups variable.key pos)) None) (itself nat_cmp_total id)
-        ∙ saves_are variable.key (is_in after.table variable.key) (event_in groups variable.key pos) (admitted variable.key)
-        ∙ ap (option_and_then (λ (event : Traced). cond (admits_on new id variable.key) (Some Save) None)) (event_of hist groups of variable.key pos)
-        ∙ sym (ap (λ b. cond b (option_and_then (λ (event : Traced). cond (admits_on new id variable.key) (Some Save) None) (under variable.key (acts_with hist of.events pos))) None) (itself nat_cmp_total id)))
-        (λ i apart.
-        foreign_ops (record { saver = i; key = variable.key }) (own_at id pos) apart
-        ∙ none_before (record { saver = i; key = variable.key }) pos
-        ∙ sym (ap (λ b. cond b (option_and_then (λ (event : Traced). cond (admits_on new id variable.key) (Some Save) None) (under variable.key (acts_with hist of.events pos))) None) (untied nat_cmp_total nat_cmp-IsAntisymmetric i id apart)))
-        variable.saver
+    own_saves : (variable : Variable) (pos : Pos) → (kept_on new).ops variable (own_at id pos) ≡ option_and_then (λ (a : List Part × Traced). op_as (admits_on new) Saves variable id a.0) (acts_with hist of.events pos)
+    own_saves variable pos = own_op id (λ key. cond (admits_on new id key) (Some Save) None) (λ v. (kept_on new).ops v (own_at id pos)) (acts_with hist of.events pos)
+        (λ key.
+        saved key (own_at id pos)
+        ∙ ap (λ b. cond (is_in after.table key && b) (option_and_then (λ (event : Traced). Some Save) (event_in groups key pos)) None) (itself nat_cmp_total id)
+        ∙ saves_are key (is_in after.table key) (event_in groups key pos) (admitted key)
+        ∙ ap (option_and_then (λ (event : Traced). cond (admits_on new id key) (Some Save) None)) (event_of hist groups of key pos))
+        (λ v apart. foreign_ops v (own_at id pos) apart ∙ none_before v pos) variable
 
     saver_others : (variable : Variable) (q : At) → (q.trigger ≡ id → ⊥) → (kept_on new).ops variable q ≡ (kept_on old).ops variable q
     saver_others variable q apart = by_id (λ i. (kept_on new).ops (record { saver = i; key = variable.key }) q ≡ (kept_on old).ops (record { saver = i; key = variable.key }) q) id
@@ -315,10 +304,7 @@ module _ (triggers : Triggers) (hist : Hist) (id : ℕ) (attached : map.get trig
     -- no other trigger reads what it saves, as no read stands there
     pub saver_kept : IsKept (role_on old) (values_by triggers) (admits_on new) acts (kept_on new)
     saver_kept = unread_kept (inr saves)
-        (λ variable pos.
-        own_saves variable pos
-        ∙ sym (ap (λ r. option_and_then (λ (a : List Part × Traced). op_as (admits_on new) r variable id a.0) (acts_with hist of.events pos)) saves
-        ∙ own_op id (λ key. cond (admits_on new id key) (Some Save) None) variable (acts_with hist of.events pos)))
+        (λ variable pos. own_saves variable pos ∙ sym (ap (λ r. option_and_then (λ (a : List Part × Traced). op_as (admits_on new) r variable id a.0) (acts_with hist of.events pos)) saves))
         saver_others
         (λ q saver a apart role acting p. elim (trigger_decided saver id) [
           | inl is_own ↦ absurd (none_not_some ((kept_on old).ops (record { saver = saver; key = a.0 }) q) Read
@@ -330,29 +316,9 @@ module _ (triggers : Triggers) (hist : Hist) (id : ℕ) (attached : map.get trig
 -- ---- a reader: its saver's operations are taken off their shelf, changed with the reader's own shelf, and put back
 
 module _ (saver : ℕ) (ops : OpsByKey) (old new : Shelves) (h : ChangesShelf saver (HasOps ops) old new) where
-  -- shelves keep their forms
-  pub swap_forms : FormsStay old new
-  swap_forms = changed_forms saver (HasOps ops) old new h (λ shelf after is change. record {
-    role = ap (λ (s : Shelved). s.role) change;
-    size = ap (λ (s : Shelved). s.table.size) change;
-    made = λ m _. ap (λ (s : Shelved). map.get s.table.hits m) change;
-  })
-
-  -- hits, readings and keys in tables stay
-  pub swap_hits : (i : ℕ) (mark : Mark) → (kept_on new).hits i mark ≡ (kept_on old).hits i mark
-  unfolding kept_on
-  swap_hits i mark = tells_same saver (HasOps ops) old new h (λ o. option_and_then (λ shelf. map.get shelf.table.hits mark) o)
-      (λ shelf after is change. ap (λ (s : Shelved). map.get s.table.hits mark) change) i
-
-  pub swap_read : (i : ℕ) (pos : Pos) → (kept_on new).read i pos ≡ (kept_on old).read i pos
-  unfolding kept_on
-  swap_read i pos = tells_same saver (HasOps ops) old new h (λ o. option_and_then (λ shelf. map.get shelf.readings pos) o)
-      (λ shelf after is change. ap (λ (s : Shelved). map.get s.readings pos) change) i
-
-  pub swap_admits : (i : ℕ) (key : List Part) → admits_on new i key ≡ admits_on old i key
-  unfolding admits_on
-  swap_admits i key = tells_same saver (HasOps ops) old new h (λ o. option_map_or (λ shelf. is_saver shelf.role && is_in shelf.table key) o false)
-      (λ shelf after is change. ap (λ (s : Shelved). is_saver s.role && is_in s.table key) change) i
+  -- only they change
+  pub swap_only : OnlyOps old new
+  swap_only = only_ops saver (HasOps ops) old new h (λ shelf after change. change ∙ (λ i. record shelf { ops = (sym change i).ops }))
 
   -- operations of others too
   pub swap_else : (variable : Variable) → (variable.saver ≡ saver → ⊥) → (q : At) → (kept_on new).ops variable q ≡ (kept_on old).ops variable q
@@ -395,11 +361,11 @@ module _ (triggers : Triggers) (hist : Hist) (id saver : ℕ) (groups : Grouped)
     (own_was : map.get lacks id ≡ Some mid) (own_is : map.get joined id ≡ Some after) (others : (i : ℕ) → (i ≡ id → ⊥) → map.get joined i ≡ map.get lacks i)
     (read : HasRead id hist groups was is mid after) (put : ChangesShelf saver (HasOps is) joined new) where
   joined_so : FormsStay old joined
-  joined_so = forms_trans old lacks joined (swap_forms saver empty old lacks took) (joined_forms lacks joined id mid after own_was own_is others hist groups (read_from read.sources) read.table read.role (swap_empty saver empty old lacks took id mid bare own_was))
+  joined_so = forms_trans old lacks joined (swap_only saver empty old lacks took).forms (joined_forms lacks joined id mid after own_was own_is others hist groups (read_from read.sources) read.table read.role (swap_empty saver empty old lacks took id mid bare own_was))
 
   -- shelves keep their forms
   pub reader_forms : FormsStay old new
-  reader_forms = forms_trans old joined new joined_so (swap_forms saver is joined new put)
+  reader_forms = forms_trans old joined new joined_so (swap_only saver is joined new put).forms
 
   here : (key : List Part) (q : At) → (kept_on new).ops (record { saver = saver; key = key }) q ≡ ops_of is key q
   here = swap_here saver is joined new put (shelf_stays old joined joined_so saver ∙ saved)
@@ -408,15 +374,13 @@ module _ (triggers : Triggers) (hist : Hist) (id saver : ℕ) (groups : Grouped)
   elsewhere : (variable : Variable) → (variable.saver ≡ saver → ⊥) → (q : At) → (kept_on new).ops variable q ≡ (kept_on old).ops variable q
   elsewhere variable apart q =
       swap_else saver is joined new put variable apart q
-      ∙ by_id (λ i. (kept_on joined).ops (record { saver = i; key = variable.key }) q ≡ (kept_on lacks).ops (record { saver = i; key = variable.key }) q) id
-      (ops_by joined id (Some after) own_is variable.key q ∙ ap (λ o. ops_of o variable.key q) read.ops ∙ sym (ops_by lacks id (Some mid) own_was variable.key q))
-      (λ i other. same_ops lacks joined i (others i other) variable.key q) variable.saver
+      ∙ edited_ops lacks joined id mid after own_was own_is others read.ops variable q
       ∙ swap_else saver empty old lacks took variable apart q
 
   module _ (attached : map.get triggers id ≡ Some hist) (of : AreGroupsOf hist groups) (before acts : Acts) (come : AllCome id (acts_with hist of.events) before acts)
       (kept : IsKept (role_on old) (values_by triggers) (admits_on old) before (kept_on old)) where
     read_now : (pos : Pos) → read_here (kept_on new) (own_at id pos) ≡ reading_in (read_from read.sources) (acts_with hist of.events) pos
-    read_now pos = swap_read saver is joined new put id pos ∙ read_by joined id (Some after) own_is pos ∙ read.readings of pos
+    read_now pos = (swap_only saver is joined new put).read id pos ∙ read_by joined id (Some after) own_is pos ∙ read.readings of pos
 
     finds : (pos : Pos) (act : Option (List Part × Traced)) → IsReading (kept_on new).ops (own_at id pos) (Reads saver) act (option_and_then (λ (a : List Part × Traced). what_read (read_from read.sources a.0 pos)) act)
     finds pos None = refl
@@ -435,23 +399,17 @@ module _ (triggers : Triggers) (hist : Hist) (id saver : ℕ) (groups : Grouped)
         ∙ sym (read_now pos ∙ ap (λ o. option_and_then (λ (x : List Part × Traced). what_read (read_from read.sources x.0 pos)) o) acting))
         ∙ sym (ap (λ r. hit_read r (read_here (kept_on new) (own_at id pos))) reads)
 
-    own_reads : (variable : Variable) (pos : Pos) → (kept_on new).ops variable (own_at id pos)
-        ≡ cond (eq_by_cmp nat_cmp variable.saver saver) (option_and_then (λ (event : Traced). Some Read) (under variable.key (acts_with hist of.events pos))) None
-    own_reads variable pos = by_id (λ i. (kept_on new).ops (record { saver = i; key = variable.key }) (own_at id pos)
-        ≡ cond (eq_by_cmp nat_cmp i saver) (option_and_then (λ (event : Traced). Some Read) (under variable.key (acts_with hist of.events pos))) None) saver
-        (here variable.key (own_at id pos)
-        ∙ read.reads variable.key (own_at id pos)
-        ∙ read_there (event_in groups variable.key pos) (eq_by_cmp nat_cmp id id) (ops_of was variable.key (own_at id pos)) (itself nat_cmp_total id) (had variable.key (own_at id pos) ∙ none_before saver)
-        ∙ ap (option_and_then (λ (event : Traced). Some Read)) (event_of hist groups of variable.key pos)
-        ∙ sym (ap (λ b. cond b (option_and_then (λ (event : Traced). Some Read) (under variable.key (acts_with hist of.events pos))) None) (itself nat_cmp_total saver)))
-        (λ i apart.
-        elsewhere (record { saver = i; key = variable.key }) apart (own_at id pos)
-        ∙ none_before i
-        ∙ sym (ap (λ b. cond b (option_and_then (λ (event : Traced). Some Read) (under variable.key (acts_with hist of.events pos))) None) (untied nat_cmp_total nat_cmp-IsAntisymmetric i saver apart)))
-        variable.saver
+    own_reads : (variable : Variable) (pos : Pos) → (kept_on new).ops variable (own_at id pos) ≡ option_and_then (λ (a : List Part × Traced). op_as (admits_on new) (Reads saver) variable id a.0) (acts_with hist of.events pos)
+    own_reads variable pos = own_op saver (λ key. Some Read) (λ v. (kept_on new).ops v (own_at id pos)) (acts_with hist of.events pos)
+        (λ key.
+        here key (own_at id pos)
+        ∙ read.reads key (own_at id pos)
+        ∙ read_there (event_in groups key pos) (eq_by_cmp nat_cmp id id) (ops_of was key (own_at id pos)) (itself nat_cmp_total id) (had key (own_at id pos) ∙ none_before (record { saver = saver; key = key }))
+        ∙ ap (option_and_then (λ (event : Traced). Some Read)) (event_of hist groups of key pos))
+        (λ v apart. elsewhere v apart (own_at id pos) ∙ none_before v) variable
       where
-        none_before : (i : ℕ) → (kept_on old).ops (record { saver = i; key = variable.key }) (own_at id pos) ≡ None
-        none_before i = kept.ops (record { saver = i; key = variable.key }) (own_at id pos) ∙ absent_own id (acts_with hist of.events) before acts come (role_on old) (admits_on old) (record { saver = i; key = variable.key }) pos
+        none_before : (v : Variable) → (kept_on old).ops v (own_at id pos) ≡ None
+        none_before v = kept.ops v (own_at id pos) ∙ absent_own id (acts_with hist of.events) before acts come (role_on old) (admits_on old) v pos
 
     reader_others : (variable : Variable) (q : At) → (q.trigger ≡ id → ⊥) → (kept_on new).ops variable q ≡ (kept_on old).ops variable q
     reader_others variable q apart = by_id (λ i. (kept_on new).ops (record { saver = i; key = variable.key }) q ≡ (kept_on old).ops (record { saver = i; key = variable.key }) q) saver
@@ -465,16 +423,13 @@ module _ (triggers : Triggers) (hist : Hist) (id saver : ℕ) (groups : Grouped)
     -- no other trigger reads what it reads
     pub reader_kept : IsKept (role_on old) (values_by triggers) (admits_on new) acts (kept_on new)
     reader_kept = all_right triggers hist id attached groups of before acts come old new kept (read_from read.sources) (record {
-      hits = λ pos key. swap_hits saver is joined new put id (record { spot = traced pos; key = key }) ∙ joined_hits lacks joined id mid after own_was own_is others hist groups (read_from read.sources) read.table pos key;
+      hits = λ pos key. (swap_only saver is joined new put).hits id (record { spot = traced pos; key = key }) ∙ joined_hits lacks joined id mid after own_was own_is others hist groups (read_from read.sources) read.table pos key;
       readings = λ pos. subst (λ (x : Role × Option Pos). IsReading (kept_on new).ops (own_at id pos) x.0 (acts_with hist of.events pos) x.1) (λ i. (sym reads i, sym (read_now pos) i)) (finds pos (acts_with hist of.events pos));
       fits = fits;
-      ops = λ variable pos.
-          own_reads variable pos
-          ∙ sym (ap (λ r. option_and_then (λ (a : List Part × Traced). op_as (admits_on new) r variable id a.0) (acts_with hist of.events pos)) reads
-          ∙ own_op saver (λ key. Some Read) variable (acts_with hist of.events pos));
-      other_hits = λ i apart mark. swap_hits saver is joined new put i mark ∙ same_hits lacks joined i (others i apart) mark ∙ swap_hits saver empty old lacks took i mark;
-      other_readings = λ i apart pos. swap_read saver is joined new put i pos ∙ same_read lacks joined i (others i apart) pos ∙ swap_read saver empty old lacks took i pos;
-      other_admits = λ i apart key. swap_admits saver is joined new put i key ∙ same_admits lacks joined i (others i apart) key ∙ swap_admits saver empty old lacks took i key;
+      ops = λ variable pos. own_reads variable pos ∙ sym (ap (λ r. option_and_then (λ (a : List Part × Traced). op_as (admits_on new) r variable id a.0) (acts_with hist of.events pos)) reads);
+      other_hits = λ i apart mark. (swap_only saver is joined new put).hits i mark ∙ same_hits lacks joined i (others i apart) mark ∙ (swap_only saver empty old lacks took).hits i mark;
+      other_readings = λ i apart pos. (swap_only saver is joined new put).read i pos ∙ same_read lacks joined i (others i apart) pos ∙ (swap_only saver empty old lacks took).read i pos;
+      other_admits = λ i apart key. (swap_only saver is joined new put).admits i key ∙ same_admits lacks joined i (others i apart) key ∙ (swap_only saver empty old lacks took).admits i key;
       other_ops = reader_others;
       other_sources = λ q s a apart role acting p. elsewhere (record { saver = s; key = a.0 }) (λ e. apart (bare.alone saver q.trigger reads (role ∙ ap Reads e))) p;
     })

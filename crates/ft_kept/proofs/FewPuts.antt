@@ -1,71 +1,31 @@
 -- Which tables stay as one trigger's act comes or goes, and how few things it puts into maps.
-use Rattle.std.proofs.Common.{◌≡◌, ℕ, ◌+◌, ◌*◌, ◌≤◌, Bool, true, false, cond, List, refl, sym, ap, subst, ◌∙◌, Some, None, Option, inl, inr, arith}
-use Rattle.std.specs.Prelude.{◌⊎◌, ◌&&◌, option_map}
+use Rattle.std.proofs.Common.{◌≡◌, ℕ, ◌+◌, ◌*◌, ◌≤◌, Bool, true, false, cond, List, ◌∷◌, refl, sym, ap, subst, ◌∙◌, Some, None, inl, inr, arith, ◌⊎◌, ◌&&◌, option_map, true≢false}
 use Rattle.std.specs.FinMap as map
-use Rattle.std.proofs.lemmas.Bool.{true≢false}
 use Rattle.ft_fields.specs.Traced.{Traced, name_of}
 use Rattle.ft_hist.specs.Hist.{Hist}
 use Rattle.ft_hist.specs.Triggers.{Triggers}
 use Rattle.ft_hist.specs.Hit.{hit, key_of, passes_filter, same_name}
 use Rattle.ft_hist.specs.Steps.{Steps, StepsGrow}
 use Rattle.ft_fields.specs.declared.key.Part.{Part}
-use Rattle.ft_pairs.specs.Source.{Ops}
 use Rattle.ft_kept.specs.inner.OneAct.{IsDoneToo}
 use Rattle.ft_kept.specs.Bounds.{TableEdit, SaverMoves, SomeSaverMoves, OtherSaversStay, table_on}
 use Rattle.ft_hist.specs.Tests.{tests_taken}
-use Rattle.ft_shelves.specs.Shelves.{ChangesShelf, Shelved, Shelves, FormsStay, is_saver, role_on}
-use Rattle.ft_shelves.specs.Edits.{OpsChange}
-use Rattle.ft_kept.specs.inner.Edits.{ReaderChanges, ReadersChange}
+use Rattle.ft_shelves.specs.Shelves.{Shelved, Shelves, FormsStay, role_on}
+use Rattle.ft_kept.specs.inner.Edits.{ReadersChange}
 use Rattle.ft_pairs.specs.declared.role.Role.TheVariants.{Saves}
 use Rattle.ft_shelves.proofs.Decided.{none_not_some}
-use Rattle.ft_kept.proofs.Forms.{read_forms, readers_trans, role_at, roles_stay, tells_same}
-
--- ---- tables
-
--- a trigger's table stays, where its shelf does
-same_table : (old new : Shelves) (id : ℕ) → map.get new id ≡ map.get old id → table_on new id ≡ table_on old id
-same_table old new id same = ap (option_map (λ (shelf : Shelved). shelf.table)) same
-
--- the tables of savers stay, where only what readers counted and read changes
-readers_savers : (old new : Shelves) → ReadersChange old new → (id : ℕ) → role_on old id ≡ Saves → table_on new id ≡ table_on old id
-readers_savers old new h id saves = by (map.get old id) refl
-  where
-    by : (o : Option Shelved) → map.get old id ≡ o → table_on new id ≡ table_on old id
-    by None is = same_table old new id (subst (λ o. ReaderChanges o (map.get new id)) is (h id) ∙ sym is)
-    by (Some shelf) is =
-        let after : ReaderChanges (Some shelf) (map.get new id) = subst (λ o. ReaderChanges o (map.get new id)) is (h id) in
-        let role : shelf.role ≡ Saves = sym (role_at old id (Some shelf) is) ∙ saves in
-        same_table old new id (after.1.0 ∙ ap Some (after.1.1.1.1 (λ saver reads. true≢false (ap is_saver (sym role ∙ reads)))) ∙ sym is)
-
--- all tables stay, where the operations of one key change
-ops_tables : (saver : ℕ) (key : List Part) (edit : Ops → Ops) (old new : Shelves) → ChangesShelf saver (OpsChange key edit) old new → (id : ℕ) → table_on new id ≡ table_on old id
-ops_tables saver key edit old new h = tells_same saver (OpsChange key edit) old new h (option_map (λ shelf. shelf.table)) (λ shelf after is change. ap (λ t. Some t) change.table)
+use Rattle.ft_kept.proofs.Between.{IsFirst, all_but, asked_more, asked_of}
+use Rattle.ft_kept.proofs.Forms.{roles_stay}
 
 -- ---- the tables of all savers but one trigger
 
-savers_trans : (id : ℕ) (a b c : Shelves) → FormsStay a b → OtherSaversStay id a b → OtherSaversStay id b c → OtherSaversStay id a c
-savers_trans id a b c forms h k other apart saves = k other apart (roles_stay a b forms other ∙ saves) ∙ h other apart saves
-
 -- they stay, where all other shelves do
 pub savers_but : (id : ℕ) (old new : Shelves) → ((i : ℕ) → (i ≡ id → ⊥) → map.get new i ≡ map.get old i) → OtherSaversStay id old new
-savers_but id old new others other apart saves = same_table old new other (others other apart)
-
--- where only what readers counted and read changes
-savers_of_readers : (id : ℕ) (old new : Shelves) → ReadersChange old new → OtherSaversStay id old new
-savers_of_readers id old new h other apart saves = readers_savers old new h other saves
+savers_but id old new others other apart saves = ap (option_map (λ (shelf : Shelved). shelf.table)) (others other apart)
 
 -- and then only what readers counted and read changes
-pub savers_stay : (id : ℕ) (old mid new : Shelves) → FormsStay old mid → ((i : ℕ) → (i ≡ id → ⊥) → map.get mid i ≡ map.get old i) → ReadersChange mid new → OtherSaversStay id old new
-savers_stay id old mid new forms others readers = savers_trans id old mid new forms (savers_but id old mid others) (savers_of_readers id mid new readers)
-
--- and where the operations of one key change
-savers_of_ops : (id saver : ℕ) (key : List Part) (edit : Ops → Ops) (old new : Shelves) → ChangesShelf saver (OpsChange key edit) old new → OtherSaversStay id old new
-savers_of_ops id saver key edit old new h other apart saves = ops_tables saver key edit old new h other
-
--- a reading comes: its read among the operations, and then what readings count and read
-pub reading_savers : (id saver : ℕ) (key : List Part) (edit : Ops → Ops) (old put mid new : Shelves) → ChangesShelf saver (OpsChange key edit) old put → ReadersChange put mid → ReadersChange mid new → OtherSaversStay id old new
-reading_savers id saver key edit old put mid new h first last =
-    savers_trans id old put new (read_forms saver key edit old put h) (savers_of_ops id saver key edit old put h) (savers_of_readers id put new (readers_trans put mid new first last))
+pub savers_stay : (id : ℕ) (old mid new : Shelves) → FormsStay old mid → OtherSaversStay id old mid → ReadersChange mid new → OtherSaversStay id old new
+savers_stay id old mid new forms stay readers other apart saves = readers.tables other (roles_stay old mid forms other ∙ saves) ∙ stay other apart saves
 
 -- ---- steps
 
@@ -84,7 +44,7 @@ pub few_first : {Else : Type 0} (puts left count : ℕ) → left ≡ count → F
 few_first puts left count same = inl (omega (arith, same))
 
 -- one trigger more is done
-pub few_more : {Else : Type 0} (before after here left limit : ℕ) → Few Else before (here + left) limit → (after ≤ before + 3 * here) ⊎ Else → Few Else after left limit
+few_more : {Else : Type 0} (before after here left limit : ℕ) → Few Else before (here + left) limit → (after ≤ before + 3 * here) ⊎ Else → Few Else after left limit
 few_more before after here left limit (inr it) more = inr it
 few_more before after here left limit (inl few) (inr it) = inr it
 few_more before after here left limit (inl few) (inl more) = inl (omega (arith, few, more))
@@ -104,7 +64,7 @@ module _ (edit : TableEdit) (triggers : Triggers) (start now : Shelves) (forms :
       (saves, (moves.1.0, (sym (stays saves) ∙ moves.1.1.0, moves.1.1.1)))
 
   -- so an act takes few puts, or some saver's table moves
-  pub some_moves : {Few : Type 0} → Few ⊎ SaverMoves edit hist now id → Few ⊎ SomeSaverMoves edit triggers start
+  some_moves : {Few : Type 0} → Few ⊎ SaverMoves edit hist now id → Few ⊎ SomeSaverMoves edit triggers start
   some_moves (inl few) = inl few
   some_moves (inr moves) = inr (record { id = id; hist = hist; attached = attached; moves = saver_moves moves })
 
@@ -133,3 +93,12 @@ pub left_step : (id : ℕ) (done more : ℕ → Bool) → IsDoneToo id done more
 left_step id done more too start now next forms savers left other is_left saves =
     let apart : other ≡ id → ⊥ = (λ same. true≢false (sym too.is ∙ ap more (sym same) ∙ is_left)) in
     savers other apart (roles_stay start now forms other ∙ saves) ∙ left other (sym (too.others other apart) ∙ is_left) saves
+
+-- and few things were put, or some saver's table moved
+pub few_puts : {edit : TableEdit} {triggers : Triggers} {start : Shelves} {e : ℕ × Hist} {left rest : List (ℕ × Hist)} (now : Shelves) (event : Traced) (before after limit : ℕ) → left ≡ e ∷ rest → IsFirst triggers e left rest
+    → FormsStay start now → LeftStay (all_but left) start now → Few (SomeSaverMoves edit triggers start) before (asked_of event left) limit
+    → (after ≤ before + 3 * tests_taken e.1 event) ⊎ SaverMoves edit e.1 now e.0 → Few (SomeSaverMoves edit triggers start) after (asked_of event rest) limit
+few_puts {edit} {triggers} {start} {e} {left} {rest} now event before after limit more first forms savers few did =
+    few_more before after (tests_taken e.1 event) (asked_of event rest) limit
+    (subst (λ n. Few (SomeSaverMoves edit triggers start) before n limit) (ap (asked_of event) more ∙ asked_more event e rest) few)
+    (some_moves edit triggers start now forms e.0 e.1 first.attached (savers e.0 first.too.was) did)

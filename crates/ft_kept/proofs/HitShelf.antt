@@ -1,11 +1,9 @@
 -- A hit comes or goes on the shelf of a trigger that reads nothing: its own place has what its act says, and the operations on what it saves follow its table.
-use Rattle.std.proofs.Common.{◌≡◌, ◌≤◌, ℕ, arith, refl, Some, None, Option, Bool, true, false, sym, ap, subst, ◌∙◌, inl, inr, List, unwrap_or}
-use Rattle.std.specs.Prelude.{ℤ, option_map, ◌&&◌, is_some, option_and_then, if◌then◌else◌, not}
+use Rattle.std.proofs.Common.{◌≡◌, ◌≤◌, ℕ, ℤ, arith, refl, Some, None, Option, Bool, true, false, sym, ap, subst, ◌∙◌, inl, inr, List, [], ◌∷◌, unwrap_or, option_map, option_and_then, is_some, if◌then◌else◌, not, ◌&&◌, nat_cmp, is_eq, true≢false}
 use Rattle.std.specs.FinMap as map
-use Rattle.std.specs.Ordering.{nat_cmp, eq_by_cmp, is_eq}
+use Rattle.std.specs.Ordering.{eq_by_cmp}
 use Rattle.std.specs.Cmp.{nat_cmp_total, tied_then}
 use Rattle.std.specs.FinMap.{nat_cmp-IsAntisymmetric}
-use Rattle.std.proofs.lemmas.Bool.{eq-eqb, true≢false}
 use Rattle.ft_changes.proofs.Leading.{SameFindings}
 use Rattle.ft_fields.specs.Places.{pos_cmp_total, pos_same}
 use Rattle.ft_fields.specs.declared.pos.Pos.{Pos}
@@ -15,7 +13,7 @@ use Rattle.ft_fields.specs.Parts.{key_cmp, same_key}
 use Rattle.ft_fields.specs.Ties.{key_same}
 use Rattle.ft_fields.specs.Traced.{Traced}
 use Rattle.ft_hits.specs.declared.mark.Mark.{Mark}
-use Rattle.ft_maps.specs.Entries.{get-insert_same, get-insert_other, get-remove_same, get-remove_other}
+use Rattle.ft_maps.proofs.Common.{cond_same}
 use Rattle.ft_pairs.specs.ByKey.{ops_of, OpsByKey}
 use Rattle.ft_pairs.specs.Edits.{if_read}
 use Rattle.ft_pairs.specs.Order.{at_cmp_total, at_same}
@@ -30,14 +28,12 @@ use Rattle.ft_pairs.specs.declared.role.Role.TheVariants.{Plain, Saves, Reads}
 use Rattle.ft_pairs.specs.declared.role.Variable.{Variable}
 use Rattle.ft_pairs.specs.Next.{IsNext}
 use Rattle.ft_shelves.specs.Changes.{change_mark, on_insert, sign_of, op_after, set_op, PlaceIsFree, with_change}
-use Rattle.ft_shelves.specs.Shelves.{Shelved, is_saver, FormsStay, Shelves, admits_on, kept_on, role_on, KeepsForm}
+use Rattle.ft_shelves.specs.Shelves.{Shelved, is_saver, Shelves, admits_on, kept_on, role_on}
 use Rattle.ft_shelves.specs.declared.sign.Sign.{Sign}
 use Rattle.ft_shelves.specs.declared.sign.Sign.TheVariants.{Insert, Retract}
 use Rattle.ft_shelves.specs.Following.{HitFollows, switched, IsUnsaved, MovesKeys}
 use Rattle.ft_shelves.specs.Switches.{Members, differ}
 use Rattle.ft_shelves.specs.declared.saver.Moved.{Moved}
-use Rattle.ft_table.specs.Marks.{mark_cmp_total, mark_same}
-use Rattle.ft_table.specs.Spots.{traced}
 use Rattle.ft_table.specs.Tabled.{is_in}
 use Rattle.ft_table.specs.Values.{values_at, ValuesBy, values_by}
 use Rattle.ft_table.specs.Hits.{Hits}
@@ -47,20 +43,20 @@ use Rattle.ft_kept.specs.inner.Changing.{change_by, change_of, IsInPlace, MayCha
 use Rattle.ft_kept.specs.Acts.{Acts, op_of}
 use Rattle.ft_kept.specs.Entries.{HitsHere, one_hit, IsEntry, hits_here, read_here}
 use Rattle.ft_kept.specs.inner.Joining.{IsNoReader}
-use Rattle.ft_kept.specs.Changes.{HitsStayBut, Tells, Told, is_for}
+use Rattle.ft_kept.specs.Changes.{HasTold, HasToldFew, HitsStayBut, Tells, whose_of}
 use Rattle.ft_kept.specs.Views.{triggers_of}
 use Rattle.ft_kept.specs.declared.changes.Whose.TheVariants.{Trigger}
-use Rattle.ft_kept.specs.inner.Edits.{StaysBut}
-use Rattle.ft_kept.specs.inner.Telling.{HasToldOf, own_key}
+use Rattle.ft_kept.specs.declared.changes.Changes.{Changes}
+use Rattle.ft_kept.specs.inner.Edits.{OneHitChanges, mark_at}
+use Rattle.ft_kept.specs.inner.Telling.{own_key}
 use Rattle.ft_kept.specs.inner.Readings.{IsReadRight, IsSwitched}
 use Rattle.ft_kept.specs.inner.Saving.{HasFollowed, IsMoved, MovedAreSettled, ReadsMoved, variable_at}
 use Rattle.ft_shelves.proofs.Edge.{undiffering}
 use Rattle.ft_shelves.proofs.Decided.{at_decided, decided, itself, key_decided, tied, untied, none_not_some}
-use Rattle.ft_kept.proofs.Forms.{made_with, made_without, admits_by, edited, hits_by, ops_by, read_by, role_at, same_admits, same_hits, same_ops, by_id, edited_but, forms_trans, readers_forms}
-use Rattle.ft_kept.proofs.Putting.{values_there}
-use Rattle.ft_kept.proofs.Staleness.{others_stay}
-use Rattle.ft_kept.proofs.Told.{not_told, told_keys}
-use Rattle.ft_kept.proofs.Views.{one_changes as one_acts, set_apart, set_here}
+use Rattle.ft_kept.proofs.Forms.{IsEdited, admits_by, by_id, edited_admits, edited_but, edited_forms, edited_here, edited_hits, edited_read, forms_trans, hit_comes, hit_goes, hits_by, ops_by, read_by, role_at, same_admits, same_ops}
+use Rattle.ft_kept.proofs.Staleness.{others_stay, same_ops_of}
+use Rattle.ft_kept.proofs.Told.{few_own, not_told, readings_same}
+use Rattle.ft_kept.proofs.Views.{one_changes as one_acts, set_apart, set_here, values_there}
 use Rattle.ft_kept.proofs.FewPuts.{savers_but, savers_stay}
 use Rattle.ft_kept.proofs.InPlace.{are_views, can_settle, right_but}
 
@@ -72,10 +68,6 @@ inserts_at_most Retract n = omega arith
 -- a place of the trigger with an id
 abbrev pub place : ℕ → Pos → At
 place id p = record { pos = p; trigger = id }
-
--- where a hit of an event of the trace stands
-abbrev pub mark_at : Pos → List Part → Mark
-mark_at pos key = record { spot = traced pos; key = key }
 
 module _ (act : Act) where
   abbrev own_mark : Mark
@@ -94,29 +86,10 @@ module _ (act : Act) where
   abbrev hit_after : Sign → Option (List ℤ)
   hit_after sign = option_map (λ a. values_at act.trigger.now act.at.pos a.1 None) (act_after sign (act.key, act.event.now))
 
-  -- on a shelf its own hit changed, and nothing is read at its place
-  pub record OneHitChanges (sign : Sign) (shelf after : Shelved) : Type 0 where
-    pub form : KeepsForm shelf after
-    pub read : map.get after.readings act.at.pos ≡ None
-    pub reads : (p : Pos) → (p ≡ act.at.pos → ⊥) → map.get after.readings p ≡ map.get shelf.readings p
-    pub hit : map.get after.table.hits own_mark ≡ hit_after sign
-    pub hits : (m : Mark) → (m ≡ own_mark → ⊥) → map.get after.table.hits m ≡ map.get shelf.table.hits m
-
-  one_changes_on : (sign : Sign) (shelf : Shelved) (ops : OpsByKey) → map.get shelf.readings act.at.pos ≡ None → OneHitChanges sign shelf (record (with_change (change_by sign act) shelf) { ops = ops })
-  one_changes_on Insert shelf ops none = record {
-    form = record { role = refl; size = refl; made = made_with shelf.table.hits act.at.pos act.key (values_at act.trigger.now act.at.pos act.event.now None) };
-    read = none;
-    reads = λ p apart. refl;
-    hit = get-insert_same mark_cmp_total shelf.table.hits own_mark (values_at act.trigger.now act.at.pos act.event.now None);
-    hits = get-insert_other mark_cmp_total mark_same shelf.table.hits own_mark (values_at act.trigger.now act.at.pos act.event.now None);
-  }
-  one_changes_on Retract shelf ops none = record {
-    form = record { role = refl; size = refl; made = made_without shelf.table.hits act.at.pos act.key };
-    read = get-remove_same pos_cmp_total shelf.readings act.at.pos;
-    reads = get-remove_other pos_cmp_total pos_same shelf.readings act.at.pos;
-    hit = get-remove_same mark_cmp_total shelf.table.hits own_mark;
-    hits = get-remove_other mark_cmp_total mark_same shelf.table.hits own_mark;
-  }
+  -- on a shelf its own hit changes
+  one_changes_on : (sign : Sign) (shelf : Shelved) (ops : OpsByKey) → map.get shelf.readings act.at.pos ≡ None → OneHitChanges act.at.pos act.key (hit_after sign) None shelf (record (with_change (change_by sign act) shelf) { ops = ops })
+  one_changes_on Insert shelf ops none = hit_comes act.at.pos act.key (values_at act.trigger.now act.at.pos act.event.now None) shelf ops none
+  one_changes_on Retract shelf ops none = hit_goes act.at.pos act.key shelf ops
 
 -- ---- the operations on what it saves
 
@@ -146,12 +119,6 @@ module _ (admits : Admits) (variable : Variable) (id : ℕ) (key : List Part) (o
   reads_alone_as Saves = ap if_read saves_no_other ∙ sym saves_no_other
   reads_alone_as (Reads saver) = elim (eq_by_cmp variable_cmp variable (record { saver = saver; key = key })) as (λ b. if_read (if b then Some Read else None) ≡ (if b then Some Read else None)) [ true ↦ refl | false ↦ refl ]
 
--- an act is the same operation, where its saver's table has the same keys
-same_as : (was now : Admits) (role : Role) (variable : Variable) (id : ℕ) (key : List Part) → now id key ≡ was id key → op_as now role variable id key ≡ op_as was role variable id key
-same_as was now Plain variable id key same = refl
-same_as was now Saves variable id key same = ap (λ b. if eq_by_cmp variable_cmp variable (record { saver = id; key = key }) then (if b then Some Save else None) else None) same
-same_as was now (Reads saver) variable id key same = refl
-
 module _ (role : ℕ → Role) (admits : Admits) (acts : Acts) where
   pub only_reads : (variable : Variable) (q : At) → (variable.saver ≡ q.trigger → ⊥) → if_read (op_of role admits acts variable q) ≡ op_of role admits acts variable q
   unfolding op_of
@@ -159,15 +126,6 @@ module _ (role : ℕ → Role) (admits : Admits) (acts : Acts) where
     | None ↦ refl
     | Some act ↦ reads_alone_as admits variable q.trigger act.0 other (role q.trigger)
   ]
-
-  pub same_ops_of : (now : Admits) (after : Acts) (variable : Variable) (q : At) → after q ≡ acts q → ((key : List Part) → now q.trigger key ≡ admits q.trigger key) → op_of role now after variable q ≡ op_of role admits acts variable q
-  unfolding op_of
-  same_ops_of now after variable q same keys =
-      ap (option_and_then (λ act. op_as now (role q.trigger) variable q.trigger act.0)) same
-      ∙ elim (acts q) as (λ o. option_and_then (λ act. op_as now (role q.trigger) variable q.trigger act.0) o ≡ option_and_then (λ act. op_as admits (role q.trigger) variable q.trigger act.0) o) [
-        | None ↦ refl
-        | Some act ↦ same_as admits now (role q.trigger) variable q.trigger act.0 (keys act.0)
-      ]
 
 -- what a trigger that reads nothing does to its own variable
 module _ (admits : Admits) (id : ℕ) (k : List Part) (within : Bool) (value : List Part × Traced → List ℤ) where
@@ -228,7 +186,7 @@ module _ (act : Act) (shelf now : Shelved) (follows : HitFollows act.at.trigger 
       by false false = save_apart (change_mark (change_of act))
 
   -- and its own saves follow its table
-  module _ (changes : OneHitChanges act act.sign shelf now) (saves : shelf.role ≡ Saves) (before : SavesFollow act.at.trigger shelf) where
+  module _ (changes : OneHitChanges act.at.pos act.key (hit_after act act.sign) None shelf now) (saves : shelf.role ≡ Saves) (before : SavesFollow act.at.trigger shelf) where
     abbrev late : List Part → Pos → Option (List ℤ)
     late k p = map.get now.table.hits (mark_at p k)
 
@@ -289,7 +247,7 @@ module _ (values : ValuesBy) (ops : Variable → Ops) (at : At) (hits : HitsHere
   entry_is Saves unread (Some act) = refl
   entry_is (Reads saver) unread act = absurd (elim unread [ inl e ↦ cc | inr e ↦ cc ])
 
-module _ (act : Act) (acts : Acts) (wanted : Role) (old : Shelves) (may : MayChange act acts wanted old) (unread : IsNoReader (role_on old act.at.trigger))
+module _ (act : Act) (acts : Acts) (old : Shelves) (may : MayChange act acts old) (unread : IsNoReader (role_on old act.at.trigger))
     (shelf : Shelved) (was : map.get old act.at.trigger ≡ Some shelf) where
   abbrev at : At
   at = act.at
@@ -346,38 +304,27 @@ module _ (act : Act) (acts : Acts) (wanted : Role) (old : Shelves) (may : MayCha
 
   module _ (new : Shelves) (now : Shelved) (is : map.get new id ≡ Some now) (others : (i : ℕ) → (i ≡ id → ⊥) → map.get new i ≡ map.get old i)
       (changes : now ≡ record (with_change (change_of act) shelf) { ops = now.ops }) where
-    one_changes : OneHitChanges act act.sign shelf now
-    one_changes = subst (OneHitChanges act act.sign shelf) (sym changes) (one_changes_on act act.sign shelf now.ops (sym (read_by old id (Some shelf) was at.pos) ∙ before_here.0))
+    abbrev edit : IsEdited at act.key (hit_after act act.sign) None old new
+    edit = record {
+      shelf = shelf;
+      after = now;
+      was = was;
+      is = is;
+      others = others;
+      changes = subst (OneHitChanges at.pos act.key (hit_after act act.sign) None shelf) (sym changes) (one_changes_on act act.sign shelf now.ops (sym (read_by old id (Some shelf) was at.pos) ∙ before_here.0));
+    }
 
-    -- its shelf keeps its form
-    pub forms : FormsStay old new
-    forms = edited old new id shelf now was is others one_changes.form
-
-    -- hits and readings stay at other places
-    stays : StaysBut at (kept_on old) (kept_on new)
-    stays = edited_but old new id shelf now was is others at.pos act.key one_changes.hits one_changes.reads
-
-    -- and its own place has what the act says
+    -- its own place has what the act says
     after_here : IsUnread values at (act_after act.sign own) (hits_here (kept_on new) at) (read_here (kept_on new) at)
-    after_here = (
-      read_by new id (Some now) is at.pos ∙ one_changes.read,
-      λ k. hits_by new id (Some now) is (mark_at at.pos k) ∙ elim (key_decided k act.key) [
-        | inl it ↦ subst (λ x. map.get now.table.hits (mark_at at.pos x) ≡ counted values at (act_after act.sign own) x) (sym it)
-            (one_changes.hit ∙ sym (here act.sign))
-        | inr apart ↦ one_changes.hits (mark_at at.pos k) (λ e. apart (ap (λ (m : Mark). m.key) e)) ∙ sym (hits_by old id (Some shelf) was (mark_at at.pos k)) ∙ before_here.1 k ∙ there act.sign k apart
-      ],
-    )
+    after_here = (edited_read edit, λ k. edited_here edit (λ x apart. before_here.1 x ∙ none_there act.sign x apart) k ∙ here act.sign k)
       where
-        here : (sign : Sign) → counted values at (act_after sign own) act.key ≡ hit_after act sign
-        here Insert = ap (λ b. if b then Some (values id at.pos act.event.now None) else None) (itself key_cmp_total act.key) ∙ ap (λ v. Some v) (values_there (triggers_of act.scene) id act.trigger.now at.pos act.event.now None may.attached)
-        here Retract = refl
+        none_there : (sign : Sign) (k : List Part) → (k ≡ act.key → ⊥) → counted values at (act_before sign own) k ≡ None
+        none_there Insert k apart = refl
+        none_there Retract k apart = ap (λ b. if b then Some (values id at.pos act.event.now None) else None) (untied key_cmp_total key_same k act.key apart)
 
-        none_there : (k : List Part) → (k ≡ act.key → ⊥) → counted values at (Some own) k ≡ None
-        none_there k apart = ap (λ b. if b then Some (values id at.pos act.event.now None) else None) (untied key_cmp_total key_same k act.key apart)
-
-        there : (sign : Sign) (k : List Part) → (k ≡ act.key → ⊥) → counted values at (act_before sign own) k ≡ counted values at (act_after sign own) k
-        there Insert k apart = sym (none_there k apart)
-        there Retract k apart = none_there k apart
+        here : (sign : Sign) (k : List Part) → one_hit act.key (hit_after act sign) k ≡ counted values at (act_after sign own) k
+        here Insert k = ap (λ v. one_hit act.key (Some v) k) (sym (values_there (triggers_of act.scene) id act.trigger.now at.pos act.event.now None may.attached))
+        here Retract k = cond_same (same_key k act.key) None
 
     after_at : (p : Pos) (k : List Part) → hits_here (kept_on new) (place id p) k ≡ counted values (place id p) (after (place id p)) k
     after_at p k = elim (decided pos_cmp_total pos_same p at.pos) [
@@ -385,22 +332,22 @@ module _ (act : Act) (acts : Acts) (wanted : Role) (old : Shelves) (may : MayCha
           (after_here.1 k ∙ ap (λ o. counted values at o k) (sym (set_here acts at (act_after act.sign own))))
       | inr other ↦
           let apart : place id p ≡ at → ⊥ = (λ e. other (ap (λ (q : At). q.pos) e)) in
-          (stays (place id p) apart).0 k ∙ (before_at p).1 k ∙ ap (λ o. counted values (place id p) o k) (sym (set_apart acts at (act_after act.sign own) (place id p) apart))
+          (edited_but edit (place id p) apart).0 k ∙ (before_at p).1 k ∙ ap (λ o. counted values (place id p) o k) (sym (set_apart acts at (act_after act.sign own) (place id p) apart))
     ]
 
     module _ (reads_stay : (k : List Part) (q : At) → (q.trigger ≡ id → ⊥) → ops_of now.ops k q ≡ ops_of shelf.ops k q) (follow : SavesFollow id now) where
       -- the operations on what it saves
       own_ops : (k : List Part) (q : At) → (kept_on new).ops (variable k) q ≡ op_of (role_on old) (admits_on new) after (variable k) q
       own_ops k q = by_id (λ i. (kept_on new).ops (variable k) (place i q.pos) ≡ op_of (role_on old) (admits_on new) after (variable k) (place i q.pos)) id
-          (ops_by new id (Some now) is k (place id q.pos) ∙ follow k q.pos ∙ sym (own_op new now is (shelf_role ∙ sym one_changes.form.role) after q.pos (after_at q.pos) k))
+          (ops_by new id (Some now) is k (place id q.pos) ∙ follow k q.pos ∙ sym (own_op new now is (shelf_role ∙ sym edit.changes.form.role) after q.pos (after_at q.pos) k))
           (λ i apart.
           let at_other : At = place i q.pos in
           ops_by new id (Some now) is k at_other
           ∙ reads_stay k at_other apart
           ∙ sym (ops_by old id (Some shelf) was k at_other)
           ∙ may.views.kept.ops (variable k) at_other
-          ∙ sym (same_ops_of (role_on old) (admits_on old) acts (admits_on new) after (variable k) at_other (set_apart acts at (act_after act.sign own) at_other (λ e. apart (ap (λ (p : At). p.trigger) e)))
-          (same_admits old new i (others i apart)))) q.trigger
+          ∙ sym (same_ops_of (role_on old) (admits_on old) (admits_on new) acts after (variable k) at_other (same_admits old new i (others i apart))
+          (set_apart acts at (act_after act.sign own) at_other (λ e. apart (ap (λ (p : At). p.trigger) e))))) q.trigger
 
       own_variable : (v : Variable) → variable_of (role_on old id) id act.key ≡ Some v → v.saver ≡ id
       own_variable v owns = elim unread [
@@ -411,39 +358,33 @@ module _ (act : Act) (acts : Acts) (wanted : Role) (old : Shelves) (may : MayCha
       -- so it is in its place
       pub in_place : IsInPlace act acts old new
       in_place = record {
-        forms = forms;
+        forms = edited_forms edit;
         ops = λ v q. by_id (λ i. (kept_on new).ops (record { saver = i; key = v.key }) q ≡ op_of (role_on old) (admits_on new) after (record { saver = i; key = v.key }) q) id (own_ops v.key q)
             (λ i other. let its : Variable = record { saver = i; key = v.key } in
             same_ops old new i (others i other) v.key q
             ∙ may.views.kept.ops its q
             ∙ sym (others_stay (role_on old) (admits_on old) (admits_on new) acts after at own (one_acts act.sign acts at own may.was) its (λ e. other (own_variable its e)) (same_admits old new i (others i other) v.key) q)) v.saver;
-        stays = stays;
+        stays = edited_but edit;
         right = subst (λ X. X) (sym (entry_is values (kept_on new).ops at (hits_here (kept_on new) at) (read_here (kept_on new) at) (role_on old id) unread (after at)))
             (subst (λ o. IsUnread values at o (hits_here (kept_on new) at) (read_here (kept_on new) at)) (sym (set_here acts at (act_after act.sign own))) after_here);
       }
 
     -- its key tells what changed
     own_stay : HitsStayBut (own_key id act.key) old new
-    own_stay i mark none = by_id (λ j. j ≡ i → (kept_on new).hits j mark ≡ (kept_on old).hits j mark) id
-        (λ same. hits_by new id (Some now) is mark
-        ∙ one_changes.hits mark (λ e. not_told (role_on old i) i (record { whose = Trigger id; key = act.key }) mark.key (subst (λ j. is_for (role_on old j) j (Trigger id) ≡ true) same own_hits) none (ap (λ (m : Mark). m.key) e))
-        ∙ sym (hits_by old id (Some shelf) was mark))
-        (λ j other _. same_hits old new j (others j other) mark) i refl
+    own_stay i mark none = edited_hits edit i mark
+        (λ same here. not_told (record { whose = Trigger id; key = act.key }) (whose_of (role_on old i) i) mark.key none (subst (λ j. whose_of (role_on old j) j ≡ Trigger id) (sym same) own_hits) (ap (λ (m : Mark). m.key) here))
       where
-        own_hits : is_for (role_on old id) id (Trigger id) ≡ true
-        own_hits = elim unread [
-          | inl plain ↦ ap (λ r. is_for r id (Trigger id)) plain ∙ eq-eqb id id refl
-          | inr saves ↦ ap (λ r. is_for r id (Trigger id)) saves ∙ eq-eqb id id refl
-        ]
+        own_hits : whose_of (role_on old id) id ≡ Trigger id
+        own_hits = elim unread [ inl plain ↦ ap (λ r. whose_of r id) plain | inr saves ↦ ap (λ r. whose_of r id) saves ]
 
     found_same : SameFindings (kept_on old).read (kept_on new).read
     found_same i p = elim (at_decided (record { pos = p; trigger = i }) at) [
       | inl same ↦ subst (λ (q : At). (kept_on new).read q.trigger q.pos ≡ (kept_on old).read q.trigger q.pos) (sym same) (after_here.0 ∙ sym before_here.0)
-      | inr apart ↦ (stays (record { pos = p; trigger = i }) apart).1
+      | inr apart ↦ (edited_but edit (record { pos = p; trigger = i }) apart).1
     ]
 
-    pub own_told : (before after : Told) → Tells (own_key id act.key) before.keys after.keys → after.readings ≡ before.readings → HasToldOf (own_key id act.key) before after old new
-    own_told before after tells readings = told_keys (own_key id act.key) before after old new tells readings own_stay found_same
+    pub own_told : (before after : Changes) → Tells (own_key id act.key) before.keys after.keys → after.readings ≡ before.readings → HasTold (own_key id act.key) before after old new
+    own_told before after tells same = record { told = tells; under = record { hits = own_stay; readings = readings_same before.readings after.readings old new same found_same } }
 
   -- ---- a trigger without a variable: nothing is left to settle
 
@@ -471,13 +412,10 @@ module _ (act : Act) (acts : Acts) (wanted : Role) (old : Shelves) (may : MayCha
 
     -- the keys that savers' tables have stay
     admits_stay : (i : ℕ) (k : List Part) → admits_on new i k ≡ admits_on old i k
-    admits_stay i k = by_id (λ i. admits_on new i k ≡ admits_on old i k) id
-        (admits_by new id (Some now) is k ∙ ap (λ r. is_saver r && is_in now.table k) now_plain
-        ∙ sym (admits_by old id (Some shelf) was k ∙ ap (λ r. is_saver r && is_in shelf.table k) was_plain))
-        (λ i other. same_admits old new i (others i other) k) i
+    admits_stay = edited_admits old new id shelf now was is others (ap is_saver was_plain) (ap (λ (s : Shelved). s.role) changes)
 
     all_right : (q : At) → IsReadRight after new q
-    all_right q = elim (right_but act acts wanted old may new placed None (λ v owns. absurd (none_not_some (variable_of wanted id act.key) v (ap (λ r. variable_of r id act.key) (sym may.role ∙ plain)) owns)) q) [
+    all_right q = elim (right_but act acts old may new placed None (λ v owns. absurd (none_not_some (variable_of (role_on old id) id act.key) v (ap (λ r. variable_of r id act.key) plain) owns)) q) [
       | inl right ↦ right
       | inr (inl next) ↦ absurd (none_not_some None (q, Read) refl next)
       | inr (inr s) ↦ absurd (s.moved (admits_stay s.variable.saver s.variable.key))
@@ -487,11 +425,11 @@ module _ (act : Act) (acts : Acts) (wanted : Role) (old : Shelves) (may : MayCha
     plain_changed = record {
       forms = placed.forms;
       savers = savers_but id old new others;
-      views = are_views act.scene after new (can_settle act acts wanted old may new placed) all_right;
+      views = are_views act.scene after new (can_settle act acts old may new placed) all_right;
     }
 
-    pub plain_told : (before after : Told) → Tells (own_key id act.key) before.keys after.keys → after.readings ≡ before.readings → HasToldOf (own_key id act.key) before after old new
-    plain_told = own_told new now is others but_ops
+    pub plain_told : (before after : Changes) → Tells (own_key id act.key) before.keys after.keys → after.readings ≡ before.readings → HasToldFew ((id, act.trigger.now) ∷ []) before after old new
+    plain_told before after tells same = record { keys = own_key id act.key; few = few_own (role_on old) id act.trigger.now act.key; told = own_told new now is others but_ops before after tells same }
 
   -- ---- a saver: its keys may move
 
@@ -526,7 +464,7 @@ module _ (act : Act) (acts : Acts) (wanted : Role) (old : Shelves) (may : MayCha
       pub followed : HasFollowed act acts moves old new
       followed = record {
         placed = in_place new now is others follows.shelf (λ k q apart. reads_stay act shelf now follows k q apart (reads_before k q apart))
-            (saves_follow act shelf now follows (one_changes new now is others follows.shelf) was_saver saves_before);
+            (saves_follow act shelf now follows (edit new now is others follows.shelf).changes was_saver saves_before);
         others = others;
         moved = subst (λ (x : List Part × (Members × Members)). MovesKeys x.0 moves x.1.0 x.1.1)
             (λ i. ((mark_is act act.sign i).key, (λ k. admitted old shelf was was_saver k i, λ k. admitted new now is (ap (λ (s : Shelved). s.role) follows.shelf ∙ was_saver) k i))) moved;
@@ -560,7 +498,7 @@ is_moved key moves was now moved k differs = elim (key_decided k key) [
       | inr not_it ↦ absurd (differs (moved.stayed k apart (λ e. not_it (cc))))
     ]
 
-module _ (act : Act) (acts : Acts) (old : Shelves) (may : MayChange act acts Saves old) (moves : Moved) (mid new : Shelves) (follows : HasFollowed act acts moves old mid)
+module _ (act : Act) (acts : Acts) (old : Shelves) (may : MayChange act acts old) (saves : role_on old act.at.trigger ≡ Saves) (moves : Moved) (mid new : Shelves) (follows : HasFollowed act acts moves old mid)
     (settled : MovedAreSettled act (acts_after act acts) moves mid new) where
   -- what reads a key that moved is settled
   reads_moved : (q : At) → IsSwitched old mid q → ReadsMoved act moves mid q
@@ -575,14 +513,14 @@ module _ (act : Act) (acts : Acts) (old : Shelves) (may : MayChange act acts Sav
       (λ i other here. absurd (s.moved (subst (λ j. admits_on mid j s.variable.key ≡ admits_on old j s.variable.key) here (same_admits old mid i (follows.others i other) s.variable.key)))) s.variable.saver refl
 
   -- the next operation is the one that was settled, unless its key moved
-  next_is : (v : Variable) → variable_of Saves act.at.trigger act.key ≡ Some v → admits_on mid v.saver v.key ≡ admits_on old v.saver v.key → IsNext ((kept_on mid).ops v) (Some act.at) settled.next
+  next_is : (v : Variable) → variable_of (role_on old act.at.trigger) act.at.trigger act.key ≡ Some v → admits_on mid v.saver v.key ≡ admits_on old v.saver v.key → IsNext ((kept_on mid).ops v) (Some act.at) settled.next
   next_is v owns same = subst (λ w. IsNext ((kept_on mid).ops w) (Some act.at) settled.next) own (settled.is_next (follows.moved.itself ∙ same_differ (admits_on old act.at.trigger act.key) (admits_on mid act.at.trigger act.key) (subst (λ w. admits_on mid w.saver w.key ≡ admits_on old w.saver w.key) (sym own) same)))
     where
       own : variable_at act act.key ≡ v
-      own = ap (λ o. unwrap_or o v) owns
+      own = ap (λ o. unwrap_or o v) (sym (ap (λ r. variable_of r act.at.trigger act.key) saves) ∙ owns)
 
   saver_right : (q : At) → IsReadRight (acts_after act acts) new q
-  saver_right q = settled.settled.right q (elim (right_but act acts Saves old may mid follows.placed settled.next next_is q) [
+  saver_right q = settled.settled.right q (elim (right_but act acts old may mid follows.placed settled.next next_is q) [
     | inl is ↦ inl is
     | inr (inl next) ↦ inr (inl next)
     | inr (inr s) ↦ inr (inr (reads_moved q s))
@@ -591,7 +529,7 @@ module _ (act : Act) (acts : Acts) (old : Shelves) (may : MayChange act acts Sav
   -- all is right
   pub saver_changed : HasChanged act acts old new
   saver_changed = record {
-    forms = forms_trans old mid new follows.placed.forms (readers_forms mid new settled.settled.readers);
-    savers = savers_stay act.at.trigger old mid new follows.placed.forms follows.others settled.settled.readers;
+    forms = forms_trans old mid new follows.placed.forms settled.settled.readers.forms;
+    savers = savers_stay act.at.trigger old mid new follows.placed.forms (savers_but act.at.trigger old mid follows.others) settled.settled.readers;
     views = are_views act.scene (acts_after act acts) new settled.settled.can saver_right;
   }

@@ -1,7 +1,5 @@
 -- Where an act came or went at its own place, readings elsewhere are right, but the next one and those of keys that moved.
-use Rattle.std.proofs.Common.{◌≡◌, ℕ, Bool, true, false, List, refl, sym, ap, subst, ◌∙◌, Some, None, Option, inl, inr}
-use Rattle.std.specs.Prelude.{◌⊎◌}
-use Rattle.std.proofs.lemmas.Bool.{true≢false}
+use Rattle.std.proofs.Common.{◌≡◌, ℕ, Bool, true, false, List, refl, sym, ap, subst, ◌∙◌, Some, None, Option, inl, inr, option_map, ◌⊎◌, true≢false}
 use Rattle.ft_fields.specs.Traced.{Traced}
 use Rattle.ft_fields.specs.declared.pos.Pos.{Pos}
 use Rattle.ft_fields.specs.declared.key.Part.{Part}
@@ -31,7 +29,7 @@ use Rattle.ft_kept.specs.inner.OneAct.{IsOneAct}
 use Rattle.ft_kept.specs.inner.Readings.{CanSettle, IsReadRight, IsSwitched}
 use Rattle.ft_kept.proofs.Forms.{roles_stay, shelved_stay}
 use Rattle.ft_kept.proofs.Staleness.{op_elsewhere, op_read, others_stay}
-use Rattle.ft_kept.proofs.Views.{held_changes, one_changes}
+use Rattle.ft_kept.proofs.Views.{attached_act, held_changes, one_changes}
 
 same_or_not : (a b : Bool) → (a ≡ b) ⊎ (a ≡ b → ⊥)
 same_or_not true true = inl refl
@@ -62,7 +60,7 @@ read_or ops later at (Reads saver) (Some a) read sources e = elim (sources saver
   | inr it ↦ inr it
 ]
 
-module _ (act : Act) (acts : Acts) (wanted : Role) (old : Shelves) (may : MayChange act acts wanted old) (new : Shelves) (placed : IsInPlace act acts old new) where
+module _ (act : Act) (acts : Acts) (old : Shelves) (may : MayChange act acts old) (new : Shelves) (placed : IsInPlace act acts old new) where
   abbrev values : ValuesBy
   values = values_by (triggers_of act.scene)
 
@@ -71,6 +69,10 @@ module _ (act : Act) (acts : Acts) (wanted : Role) (old : Shelves) (may : MayCha
 
   abbrev after : Acts
   after = acts_after act acts
+
+  -- the variable that the act is an operation on, if it is one
+  abbrev own_variable : Option Variable
+  own_variable = variable_of (role_on old act.at.trigger) act.at.trigger act.key
 
   one : IsOneAct act.at own acts after
   one = one_changes act.sign acts act.at own may.was
@@ -82,7 +84,8 @@ module _ (act : Act) (acts : Acts) (wanted : Role) (old : Shelves) (may : MayCha
   pub can_settle : CanSettle act.scene after new
   can_settle = record {
     shelved = shelved_stay (triggers_of act.scene) old new placed.forms may.views.shelved;
-    held = held_changes act.sign acts act.at own act.scene.lanes.now may.views.held may.held;
+    held = held_changes act.sign acts act.at own (triggers_of act.scene) act.scene.lanes.now may.views.held
+        (may.held, attached_act (triggers_of act.scene) act.at.trigger act.trigger.now may.attached (Some act.event.now) ∙ ap (option_map (λ (key : List Part). (key, act.event.now))) may.counts);
     ops = λ variable q. subst (λ (role : ℕ → Role). (kept_on new).ops variable q ≡ op_of role (admits_on new) after variable q) (λ i id. sym (roles_stay old new placed.forms id) i) (placed.ops variable q);
     counted = λ q. elim (at_decided q act.at) [
       | inl here ↦ subst (λ p. IsCounted values p (role_on new p.trigger) (after p) (hits_here (kept_on new) p) (read_here (kept_on new) p)) (sym here) right.1
@@ -98,15 +101,15 @@ module _ (act : Act) (acts : Acts) (wanted : Role) (old : Shelves) (may : MayCha
       ∙ sym (may.views.kept.ops variable q)
 
   -- and there too, if it isn't the act's own
-  ops_others : (variable : Variable) → admits_on new variable.saver variable.key ≡ admits_on old variable.saver variable.key → (variable_of wanted act.at.trigger act.key ≡ Some variable → ⊥) → (q : At)
+  ops_others : (variable : Variable) → admits_on new variable.saver variable.key ≡ admits_on old variable.saver variable.key → (own_variable ≡ Some variable → ⊥) → (q : At)
       → (kept_on new).ops variable q ≡ (kept_on old).ops variable q
   ops_others variable alike not_own q =
       placed.ops variable q
-      ∙ others_stay (role_on old) (admits_on old) (admits_on new) acts after act.at own one variable (λ e. not_own (ap (λ r. variable_of r act.at.trigger act.key) (sym may.role) ∙ e)) alike q
+      ∙ others_stay (role_on old) (admits_on old) (admits_on new) acts after act.at own one variable not_own alike q
       ∙ sym (may.views.kept.ops variable q)
 
   module _ (next : Option (At × Op))
-      (is_next : (variable : Variable) → variable_of wanted act.at.trigger act.key ≡ Some variable → admits_on new variable.saver variable.key ≡ admits_on old variable.saver variable.key
+      (is_next : (variable : Variable) → own_variable ≡ Some variable → admits_on new variable.saver variable.key ≡ admits_on old variable.saver variable.key
       → IsNext ((kept_on new).ops variable) (Some act.at) next) where
     -- a reading finds what it found, is that of the next operation, or that of a key that moved
     source_or : (q : At) (saver : ℕ) (a : List Part × Traced) → role_on new q.trigger ≡ Reads saver → after q ≡ Some a
@@ -116,7 +119,7 @@ module _ (act : Act) (acts : Acts) (wanted : Role) (old : Shelves) (may : MayCha
         let there : (kept_on new).ops v q ≡ Some Read = can_settle.ops v q ∙ op_read (role_on new) (admits_on new) after q saver a reads acting in
         elim (same_or_not (admits_on new saver a.0) (admits_on old saver a.0)) [
           | inr moved ↦ inr (inr (record { variable = v; reads = there; moved = moved }))
-          | inl alike ↦ elim (own_decided (variable_of wanted act.at.trigger act.key) v) [
+          | inl alike ↦ elim (own_decided (own_variable) v) [
             | inl owns ↦ elim (but_next ((kept_on old).ops v) ((kept_on new).ops v) act.at (ops_apart v alike) next (is_next v owns alike) q Read there) [ inl it ↦ inr (inl it) | inr keeps ↦ inl keeps ]
             | inr not_own ↦ inl (same_source ((kept_on old).ops v) ((kept_on new).ops v) q (λ p _. ops_others v alike not_own p))
           ]

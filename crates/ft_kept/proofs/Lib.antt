@@ -1,14 +1,12 @@
 pub mod AtOnce
 pub mod Bare
 pub mod Between
-pub mod Events
 pub mod FewPuts
 pub mod Forms
 pub mod HitShelf
 pub mod InPlace
 pub mod Input
 pub mod Staleness
-pub mod Putting
 pub mod Reading
 pub mod Settled
 pub mod Shelving
@@ -16,7 +14,5 @@ pub mod Sources
 pub mod Told
 pub mod Views
 pub mod Walks
-pub mod Ids
 pub mod Once
 pub mod Rows
-mod ToldKeys

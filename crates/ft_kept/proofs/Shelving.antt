@@ -1,10 +1,8 @@
 -- Shelves that change in one part, and the shelves of which one changes.
-use Rattle.std.proofs.Common.{◌≡◌, ℕ, MutBor, OnSome, refl, sym, ap, subst, ◌∙◌, None, Some, Option, unwrap_or}
-use Rattle.std.specs.Prelude.{is_some}
+use Rattle.std.proofs.Common.{◌≡◌, ℕ, MutBor, OnSome, refl, sym, ap, subst, ◌∙◌, None, Some, Option, unwrap_or, is_some, true≢false}
 use Rattle.std.specs.Cmp.{nat_cmp_total}
 use Rattle.std.specs.FinMap as map
 use Rattle.std.specs.Option.{option_copied_mut}
-use Rattle.std.proofs.lemmas.Bool.{true≢false}
 use Rattle.std.proofs.lemmas.Map.Lookups.{exact_unsigned}
 use Rattle.ft_maps.specs.Entries.{get-insert_same, get-insert_other}
 use Rattle.ft_shelves.specs.Shelves.{ChangesShelf, Shelved, Shelves}

@@ -1,6 +1,5 @@
 -- A read among the operations is a reader's act under the variable's key, and where its reading is settled, it is right.
-use Rattle.std.proofs.Common.{◌≡◌, ℕ, ℤ, Bool, true, false, cond, List, refl, sym, ap, ◌∙◌, Some, None, Option, option_map, subst, inl, inr, unwrap_or}
-use Rattle.std.specs.Prelude.{◌⊎◌, if◌then◌else◌}
+use Rattle.std.proofs.Common.{◌≡◌, ℕ, ℤ, Bool, true, false, cond, List, refl, sym, ap, ◌∙◌, Some, None, Option, option_map, subst, inl, inr, unwrap_or, ◌⊎◌, if◌then◌else◌}
 use Rattle.std.specs.Ordering.{eq_by_cmp}
 use Rattle.ft_fields.specs.Traced.{Traced}
 use Rattle.ft_fields.specs.declared.pos.Pos.{Pos}
@@ -27,7 +26,7 @@ use Rattle.ft_kept.specs.Views.{triggers_of}
 use Rattle.ft_kept.specs.declared.act.Scene.{Scene}
 use Rattle.ft_kept.specs.declared.settle.Reading.{Reading}
 use Rattle.ft_kept.specs.inner.Readings.{AreSettled, CanSettle, IsOwn, IsReadRight, IsReady, IsSettled}
-use Rattle.ft_kept.proofs.Forms.{readers_admit, readers_forms, readers_ops, readers_refl, readers_trans, roles_stay, shelved_stay}
+use Rattle.ft_kept.proofs.Forms.{readers_refl, readers_trans, roles_stay, shelved_stay}
 use Rattle.ft_kept.proofs.InPlace.{carried}
 use Rattle.ft_kept.proofs.Staleness.{op_absent, op_else, op_there}
 
@@ -89,7 +88,7 @@ module _ (scene : Scene) (acts : Acts) (old : Shelves) (can : CanSettle scene ac
     read_is = read_act (role_on old) (admits_on old) acts variable at (sym (can.ops variable at) ∙ read)
 
     pub read_held : event_at scene.lanes.now at.pos.cpu at.pos.line ≡ Some read_is.0
-    read_held = (can.held at variable.key read_is.0 read_is.1.0).0
+    read_held = (can.held at (variable.key, read_is.0) read_is.1.0).0.0
 
     pub read_acting : (event : Traced) → event_at scene.lanes.now at.pos.cpu at.pos.line ≡ Some event → acts at ≡ Some (variable.key, event)
     read_acting event there = read_is.1.0 ∙ ap (option_map (λ (e : Traced). (variable.key, e))) (sym read_held ∙ there)
@@ -104,7 +103,7 @@ module _ (scene : Scene) (acts : Acts) (old : Shelves) (can : CanSettle scene ac
         role = (read_is reading.variable at read).1.1;
         own = subst (λ act. IsOwn act (hits_here (kept_on old) at)) acting
             (counted_own (values_by (triggers_of scene)) at (role_on old at.trigger) (acts at) (hits_here (kept_on old) at) (read_here (kept_on old) at) (can.counted at));
-        stamped = (can.held at reading.variable.key reading.event.now acting).1;
+        stamped = (can.held at (reading.variable.key, reading.event.now) acting).0.1;
       }
 
   module _ (new : Shelves) (reading : Reading) (settled : IsSettled (triggers_of scene) reading old new)
@@ -113,7 +112,7 @@ module _ (scene : Scene) (acts : Acts) (old : Shelves) (can : CanSettle scene ac
     at = reading.at
 
     forms : FormsStay old new
-    forms = readers_forms old new settled.readers
+    forms = settled.readers.forms
 
     right : IsRight (role_on new) (values_by (triggers_of scene)) acts (kept_on new) at
     right = subst (λ (x : Role × Option (List Part × Traced)). IsEntry (values_by (triggers_of scene)) (kept_on new).ops at x.0 x.1 (hits_here (kept_on new) at) (read_here (kept_on new) at))
@@ -126,8 +125,8 @@ module _ (scene : Scene) (acts : Acts) (old : Shelves) (can : CanSettle scene ac
       can = record {
         shelved = shelved_stay (triggers_of scene) old new forms can.shelved;
         held = can.held;
-        ops = λ variable q. readers_ops old new settled.readers variable q ∙ can.ops variable q
-            ∙ (λ i. op_of (λ id. sym (roles_stay old new forms id) i) (λ id key. sym (readers_admit old new settled.readers id key) i) acts variable q);
+        ops = λ variable q. settled.readers.ops variable q ∙ can.ops variable q
+            ∙ (λ i. op_of (λ id. sym (roles_stay old new forms id) i) (λ id key. sym (settled.readers.admits id key) i) acts variable q);
         counted = λ q. elim (at_decided q at) [
           | inl here ↦ subst (λ p. IsCounted (values_by (triggers_of scene)) p (role_on new p.trigger) (acts p) (hits_here (kept_on new) p) (read_here (kept_on new) p)) (sym here) right.1
           | inr apart ↦ carried (IsCounted (values_by (triggers_of scene)) q) at q acts acts old new forms settled.others apart refl (can.counted q)
@@ -136,7 +135,7 @@ module _ (scene : Scene) (acts : Acts) (old : Shelves) (can : CanSettle scene ac
       right = λ q h. elim (at_decided q at) [
         | inl here ↦ subst (IsReadRight acts new) (sym here) right.0
         | inr apart ↦ elim h [
-          | inl was ↦ subst (λ (ops : Variable → Ops). IsReading ops q (role_on new q.trigger) (acts q) (read_here (kept_on new) q)) (λ i variable p. sym (readers_ops old new settled.readers variable p) i)
+          | inl was ↦ subst (λ (ops : Variable → Ops). IsReading ops q (role_on new q.trigger) (acts q) (read_here (kept_on new) q)) (λ i variable p. sym (settled.readers.ops variable p) i)
               (carried (λ r act hits read. IsReading (kept_on old).ops q r act read) at q acts acts old new forms settled.others apart refl was)
           | inr covered ↦ absurd (apart (covers q covered))
         ]

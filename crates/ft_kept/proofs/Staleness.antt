@@ -1,6 +1,5 @@
 -- The operations that acts are.
-use Rattle.std.proofs.Common.{◌≡◌, ℕ, true, false, refl, sym, ap, subst, ◌∙◌, Some, None, Option, inl, inr}
-use Rattle.std.specs.Prelude.{◌⊎◌, List, option_and_then, option_map, if◌then◌else◌}
+use Rattle.std.proofs.Common.{◌≡◌, ℕ, refl, sym, ap, subst, ◌∙◌, Some, None, Option, inl, inr, ◌⊎◌, List, option_and_then, option_map, if◌then◌else◌, unwrap_or}
 use Rattle.std.specs.Ordering.{eq_by_cmp}
 use Rattle.ft_fields.specs.Traced.{Traced}
 use Rattle.ft_fields.specs.declared.pos.Pos.{Pos}
@@ -17,7 +16,7 @@ use Rattle.ft_pairs.specs.Variables.{variable_cmp, variable_cmp_total, variable_
 use Rattle.ft_pairs.specs.declared.role.Role.{Role}
 use Rattle.ft_pairs.specs.declared.role.Role.TheVariants.{Plain, Saves, Reads}
 use Rattle.ft_pairs.specs.declared.role.Variable.{Variable}
-use Rattle.ft_shelves.proofs.Decided.{itself, tied, untied, at_decided}
+use Rattle.ft_shelves.proofs.Decided.{itself, untied, at_decided, variable_decided}
 
 -- ---- operations of acts
 
@@ -31,27 +30,37 @@ op_else admits (Reads saver) variable id key not_own =
     ap (λ b. if b then Some Read else None)
     (untied variable_cmp_total variable_same variable (record { saver = saver; key = key }) (λ e. not_own (ap Some (sym e))))
 
+-- it stays, where its key is in its saver's table as it was
 op_alike : (was now : Admits) (role : Role) (variable : Variable) (id : ℕ) (key : List Part) → now variable.saver variable.key ≡ was variable.saver variable.key → op_as now role variable id key ≡ op_as was role variable id key
 op_alike was now Plain variable id key alike = refl
-op_alike was now Saves variable id key alike = elim (eq_by_cmp variable_cmp variable (record { saver = id; key = key })) as (λ b. eq_by_cmp variable_cmp variable (record { saver = id; key = key }) ≡ b
-    → (if b then (if now id key then Some Save else None) else None) ≡ (if b then (if was id key then Some Save else None) else None)) [
-      | true ↦ λ tie. let one : variable ≡ record { saver = id; key = key } = tied variable_cmp_total variable_same variable (record { saver = id; key = key }) tie in
-          ap (λ b. if b then Some Save else None) (ap (λ (v : Variable). now v.saver v.key) (sym one) ∙ alike ∙ ap (λ (v : Variable). was v.saver v.key) one)
-      | false ↦ λ _. refl
-    ] refl
 op_alike was now (Reads saver) variable id key alike = refl
+op_alike was now Saves variable id key alike = elim (variable_decided variable (record { saver = id; key = key })) [
+  | inl own ↦ ap (λ b. if eq_by_cmp variable_cmp variable (record { saver = id; key = key }) then (if b then Some Save else None) else None) (subst (λ (v : Variable). now v.saver v.key ≡ was v.saver v.key) own alike)
+  | inr other ↦ let not_own : Some (record { saver = id; key = key }) ≡ Some variable → ⊥ = λ e. other (sym (ap (λ (o : Option Variable). unwrap_or o variable) e)) in
+      op_else now Saves variable id key not_own ∙ sym (op_else was Saves variable id key not_own)
+]
+
+-- or where all of its trigger's keys are
+op_kept : (was now : Admits) (role : Role) (variable : Variable) (id : ℕ) (key : List Part) → now id key ≡ was id key → op_as now role variable id key ≡ op_as was role variable id key
+op_kept was now Plain variable id key same = refl
+op_kept was now Saves variable id key same = ap (λ b. if eq_by_cmp variable_cmp variable (record { saver = id; key = key }) then (if b then Some Save else None) else None) same
+op_kept was now (Reads saver) variable id key same = refl
 
 module _ (role : ℕ → Role) where
-  -- where the act is the same, and whether the key is in its table, the operation is
-  pub op_elsewhere : (was now : Admits) (before after : Acts) (variable : Variable) (q : At) → now variable.saver variable.key ≡ was variable.saver variable.key → after q ≡ before q
-      → op_of role now after variable q ≡ op_of role was before variable q
-  unfolding op_of
-  op_elsewhere was now before after variable q alike same =
-      ap (option_and_then (λ act. op_as now (role q.trigger) variable q.trigger act.0)) same
-      ∙ elim (before q) as (λ o. option_and_then (λ act. op_as now (role q.trigger) variable q.trigger act.0) o ≡ option_and_then (λ act. op_as was (role q.trigger) variable q.trigger act.0) o) [
-        | None ↦ refl
-        | Some act ↦ op_alike was now (role q.trigger) variable q.trigger act.0 alike
-      ]
+  module _ (was now : Admits) (before after : Acts) (variable : Variable) (q : At) where
+    op_same : ((key : List Part) → op_as now (role q.trigger) variable q.trigger key ≡ op_as was (role q.trigger) variable q.trigger key) → after q ≡ before q → op_of role now after variable q ≡ op_of role was before variable q
+    unfolding op_of
+    op_same same acts =
+        ap (option_and_then (λ act. op_as now (role q.trigger) variable q.trigger act.0)) acts
+        ∙ ap (λ f. option_and_then f (before q)) (λ i act. same act.0 i)
+
+    -- where the act is the same, and whether the key is in its table, the operation is
+    pub op_elsewhere : now variable.saver variable.key ≡ was variable.saver variable.key → after q ≡ before q → op_of role now after variable q ≡ op_of role was before variable q
+    op_elsewhere alike = op_same (λ key. op_alike was now (role q.trigger) variable q.trigger key alike)
+
+    -- or whether the keys of its trigger are
+    pub same_ops_of : ((key : List Part) → now q.trigger key ≡ was q.trigger key) → after q ≡ before q → op_of role now after variable q ≡ op_of role was before variable q
+    same_ops_of keys = op_same (λ key. op_kept was now (role q.trigger) variable q.trigger key (keys key))
 
   -- where no act is, no operation is
   pub op_absent : (admits : Admits) (acts : Acts) (variable : Variable) (q : At) → acts q ≡ None → op_of role admits acts variable q ≡ None

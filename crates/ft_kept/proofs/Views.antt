@@ -1,9 +1,10 @@
--- Views of acts, as one act or those of an event change.
-use Rattle.std.proofs.Common.{◌≡◌, ℕ, Bool, true, false, cond, List, refl, sym, ap, subst, ◌∙◌, Some, None, Option, inl, inr, unwrap_or}
-use Rattle.std.specs.Prelude.{option_and_then}
+-- Views of acts, as one act or those of an event change, and the acts at events.
+use Rattle.std.proofs.Common.{◌≡◌, ℕ, Bool, true, false, cond, List, [], refl, sym, ap, subst, ◌∙◌, Some, None, Option, inl, inr, unwrap_or, option_and_then}
 use Rattle.std.specs.Ordering.{eq_by_cmp}
 use Rattle.std.specs.Cmp.{eq_by_cmp_equiv}
+use Rattle.std.specs.Option.{option_map_or}
 use Rattle.std.specs.FinMap as map
+use Rattle.std.specs.FinMap.{FinMap}
 use Rattle.ft_fields.specs.Places.{pos_cmp, pos_cmp_total, pos_same}
 use Rattle.ft_fields.specs.Traced.{Traced}
 use Rattle.ft_fields.specs.declared.pos.Pos.{Pos}
@@ -14,9 +15,9 @@ use Rattle.ft_lanes.specs.Held.{Lanes}
 use Rattle.ft_maps.specs.Entries.{same_from_tie}
 use Rattle.ft_pairs.specs.Order.{at_cmp_total, at_same}
 use Rattle.ft_pairs.specs.declared.at.At.{At}
-use Rattle.ft_kept.specs.Acts.{Acts, AreHeld}
-use Rattle.ft_kept.specs.Repairs.{IsHeldAt}
-use Rattle.ft_kept.specs.Views.{AreViewsOf, act_by_id, act_under, set, with_some}
+use Rattle.ft_table.specs.Values.{values_at, values_by}
+use Rattle.ft_kept.specs.Acts.{Acts, AreHeld, IsHeldAct, acts_of}
+use Rattle.ft_kept.specs.Views.{AreViewsOf, HasAt, act_by_id, act_under, set, with_event, with_some}
 use Rattle.ft_kept.specs.Signs.{act_before, act_after}
 use Rattle.ft_kept.specs.inner.OneAct.{IsDoneToo, IsOneAct}
 use Rattle.ft_shelves.specs.Shelves.{Shelves}
@@ -47,30 +48,32 @@ module _ (acts : Acts) (at : At) (act : Acted) where
         | inr apart ↦ set_apart q apart
       ]
 
-  pub set_held : (lanes : Lanes) → AreHeld lanes acts → ((key : List Part) (event : Traced) → act ≡ Some (key, event) → IsHeldAt lanes at.pos event) → AreHeld lanes (set acts at act)
-  set_held lanes held here q key event is = elim (at_decided q at) [
-    | inl own ↦ subst (λ (p : At). IsHeldAt lanes p.pos event) (sym own) (here key event (sym set_here ∙ ap (set acts at act) (sym own) ∙ is))
-    | inr apart ↦ held q key event (sym (set_apart q apart) ∙ is)
-  ]
-
 -- one act more or less is one act
 pub one_changes : (sign : Sign) (acts : Acts) (at : At) (act : List Part × Traced) → acts at ≡ act_before sign act → IsOneAct at act acts (set acts at (act_after sign act))
 one_changes Insert acts at act was = record { elsewhere = set_apart acts at (Some act); here = inl (was, set_here acts at (Some act)) }
 one_changes Retract acts at act was = record { elsewhere = set_apart acts at None; here = inr (was, set_here acts at None) }
 
--- and its events are held
-pub held_changes : (sign : Sign) (acts : Acts) (at : At) (act : List Part × Traced) (lanes : Lanes) → AreHeld lanes acts → IsHeldAt lanes at.pos act.1 → AreHeld lanes (set acts at (act_after sign act))
-held_changes sign acts at act lanes held here = set_held acts at (act_after sign act) lanes held (λ key event is. by sign is)
+-- and one of a held event
+pub held_changes : (sign : Sign) (acts : Acts) (at : At) (act : List Part × Traced) (triggers : Triggers) (lanes : Lanes) → AreHeld triggers lanes acts → IsHeldAct triggers lanes at act → AreHeld triggers lanes (set acts at (act_after sign act))
+held_changes sign acts at act triggers lanes held here q a is = elim (at_decided q at) [
+  | inl own ↦ subst (λ p. IsHeldAct triggers lanes p a) (sym own) (by sign (sym (set_here acts at (act_after sign act)) ∙ ap (set acts at (act_after sign act)) (sym own) ∙ is))
+  | inr apart ↦ held q a (sym (set_apart acts at (act_after sign act) q apart) ∙ is)
+]
   where
-    by : {key : List Part} {event : Traced} (w : Sign) → act_after w act ≡ Some (key, event) → IsHeldAt lanes at.pos event
-    by {key} {event} Insert is = subst (λ (e : Traced). IsHeldAt lanes at.pos e) (ap (λ (o : Option (List Part × Traced)). (unwrap_or o act).1) is) here
-    by {key} {event} Retract is = absurd (none_not_some None (key, event) refl is)
+    by : (w : Sign) → act_after w act ≡ Some a → IsHeldAct triggers lanes at a
+    by Insert is = subst (IsHeldAct triggers lanes at) (ap (λ o. unwrap_or o act) is) here
+    by Retract is = absurd (none_not_some None a refl is)
 
 -- views of acts are views of acts that are the same
 pub views_as : (triggers : Triggers) (lanes : Lanes) (acts same : Acts) (shelves : Shelves) → acts ≡ same → AreViewsOf triggers lanes acts shelves → AreViewsOf triggers lanes same shelves
 views_as triggers lanes acts same shelves is views = subst (λ (a : Acts). AreViewsOf triggers lanes a shelves) is views
 
 -- ---- the acts of an event, trigger by trigger
+
+-- what an attached trigger's hit adds
+pub values_there : (triggers : Triggers) (id : ℕ) (hist : Hist) (pos : Pos) (event : Traced) (saved : Option Pos) → map.get triggers id ≡ Some hist → values_by triggers id pos event saved ≡ values_at hist pos event saved
+unfolding values_by
+values_there triggers id hist pos event saved attached = ap (λ (o : Option Hist). option_map_or (λ hist. values_at hist pos event saved) o []) attached
 
 -- an attached trigger's
 pub attached_act : (triggers : Triggers) (id : ℕ) (hist : Hist) → map.get triggers id ≡ Some hist → (event : Option Traced) → act_by_id triggers id event ≡ option_and_then (act_under hist) event
@@ -129,3 +132,24 @@ module _ (triggers : Triggers) (acts : Acts) (pos : Pos) (before after : Option 
           | false ↦ λ other. apart_from done q other ∙ sym (apart_from more q other)
         ] refl
       ]
+
+-- ---- the acts at events, as the event at one place changes
+
+module _ (triggers : Triggers) (events : FinMap pos_cmp Traced) where
+  -- at a place they are those at the event there
+  pub has_at : (pos : Pos) (event : Option Traced) → map.get events pos ≡ event → HasAt triggers (acts_of triggers events) pos event
+  unfolding acts_of
+  has_at pos event is id = ap (act_by_id triggers id) is
+
+  -- with another event at a place, or with none, they are those at other events
+  module _ (others : FinMap pos_cmp Traced) (pos : Pos) (event : Option Traced) (here : map.get others pos ≡ event)
+      (apart : (q : Pos) → eq_by_cmp pos_cmp q pos ≡ false → map.get others q ≡ map.get events q) where
+    set_at : (q : At) → with_event triggers (acts_of triggers events) pos event q ≡ acts_of triggers others q
+    unfolding acts_of
+    set_at q = elim (eq_by_cmp pos_cmp q.pos pos) as (λ (b : Bool). eq_by_cmp pos_cmp q.pos pos ≡ b → cond b (act_by_id triggers q.trigger event) (act_by_id triggers q.trigger (map.get events q.pos)) ≡ act_by_id triggers q.trigger (map.get others q.pos)) [
+      | true ↦ λ tie. ap (act_by_id triggers q.trigger) (sym here ∙ ap (map.get others) (sym (same_from_tie pos_same q.pos pos tie)))
+      | false ↦ λ other. ap (act_by_id triggers q.trigger) (sym (apart q.pos other))
+    ] refl
+
+    pub set_event : with_event triggers (acts_of triggers events) pos event ≡ acts_of triggers others
+    set_event i q = set_at q i

@@ -35,8 +35,7 @@ pub struct Attached<'a> {
     pub trigger: &'a Trigger,
 }
 
-/// What a trigger does at an event that is a hit of it, put in or taken away: it counts the event
-/// under a key. With it comes where its repair looks things up.
+/// A trigger counts an event under a key, or does so no more; and where its repair looks things up.
 #[derive(Clone, Copy)]
 pub(crate) struct Act<'a> {
     pub(crate) scene: Scene<'a>,

@@ -2,22 +2,19 @@
 
 ghost use Rattle.std.specs.Prelude.{◌≡◌, ◌+◌, ◌*◌, ◌≤◌, ◌⊎◌, [], ◌∷◌, Some, Ok, OnOk, option_and_then};
 ghost use Rattle.std.specs.FinMap as map;
-ghost use Rattle.ft_hist.specs.Hit.{hit};
 ghost use Rattle.ft_hist.specs.Steps.{StepsGrow};
 ghost use Rattle.ft_hist.specs.Tests.{count_on, tests_taken};
 ghost use Rattle.ft_pairs.specs.declared.role.Role.TheVariants.{Plain};
-ghost use Rattle.ft_shelves.specs.Changes.{on_insert};
-ghost use Rattle.ft_shelves.specs.Counts.{TestsNone, PutsAtMost};
+ghost use Rattle.ft_shelves.specs.Counts.{TestsNone};
 ghost use Rattle.ft_shelves.specs.Shelves.{FormsStay, role_on};
 ghost use Rattle.ft_shelves.specs.declared.sign.Sign.TheVariants.{Retract};
 ghost use Rattle.ft_kept.specs.Acts.{Acts};
 ghost use Rattle.ft_kept.specs.Bounds.{SaverMoves, SomeSaverMoves, OtherSaversStay};
 ghost use Rattle.ft_kept.specs.Changes.{HasToldFew};
-ghost use Rattle.ft_kept.specs.Input.{input_of, AreViews};
+ghost use Rattle.ft_kept.specs.Input.{MayApply, MayApplyTo, input_in};
 ghost use Rattle.ft_kept.specs.Memory.{ActsPlainly, AllActPlainly};
-ghost use Rattle.ft_kept.specs.Repairs.{IsHeldAt};
-ghost use Rattle.ft_kept.specs.Signs.{event_before, event_after, table_edit, NeedsNoMemory, NeedsNoMemoryAt};
-ghost use Rattle.ft_kept.specs.Views.{HasAt, act_under, set, triggers_of, with_event};
+ghost use Rattle.ft_kept.specs.Signs.{event_after, table_edit, NeedsNoMemory, NeedsNoMemoryAt};
+ghost use Rattle.ft_kept.specs.Views.{AreViewsOf, act_under, set, triggers_of, with_event};
 ghost use Rattle.ft_kept.specs.inner.Changing.{MayChange, HasChanged, HasToldAct};
 
 use crate::act::{Act, Attached, Delta, Scene};
@@ -30,12 +27,8 @@ use ft_pairs::{At, Role};
 use std::alloc::AllocError;
 
 impl Tables {
-    /// An event that is held is put in or taken away at each trigger that it is a hit of, in order
-    /// of id, and what that changes is told after what was. Afterwards the tables are views of the
-    /// same input except for that event. Tests it against the triggers on its name alone. Refused
-    /// for memory, and then the tables are of no use any more: an event that is put in takes none
-    /// where no trigger hits it, and one that is taken away takes none, except for what is told,
-    /// where triggers without a variable alone hit it.
+    /// Puts a held event in or takes it away at each trigger that it is a hit of, in order of id, and
+    /// records what that changes. Refused for memory, and then the tables are of no use any more.
     pub fn apply(
         &mut self,
         scene: &Scene<'_>,
@@ -43,15 +36,11 @@ impl Tables {
         changes: &mut Changes,
         work: &mut Work,
     ) -> Result<(), AllocError>
-        requires views { AreViews (triggers_of scene.now) scene.now.lanes.now self.old }
-        requires held { IsHeldAt scene.now.lanes.now delta.now.pos delta.now.event.now }
-        requires before { HasAt (triggers_of scene.now) (input_of scene.now.lanes.now self.old)
-            delta.now.pos (event_before delta.now.sign delta.now.event.now) }
+        requires { MayApply scene.now delta.now self.old }
         ensures forms { OnOk result (FormsStay self.old self.new) }
-        ensures views { OnOk result (AreViews (triggers_of scene.now) scene.now.lanes.now self.new) }
-        ensures input { OnOk result (input_of scene.now.lanes.now self.new
-            ≡ with_event (triggers_of scene.now) (input_of scene.now.lanes.now self.old)
-            delta.now.pos (event_after delta.now.sign delta.now.event.now)) }
+        ensures views { OnOk result (AreViewsOf (triggers_of scene.now) scene.now.lanes.now
+            (with_event (triggers_of scene.now) (input_in scene.now self.old) delta.now.pos
+            (event_after delta.now.sign delta.now.event.now)) self.new) }
         ensures told { OnOk result (HasToldFew (map.entries (triggers_of scene.now))
             changes.old changes.new self.old self.new) }
         ensures evals { work.new.evals
@@ -73,10 +62,7 @@ impl Tables {
         Ok(())
     }
 
-    /// An event that is held is put in or taken away at one attached trigger, where it is a hit of
-    /// it, and what that changes is told after what was. Afterwards the tables are views of the same
-    /// input except at that place. Tests the event where the trigger is on its name alone. Refused
-    /// for memory, and then the tables are of no use any more.
+    /// Does what `apply` does, at one attached trigger.
     pub fn apply_to(
         &mut self,
         scene: &Scene<'_>,
@@ -85,22 +71,13 @@ impl Tables {
         changes: &mut Changes,
         work: &mut Work,
     ) -> Result<(), AllocError>
-        requires views { AreViews (triggers_of scene.now) scene.now.lanes.now self.old }
-        requires attached { map.get (triggers_of scene.now) attached.now.id
-            ≡ Some attached.now.trigger.now }
-        requires held { IsHeldAt scene.now.lanes.now delta.now.pos delta.now.event.now }
-        requires before { input_of scene.now.lanes.now self.old
-            (record { pos = delta.now.pos; trigger = attached.now.id })
-            ≡ option_and_then (act_under attached.now.trigger.now)
-            (event_before delta.now.sign delta.now.event.now) }
+        requires { MayApplyTo scene.now attached.now delta.now self.old }
         ensures forms { OnOk result (FormsStay self.old self.new) }
         ensures savers { OnOk result (OtherSaversStay attached.now.id self.old self.new) }
-        ensures views { OnOk result (AreViews (triggers_of scene.now) scene.now.lanes.now self.new) }
-        ensures input { OnOk result (input_of scene.now.lanes.now self.new
-            ≡ set (input_of scene.now.lanes.now self.old)
-            (record { pos = delta.now.pos; trigger = attached.now.id })
+        ensures views { OnOk result (AreViewsOf (triggers_of scene.now) scene.now.lanes.now
+            (set (input_in scene.now self.old) (record { pos = delta.now.pos; trigger = attached.now.id })
             (option_and_then (act_under attached.now.trigger.now)
-            (event_after delta.now.sign delta.now.event.now))) }
+            (event_after delta.now.sign delta.now.event.now))) self.new) }
         ensures told { OnOk result (HasToldFew ((attached.now.id, attached.now.trigger.now) ∷ [])
             changes.old changes.new self.old self.new) }
         ensures evals { work.new.evals
@@ -133,8 +110,7 @@ impl Tables {
     }
 }
 
-/// An act of a trigger comes or goes. Refused for memory, which one of a trigger without a variable
-/// takes none of as it goes.
+/// An act of a trigger comes or goes. Refused for memory.
 fn change_act(
     tables: &mut Tables,
     act: &Act<'_>,
@@ -142,8 +118,7 @@ fn change_act(
     work: &mut Work,
 ) -> Result<(), AllocError>
     ghost acts: { Acts }
-    requires may { MayChange act.now acts (role_on tables.old act.now.at.trigger) tables.old }
-    requires hit { hit act.now.trigger.now act.now.event.now ≡ Some act.now.key }
+    requires { MayChange act.now acts tables.old }
     ensures changed { OnOk result (HasChanged act.now acts tables.old tables.new) }
     ensures told { OnOk result (HasToldAct act.now changes.old changes.new tables.old tables.new) }
     ensures quiet { role_on tables.old act.now.at.trigger ≡ Plain
@@ -156,33 +131,16 @@ fn change_act(
     ensures work { TestsNone work.old work.new }
 {
     match tables.role(act.at.trigger) {
-        Role::Plain => change_hit(tables, act, changes, work),
         Role::Saves => change_saving(tables, act, changes, work),
         Role::Reads(saver) => change_reading(tables, saver, act, changes, work),
-    }
-}
-
-/// A hit of a trigger without a variable comes or goes. Refused for memory, which one that goes
-/// takes none of.
-pub(crate) fn change_hit(
-    tables: &mut Tables,
-    act: &Act<'_>,
-    changes: &mut Changes,
-    work: &mut Work,
-) -> Result<(), AllocError>
-    ghost acts: { Acts }
-    requires { MayChange act.now acts Plain tables.old }
-    ensures changed { OnOk result (HasChanged act.now acts tables.old tables.new) }
-    ensures told { OnOk result (HasToldAct act.now changes.old changes.new tables.old tables.new) }
-    ensures quiet { changes.new.readings ≡ changes.old.readings }
-    ensures memory { act.now.sign ≡ Retract → result ≡ Ok tt }
-    ensures work { PutsAtMost (on_insert act.now.sign 1) work.old work.new }
-{
-    changes.tell_key(Whose::Trigger(act.at.trigger), act.key);
-    let change = hit_change(act);
-    match tables.shelf_mut(act.at.trigger) {
-        Some(shelf) => shelf.change_hit(change, work),
-        // Each attached trigger has a shelf.
-        None => Ok(()),
+        Role::Plain => {
+            changes.record_key(Whose::Trigger(act.at.trigger), act.key);
+            let change = hit_change(act);
+            match tables.shelf_mut(act.at.trigger) {
+                Some(shelf) => shelf.change_hit(change, work),
+                // Each attached trigger has a shelf.
+                None => Ok(()),
+            }
+        }
     }
 }

@@ -11,7 +11,7 @@ ghost use Rattle.ft_pairs.specs.declared.role.Role.TheVariants.{Reads};
 ghost use Rattle.ft_shelves.specs.Counts.{TestsNone};
 ghost use Rattle.ft_shelves.specs.Shelves.{ChangesShelf, kept_on, role_on};
 ghost use Rattle.ft_kept.specs.AtOnce.{HasAllActs, IsBare, MayJoin};
-ghost use Rattle.ft_kept.specs.inner.Joining.{HasOps, IsNoReader, is_other_reader};
+ghost use Rattle.ft_kept.specs.inner.Joining.{HasOps};
 
 use crate::tables::Tables;
 use ft_hist::Work;
@@ -29,10 +29,10 @@ impl Tables {
         let Some(shelf) = self.shelf(id) else {
             return true;
         };
-        shelf.has_no_hits()
+        shelf.table().is_empty()
             && match shelf.role() {
                 Role::Plain => true,
-                Role::Saves => shelf.has_no_ops(),
+                Role::Saves => shelf.ops().is_empty(),
                 Role::Reads(saver) => self.is_only_reader(id, saver),
             }
     }
@@ -46,8 +46,12 @@ impl Tables {
         ensures grow { StepsGrow work.old work.new }
     {
         match self.role(joining.id) {
-            Role::Plain | Role::Saves => hits_come(self, joining, work),
             Role::Reads(saver) => readings_come(self, joining, saver, work),
+            Role::Plain | Role::Saves => match self.shelf_mut(joining.id) {
+                Some(shelf) => shelf.join(joining, work),
+                // Each attached trigger has a shelf.
+                None => Ok(()),
+            },
         }
     }
 
@@ -68,7 +72,7 @@ impl Tables {
         ensures { IsTrue result → (other : ℕ) → role_on self.now other ≡ Reads saver → other ≡ id }
     {
         for (other, shelf) in entries(&self.shelves) {
-            if is_other_reader(id, saver, *other, shelf.role()) {
+            if *other != id && shelf.role() == Role::Reads(saver) {
                 return false;
             }
         }
@@ -76,37 +80,7 @@ impl Tables {
     }
 }
 
-/// Whether a trigger with a role is another than one with an id, and reads what a saver saves.
-fn is_other_reader(id: u32, saver: u32, other: u32, role: Role) -> bool
-    ensures { result ≡ is_other_reader id saver other role }
-{
-    match role {
-        Role::Reads(read) => read == saver && other != id,
-        Role::Plain | Role::Saves => false,
-    }
-}
-
-/// All hits of a trigger come that reads nothing, and with a saver's what they save. Refused for
-/// memory.
-fn hits_come(
-    tables: &mut Tables,
-    joining: &Joining<'_, '_>,
-    work: &mut Work,
-) -> Result<(), AllocError>
-    requires unread { IsNoReader (role_on tables.old joining.now.id) }
-    requires joins { MayJoin joining.now tables.old }
-    ensures joined { OnOk result (HasAllActs joining.now tables.old tables.new) }
-    ensures work { TestsNone work.old work.new }
-{
-    match tables.shelf_mut(joining.id) {
-        Some(shelf) => shelf.join(joining, work),
-        // Each attached trigger has a shelf.
-        None => Ok(()),
-    }
-}
-
-/// All readings of a reader come: their reads stand among the operations on what they read, and
-/// those that found something are hits. Refused for memory.
+/// All readings of a reader come. Refused for memory.
 fn readings_come(
     tables: &mut Tables,
     joining: &Joining<'_, '_>,

@@ -1,10 +1,11 @@
-//! What a repair changes, told on the way.
+//! What a repair changes, recorded on the way.
 
 ghost use Rattle.std.specs.Prelude.{◌≡◌, [], ◌∷◌, Some, None, option_map};
-ghost use Rattle.ft_kept.specs.Changes.{Told, Tells};
+ghost use Rattle.ft_kept.specs.Changes.{Tells, whose_of};
 
 use ft_changes::ReadingChange;
 use ft_fields::Key;
+use ft_pairs::Role;
 use std::alloc::Global;
 use std::marker::Model;
 
@@ -17,6 +18,18 @@ pub enum Whose {
     ReadersOf(u32),
 }
 
+impl Whose {
+    /// The hits of the trigger with an id, which has this role, are among these.
+    pub(crate) fn of(role: Role, id: u32) -> Whose
+        ensures { result ≡ whose_of role id }
+    {
+        match role {
+            Role::Plain | Role::Saves => Whose::Trigger(id),
+            Role::Reads(saver) => Whose::ReadersOf(saver),
+        }
+    }
+}
+
 /// A key under which hits may have changed.
 #[derive(Clone, Copy, Debug, PartialEq, Eq)]
 pub struct KeyChange {
@@ -26,100 +39,80 @@ pub struct KeyChange {
     pub key: Key,
 }
 
-/// What repairs changed, as far as it is asked for and memory for it is found: the keys under which
-/// hits may have changed, and what readings found before and find now.
+/// A list of changes in the order in which they came, if it is asked for and memory for it is found.
 ///
-/// Contracts see a record of the same fields.
+/// Contracts see the list, or none.
 #[derive(Drop)]
-pub struct Changes {
-    keys: Option<Vec<KeyChange>>,
-    readings: Option<Vec<ReadingChange>>,
+pub struct Log<T> {
+    items: Option<Vec<T>>,
 }
 
-impl Model for Changes {
-    ghost use Rattle.std.specs.Prelude.{option_map};
-    ghost use Rattle.ft_kept.specs.Changes.{Told, told_code};
+impl<T> Model for Log<T> {
+    ghost use Rattle.std.specs.Prelude.{List, Option, option_map};
+    ghost use Rattle.std.specs.Coded.{coded_list, coded_option};
 
-    ghost Value = { Told };
+    ghost Value = { Option (List T) };
 
-    ghost coded = { told_code };
+    ghost coded = { coded_option (coded_list T.code) };
 
-    ghost view = { λ c. record {
-      keys = option_map (λ keys. keys.items) c.keys;
-      readings = option_map (λ readings. readings.items) c.readings;
-    } };
+    ghost view = { λ log. option_map (λ items. items.items) log.items };
+}
+
+impl<T: Drop> Log<T> {
+    /// Asked for from now on. It takes no memory.
+    pub fn new(alloc: Global) -> Log<T>
+        ensures { result ≡ Some [] }
+    {
+        Log {
+            items: Some(Vec::new(alloc)),
+        }
+    }
+
+    /// The changes; none if they weren't asked for, or memory for them ran out.
+    pub fn items(&self) -> Option<&[T]>
+        ensures { option_map (λ items. items.now) result ≡ self.now }
+    {
+        self.items.as_deref()
+    }
+
+    /// Records one more. If memory for it runs out, none are recorded any more.
+    pub(crate) fn add(&mut self, item: T)
+        ensures { Tells (item ∷ []) self.old self.new }
+    {
+        let Some(mut items) = self.items.take() else {
+            return;
+        };
+        if items.push(item).is_ok() {
+            self.items = Some(items);
+        }
+    }
+}
+
+/// What repairs changed.
+#[derive(Drop)]
+pub struct Changes {
+    /// The keys under which hits may have changed.
+    pub keys: Log<KeyChange>,
+    /// What readings found before and find now.
+    pub readings: Log<ReadingChange>,
 }
 
 impl Changes {
-    /// Nothing is asked for, and nothing is told. It takes no memory.
+    /// Nothing is asked for.
     pub fn unasked() -> Changes
         ensures { result ≡ record { keys = None; readings = None } }
     {
         Changes {
-            keys: None,
-            readings: None,
+            keys: Log { items: None },
+            readings: Log { items: None },
         }
     }
 
-    /// Keys are asked for too, from now on. It takes no memory.
-    pub fn with_keys(self, alloc: Global) -> Changes
-        ensures { result ≡ record self { keys = Some [] } }
-    {
-        Changes {
-            keys: Some(Vec::new(alloc)),
-            readings: self.readings,
-        }
-    }
-
-    /// Readings are asked for too, from now on. It takes no memory.
-    pub fn with_readings(self, alloc: Global) -> Changes
-        ensures { result ≡ record self { readings = Some [] } }
-    {
-        Changes {
-            keys: self.keys,
-            readings: Some(Vec::new(alloc)),
-        }
-    }
-
-    /// The keys under which hits may have changed, in the order in which they were told; none where
-    /// they weren't asked for, or memory for them ran out.
-    pub fn keys(&self) -> Option<&[KeyChange]>
-        ensures { option_map (λ keys. keys.now) result ≡ self.now.keys }
-    {
-        self.keys.as_deref()
-    }
-
-    /// The readings that changed, in the order in which they did; none where they weren't asked for,
-    /// or memory for them ran out.
-    pub fn readings(&self) -> Option<&[ReadingChange]>
-        ensures { option_map (λ readings. readings.now) result ≡ self.now.readings }
-    {
-        self.readings.as_deref()
-    }
-
-    /// Tells a key. Where memory for it runs out, no keys are told any more.
-    pub(crate) fn tell_key(&mut self, whose: Whose, key: Key)
+    /// Records a key under which hits may have changed.
+    pub(crate) fn record_key(&mut self, whose: Whose, key: Key)
         ensures keys { Tells (record { whose = whose; key = key } ∷ []) self.old.keys self.new.keys }
         ensures readings { self.new.readings ≡ self.old.readings }
     {
-        let Some(mut keys) = self.keys.take() else {
-            return;
-        };
-        if keys.push(KeyChange { whose, key }).is_ok() {
-            self.keys = Some(keys);
-        }
-    }
-
-    /// Tells how a reading changed. Where memory for it runs out, no readings are told any more.
-    pub(crate) fn tell_reading(&mut self, change: ReadingChange)
-        ensures keys { self.new.keys ≡ self.old.keys }
-        ensures readings { Tells (change ∷ []) self.old.readings self.new.readings }
-    {
-        let Some(mut readings) = self.readings.take() else {
-            return;
-        };
-        if readings.push(change).is_ok() {
-            self.readings = Some(readings);
-        }
+        self.keys.add(KeyChange { whose, key });
     }
 }

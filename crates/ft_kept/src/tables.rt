@@ -5,16 +5,17 @@ ghost use Rattle.std.specs.Borrow.{LendsSo, sem};
 ghost use Rattle.std.specs.FinMap as map;
 ghost use Rattle.std.specs.Option.{option_copied, option_copied_mut};
 ghost use Rattle.ft_pairs.specs.Next.{IsNext};
-ghost use Rattle.ft_pairs.specs.Source.{IsSource};
 ghost use Rattle.ft_pairs.specs.declared.at.Op.TheVariants.{Read};
 ghost use Rattle.ft_shelves.specs.Changes.{is_insert, op_after, set_op};
 ghost use Rattle.ft_shelves.specs.Counts.{PutsAtMost};
 ghost use Rattle.ft_shelves.specs.Edits.{OpsChange};
 ghost use Rattle.ft_shelves.specs.Shelves.{AddsShelf, ChangesShelf, role_on, kept_on};
 ghost use Rattle.ft_shelves.specs.contracts.shelf.Shelf as shelf;
+ghost use Rattle.ft_kept.specs.Signs.{FindsBy};
 ghost use Rattle.ft_kept.specs.contracts.tables.Tables.{the_row};
 ghost use Rattle.ft_kept.specs.inner.Edits.{left_on};
 
+use ft_fields::Pos;
 use ft_hist::Work;
 use ft_maps::{get, put, take};
 use ft_pairs::{At, Op, Role, Variable};
@@ -54,6 +55,11 @@ impl Tables {
             alloc,
             shelves: BTreeMap::new(alloc),
         }
+    }
+
+    /// The allocator of the shelves.
+    pub fn alloc(&self) -> Global {
+        self.alloc
     }
 
     /// Gives a trigger a shelf without hits, in place of any that it has. Refused for memory, and
@@ -99,31 +105,32 @@ impl Tables {
         }
     }
 
-    /// What a reading of a variable finds at a place.
-    pub(crate) fn source(&self, variable: &Variable, at: At) -> Option<At>
-        ensures { IsSource ((kept_on self.now).ops variable.now) at result }
+    /// The place of the saving that a reading finds at a place; one that goes finds none.
+    pub(crate) fn finds(&self, variable: &Variable, at: At, sign: Sign) -> Option<Pos>
+        ensures { FindsBy sign ((kept_on self.now).ops variable.now) at result }
     {
-        match self.shelf(variable.saver) {
-            Some(shelf) => shelf.source(&variable.key, at),
-            None => None,
+        match (sign, self.shelf(variable.saver)) {
+            (Sign::Insert, Some(shelf)) => shelf
+                .ops()
+                .source(&variable.key, at)
+                .map(|saved| saved.pos),
+            (Sign::Insert, None) | (Sign::Retract, _) => None,
         }
     }
 
-    /// The first operation on a variable after a place, or the first of all. After it fewer are
-    /// left than after that place, so that a walk ends.
+    /// The first operation on a variable after a place, or the first of all.
     pub(crate) fn next_op(&self, variable: &Variable, after: Option<At>) -> Option<(At, Op)>
         ensures next { IsNext ((kept_on self.now).ops variable.now) after result }
         ensures fewer { IfSome result (λ next.
             left_on self.now variable.now (Some next.0) < left_on self.now variable.now after) }
     {
         match self.shelf(variable.saver) {
-            Some(shelf) => shelf.next_op(&variable.key, after),
+            Some(shelf) => shelf.ops().next_op(&variable.key, after),
             None => None,
         }
     }
 
-    /// Puts a read of a variable at a place, where no operation stands, or takes the operation there
-    /// away. Refused for memory.
+    /// Puts a read of a variable at a place, or takes the operation there away. Refused for memory.
     pub(crate) fn change_read(
         &mut self,
         variable: &Variable,

@@ -1,6 +1,6 @@
 //! The tables of the triggers that count made events, filled from what is kept of readings.
 
-ghost use Rattle.std.specs.Prelude.{◌≡◌, ℕ, IfOk, map as list_map};
+ghost use Rattle.std.specs.Prelude.{◌≡◌, ℕ, IfOk};
 ghost use Rattle.std.specs.FinMap.{FinMap};
 ghost use Rattle.ft_fields.specs.Places.{pos_cmp};
 ghost use Rattle.ft_fields.specs.declared.pos.Pos.{Pos};
@@ -8,12 +8,11 @@ ghost use Rattle.ft_hist.specs.Steps.{StepsGrow};
 ghost use Rattle.ft_replay.specs.Merged.{merged};
 ghost use Rattle.ft_made.specs.Laws.{MakeNone};
 ghost use Rattle.ft_made.specs.MadeTables.{IsMadeTable, AreInOrder, ArePairsOf, found_in};
-ghost use Rattle.ft_made.specs.inner.First.{first_change, first_changes};
+ghost use Rattle.ft_made.specs.inner.First.{first_changes};
 
-use crate::updating::update_made;
+use crate::updating::Counting;
 use ft_changes::ReadingChange;
-use ft_hist::{Trigger, Triggers, Work};
-use ft_lanes::Lanes;
+use ft_hist::{Trigger, Work};
 use ft_replay::Pair;
 use ft_table::Table;
 use std::alloc::{AllocError, Global};
@@ -31,31 +30,31 @@ pub trait KeptReadings {
         ensures { IfOk result (λ found. found.items ≡ pairs self.now id) };
 }
 
-/// The table of a trigger that counts made events: those that the attached triggers make of held
-/// events, if their readings found what is kept of them. If no trigger makes events, it takes no step.
-/// Refused for memory.
-pub fn made_table<R: KeptReadings>(
-    alloc: Global,
-    lanes: &Lanes,
-    triggers: &Triggers,
-    readings: &R,
-    trigger: &Trigger,
-    work: &mut Work,
-) -> Result<Table, AllocError>
-    requires { AreInOrder triggers.now (R.pairs readings.now) }
-    ensures table { IfOk result (λ table. (found : ℕ → FinMap pos_cmp Pos)
-        → ArePairsOf triggers.now (R.pairs readings.now) found
-        → IsMadeTable triggers.now (merged lanes.now) (found_in found)
-        trigger.now table) }
-    ensures idle { MakeNone triggers.now → work.new ≡ work.old }
-    ensures grow { StepsGrow work.old work.new }
-{
-    let mut table = Table::new(alloc, trigger.size());
-    for (id, maker) in triggers.iter() {
-        let changes = first_changes(alloc, *id, maker, readings)?;
-        update_made(&mut table, lanes, triggers, trigger, &changes, work)?;
+impl Counting<'_> {
+    /// The trigger's table: of the events that the attached triggers make of held events, if their
+    /// readings found what is kept of them. If no trigger makes events, it takes no step. Refused for
+    /// memory.
+    pub fn made_table<R: KeptReadings>(
+        &self,
+        alloc: Global,
+        readings: &R,
+        work: &mut Work,
+    ) -> Result<Table, AllocError>
+        requires { AreInOrder self.now.triggers.now (R.pairs readings.now) }
+        ensures table { IfOk result (λ table. (found : ℕ → FinMap pos_cmp Pos)
+            → ArePairsOf self.now.triggers.now (R.pairs readings.now) found
+            → IsMadeTable self.now.triggers.now (merged self.now.lanes.now) (found_in found)
+            self.now.trigger.now table) }
+        ensures idle { MakeNone self.now.triggers.now → work.new ≡ work.old }
+        ensures grow { StepsGrow work.old work.new }
+    {
+        let mut table = Table::new(alloc, self.trigger.size());
+        for (id, maker) in self.triggers.iter() {
+            let changes = first_changes(alloc, *id, maker, readings)?;
+            self.update_made(&mut table, &changes, work)?;
+        }
+        Ok(table)
     }
-    Ok(table)
 }
 
 /// The changes that lead from nothing to what is kept of a trigger's readings; none if it makes no
@@ -73,13 +72,6 @@ fn first_changes<R: KeptReadings>(
         return Ok(Vec::new(alloc));
     }
     let pairs = readings.pairs_by(id)?;
-    changes_to(alloc, id, &pairs)
-}
-
-/// The changes that lead from nothing to what a trigger's readings found. Refused for memory.
-fn changes_to(alloc: Global, id: u32, pairs: &[Pair]) -> Result<Vec<ReadingChange>, AllocError>
-    ensures { IfOk result (λ changes. changes.items ≡ list_map (first_change id) pairs.now) }
-{
     pairs
         .iter()
         .map(|pair| ReadingChange {

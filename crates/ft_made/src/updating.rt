@@ -15,61 +15,86 @@ use ft_lanes::Lanes;
 use ft_table::{Spot, Table, hit_with};
 use std::alloc::AllocError;
 
-/// Updates the table of a trigger that counts made events from what readings had found to what they
-/// find, one change after the other: the hit of the event that the reading made is taken out, and
-/// that of the event that it makes now is put in. If nothing changed, it takes neither memory nor
-/// steps. Refused for memory, and then the table must not be used.
-pub fn update_made(
-    table: &mut Table,
-    lanes: &Lanes,
-    triggers: &Triggers,
-    trigger: &Trigger,
-    changes: &[ReadingChange],
-    work: &mut Work,
-) -> Result<(), AllocError>
-    requires { CanUpdate triggers.now (merged lanes.now) changes.now trigger.now
-        table.old }
-    ensures updated { OnOk result (IsUpdated triggers.now (merged lanes.now)
-        changes.now trigger.now table.old table.new) }
-    ensures idle { changes.now ≡ []
-        → (result ≡ Ok tt) × ((table.new ≡ table.old) × (work.new ≡ work.old)) }
-    ensures grow { StepsGrow work.old work.new }
-{
-    for change in changes {
-        let before = made_of_change(lanes, triggers, change, change.before);
-        let after = made_of_change(lanes, triggers, change, change.after);
-        let spot = Spot {
-            pos: change.pos,
-            maker: change.id,
-        };
-        take_made(table, trigger, spot, before, work);
-        put_made(table, trigger, spot, after, work)?;
-    }
-    Ok(())
+/// A trigger that counts made events, and what these are made of.
+#[derive(Clone, Copy)]
+pub struct Counting<'a> {
+    /// The lanes of held events.
+    pub lanes: &'a Lanes,
+    /// The attached triggers, which make events of their readings.
+    pub triggers: &'a Triggers,
+    /// The trigger that counts these.
+    pub trigger: &'a Trigger,
 }
 
-/// Adds the keys under which a trigger counts what changed readings make: of the events that they made
-/// of what they had found, and of those that they make of what they find, one for each event. Hits
-/// under other keys stay when the trigger's table is updated. Refused for memory.
-pub fn put_changed_keys(
-    keys: &mut Vec<Key>,
-    lanes: &Lanes,
-    triggers: &Triggers,
-    trigger: &Trigger,
-    changes: &[ReadingChange],
-    work: &mut Work,
-) -> Result<(), AllocError>
-    ensures keys { OnOk result (keys.new.items ≡ keys.old.items
-        ++ changed_keys triggers.now (merged lanes.now) trigger.now changes.now) }
-    ensures grow { StepsGrow work.old work.new }
-{
-    for change in changes {
-        let before = made_of_change(lanes, triggers, change, change.before);
-        let after = made_of_change(lanes, triggers, change, change.after);
-        put_key(keys, trigger, before, work)?;
-        put_key(keys, trigger, after, work)?;
+impl Counting<'_> {
+    /// Updates the table of a trigger that counts made events from what readings had found to what they
+    /// find, one change after the other: the hit of the event that the reading made is taken out, and
+    /// that of the event that it makes now is put in. If nothing changed, it takes neither memory nor
+    /// steps. Refused for memory, and then the table must not be used.
+    pub fn update_made(
+        &self,
+        table: &mut Table,
+        changes: &[ReadingChange],
+        work: &mut Work,
+    ) -> Result<(), AllocError>
+        requires { CanUpdate self.now.triggers.now (merged self.now.lanes.now) changes.now self.now.trigger.now
+            table.old }
+        ensures updated { OnOk result (IsUpdated self.now.triggers.now (merged self.now.lanes.now)
+            changes.now self.now.trigger.now table.old table.new) }
+        ensures idle { changes.now ≡ []
+            → (result ≡ Ok tt) × ((table.new ≡ table.old) × (work.new ≡ work.old)) }
+        ensures grow { StepsGrow work.old work.new }
+    {
+        for change in changes {
+            let before = self.made_of_change(change, change.before);
+            let after = self.made_of_change(change, change.after);
+            let spot = Spot {
+                pos: change.pos,
+                maker: change.id,
+            };
+            take_made(table, self.trigger, spot, before, work);
+            put_made(table, self.trigger, spot, after, work)?;
+        }
+        Ok(())
     }
-    Ok(())
+
+    /// Adds the keys under which a trigger counts what changed readings make: of the events that they made
+    /// of what they had found, and of those that they make of what they find, one for each event. Hits
+    /// under other keys stay when the trigger's table is updated. Refused for memory.
+    pub fn put_changed_keys(
+        &self,
+        keys: &mut Vec<Key>,
+        changes: &[ReadingChange],
+        work: &mut Work,
+    ) -> Result<(), AllocError>
+        ensures keys { OnOk result (keys.new.items ≡ keys.old.items
+            ++ changed_keys self.now.triggers.now (merged self.now.lanes.now) self.now.trigger.now changes.now) }
+        ensures grow { StepsGrow work.old work.new }
+    {
+        for change in changes {
+            let before = self.made_of_change(change, change.before);
+            let after = self.made_of_change(change, change.after);
+            put_key(keys, self.trigger, before, work)?;
+            put_key(keys, self.trigger, after, work)?;
+        }
+        Ok(())
+    }
+
+    /// The event that a changed reading makes if it finds this saving, or none: it has the place's stamp.
+    /// If it finds none, or its trigger has no onmatch part, no event is looked up.
+    fn made_of_change(&self, change: &ReadingChange, found: Option<Pos>) -> Option<Event>
+        ensures made { result ≡ made_as self.now.triggers.now (merged self.now.lanes.now) change.now found }
+        ensures stamped { IfSome result (λ made. change.now.pos.stamp ≡ made.stamp) }
+    {
+        let maker = self.triggers.get(change.id)?;
+        maker.onmatch()?;
+        let saved = found?;
+        let event = self
+            .lanes
+            .get(change.pos.cpu, change.pos.line)
+            .filter(|event| event.stamp == change.pos.stamp)?;
+        maker.made(&event, saved)
+    }
 }
 
 /// Adds to keys the one under which a trigger counts an event, if one was made and is a hit.
@@ -139,24 +164,4 @@ pub fn take_made(
     if let Some(key) = trigger.key_of(&made, work) {
         table.remove(spot, key);
     }
-}
-
-/// The event that a changed reading makes if it finds this saving, or none: it has the place's stamp.
-/// If it finds none, or its trigger has no onmatch part, no event is looked up.
-fn made_of_change(
-    lanes: &Lanes,
-    triggers: &Triggers,
-    change: &ReadingChange,
-    found: Option<Pos>,
-) -> Option<Event>
-    ensures made { result ≡ made_as triggers.now (merged lanes.now) change.now found }
-    ensures stamped { IfSome result (λ made. change.now.pos.stamp ≡ made.stamp) }
-{
-    let maker = triggers.get(change.id)?;
-    maker.onmatch()?;
-    let saved = found?;
-    let event = lanes
-        .get(change.pos.cpu, change.pos.line)
-        .filter(|event| event.stamp == change.pos.stamp)?;
-    maker.made(&event, saved)
 }

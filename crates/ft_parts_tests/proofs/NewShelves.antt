@@ -27,7 +27,7 @@ use Rattle.ft_kept.specs.Acts.{acts_of}
 use Rattle.ft_kept.specs.Entries.{IsEntry, IsKept, hits_here, read_here}
 use Rattle.ft_kept.specs.Repairs.{AreShelved}
 use Rattle.ft_kept.specs.Shelves.{Shelved, Shelves, Readings, IsNewShelf, AddsShelf, role_on, admits_on, kept_on}
-use Rattle.ft_kept.proofs.Events.{has_at}
+use Rattle.ft_kept.proofs.Views.{has_at}
 use Rattle.ft_kept.proofs.Forms.{by_id, role_at, same_role}
 use Rattle.ft_kept.proofs.Staleness.{op_absent}
 use Rattle.ft_parts_tests.specs.Trial.{AreRight}
@@ -132,7 +132,7 @@ module _ (triggers : Triggers) (lanes : Lanes) (shelves : Shelves) (new : AreNew
     held = λ pos event is. let both : ◌≡◌ {A = Option Traced} None (Some event) = sym (get-empty {X = Traced} pos_cmp pos) ∙ is in absurd cc;
     views = record {
       shelved = new.shelved;
-      held = λ at key event is. let both : ◌≡◌ {A = Option (List Part × Traced)} None (Some (key, event)) = sym (no_act at) ∙ is in absurd cc;
+      held = λ at act is. let both : ◌≡◌ {A = Option (List Part × Traced)} None (Some act) = sym (no_act at) ∙ is in absurd cc;
       kept = none_kept;
     };
   }

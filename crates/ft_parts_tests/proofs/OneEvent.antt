@@ -17,12 +17,12 @@ use Rattle.ft_shelves.specs.Changes.{is_insert}
 use Rattle.ft_shelves.specs.declared.sign.Sign.{Sign}
 use Rattle.ft_shelves.specs.declared.sign.Sign.TheVariants.{Insert, Retract}
 use Rattle.ft_kept.specs.Acts.{Acts, acts_of}
-use Rattle.ft_kept.specs.Input.{AreViews, input_of}
+use Rattle.ft_kept.specs.Input.{input_of}
 use Rattle.ft_kept.specs.Repairs.{IsHeldAt}
 use Rattle.ft_kept.specs.Shelves.{Shelves}
 use Rattle.ft_kept.specs.Signs.{event_before, event_after}
 use Rattle.ft_kept.specs.Views.{AreViewsOf, HasAt, with_event}
-use Rattle.ft_kept.proofs.Events.{has_at, set_event}
+use Rattle.ft_kept.proofs.Views.{has_at, set_event}
 use Rattle.ft_kept.proofs.Input.{acts_are}
 use Rattle.ft_parts_tests.specs.Trial.{AreRight}
 
@@ -54,16 +54,16 @@ module _ (triggers : Triggers) (lanes : Lanes) (events : FinMap pos_cmp Traced) 
       by Retract (Some e) apart own = ap (λ x. Some x) (own e refl)
 
   module _ (was : map.get events pos ≡ event_before sign event) where
-    told : input_of lanes old ≡ acts_of triggers events
+    told : input_of triggers lanes old ≡ acts_of triggers events
     told = acts_are triggers lanes (acts_of triggers events) old right.views
 
-    pub has_before : HasAt triggers (input_of lanes old) pos (event_before sign event)
+    pub has_before : HasAt triggers (input_of triggers lanes old) pos (event_before sign event)
     has_before = subst (λ (acts : Acts). HasAt triggers acts pos (event_before sign event)) (sym told) (has_at triggers events pos (event_before sign event) was)
 
     -- and afterwards all is right
     pub right_after : (after : FinMap pos_cmp Traced) → map.get after pos ≡ event_after sign event → ((q : Pos) → eq_by_cmp pos_cmp q pos ≡ false → map.get after q ≡ map.get events q)
-        → (new : Shelves) → AreViews triggers lanes new → input_of lanes new ≡ with_event triggers (input_of lanes old) pos (event_after sign event) → AreRight triggers lanes after new
-    right_after after here apart new views input = record {
+        → (new : Shelves) → AreViewsOf triggers lanes (with_event triggers (input_of triggers lanes old) pos (event_after sign event)) new → AreRight triggers lanes after new
+    right_after after here apart new views = record {
       held = λ q own is. elim (eq_by_cmp pos_cmp q pos) as (λ (b : Bool). eq_by_cmp pos_cmp q pos ≡ b → IsHeldAt lanes q own) [
         | true ↦ λ tie.
             let same : q ≡ pos = same_from_tie pos_same q pos tie in
@@ -71,7 +71,7 @@ module _ (triggers : Triggers) (lanes : Lanes) (events : FinMap pos_cmp Traced) 
         | false ↦ λ other. right.held q own (sym (apart q other) ∙ is)
       ] refl;
       views = subst (λ (acts : Acts). AreViewsOf triggers lanes acts new)
-          (input ∙ ap (λ (acts : Acts). with_event triggers acts pos (event_after sign event)) told ∙ set_event triggers events after pos (event_after sign event) here apart) views;
+          (ap (λ (acts : Acts). with_event triggers acts pos (event_after sign event)) told ∙ set_event triggers events after pos (event_after sign event) here apart) views;
     }
       where
         by : (w : Sign) (own : Traced) → event_after w event ≡ Some own → IsHeldAt lanes pos own

@@ -1,38 +1,37 @@
 -- What is kept of all triggers but one, where their shelves stay as they are.
-use Rattle.std.proofs.Common.{◌≡◌, ℕ, Bool, true, false, cond, List, [], refl, sym, ap, subst, ◌∙◌, Option, Some, None, ⊎_elim}
+use Rattle.std.proofs.Common.{◌≡◌, ℕ, Bool, true, false, cond, List, [], refl, sym, ap, subst, ◌∙◌, Option, Some, None}
 use Rattle.std.specs.Prelude.{ℤ, option_map, option_and_then}
-use Rattle.std.specs.Option.{option_map_or}
-use Rattle.std.specs.Ordering.{eq_by_cmp}
-use Rattle.std.specs.Cmp.{nat_cmp_total}
 use Rattle.std.specs.FinMap as map
-use Rattle.std.specs.FinMap.{same_map, nat_cmp-IsAntisymmetric}
-use Rattle.std.proofs.lemmas.Bool.{cases_eq}
-use Rattle.ft_fields.specs.Traced.{Traced}
-use Rattle.ft_fields.specs.declared.pos.Pos.{Pos}
-use Rattle.ft_hist.specs.Hist.{Hist}
-use Rattle.ft_fields.specs.declared.key.Part.{Part}
-use Rattle.ft_maps.specs.Entries.{get-remove_same, get-remove_other, same_from_tie}
 use Rattle.ft_pairs.specs.Source.{Ops}
-use Rattle.ft_pairs.specs.declared.at.At.{At}
 use Rattle.ft_pairs.specs.declared.at.Op.{Op}
 use Rattle.ft_pairs.specs.declared.at.Op.TheVariants.{Save, Read}
-use Rattle.ft_table.specs.Spots.{traced}
-use Rattle.ft_kept.specs.Acts.{Acts, acts_of, op_of}
-use Rattle.ft_kept.specs.Entries.{HitsHere, Finds, IsEntry, IsRight, hits_here, one_hit, read_here}
-use Rattle.ft_pairs.specs.Roles.{Admits, op_as}
-use Rattle.ft_kept.specs.Shelves.{Shelved, Shelves, Kept, admits_on, kept_on}
-use Rattle.ft_table.specs.Values.{ValuesBy, values_at, values_by}
 use Rattle.ft_pairs.specs.Variables.{variable_cmp, variable_cmp_total, variable_same}
-use Rattle.ft_shelves.proofs.Decided.{untied}
-use Rattle.ft_pairs.specs.declared.role.Role.{Role}
-use Rattle.ft_pairs.specs.declared.role.Role.TheVariants.{Plain, Saves, Reads}
-use Rattle.ft_pairs.specs.declared.role.Variable.{Variable}
-use Rattle.ft_base.specs.Base.{Triggers}
-use Rattle.ft_replay.specs.Merged.{Events}
-use Rattle.ft_repair.specs.KeptShelves.{HasItsShelf}
-use Rattle.ft_base.specs.Roles.{role_of, role_at}
 use Rattle.ft_kept.proofs.Forms.{same_admits, same_hits, same_read}
 pub use Rattle.ft_kept.proofs.Forms.{same_ops}
+use Rattle.ft_base.specs.Base.{Triggers}
+use Rattle.ft_base.specs.Roles.{role_at, role_of}
+use Rattle.ft_fields.specs.Traced.{Traced}
+use Rattle.ft_fields.specs.declared.key.Part.{Part}
+use Rattle.ft_fields.specs.declared.pos.Pos.{Pos}
+use Rattle.ft_hist.specs.Hist.{Hist}
+use Rattle.ft_kept.specs.Acts.{Acts, acts_of, op_of}
+use Rattle.ft_kept.specs.Entries.{Finds, hits_here, HitsHere, IsEntry, IsRight, one_hit, read_here}
+use Rattle.ft_kept.specs.Shelves.{admits_on, Kept, kept_on, Shelved, Shelves}
+use Rattle.ft_maps.specs.Entries.{get-remove_other, get-remove_same, same_from_tie}
+use Rattle.ft_pairs.specs.Roles.{Admits, op_as}
+use Rattle.ft_pairs.specs.declared.at.At.{At}
+use Rattle.ft_pairs.specs.declared.role.Role.{Role}
+use Rattle.ft_pairs.specs.declared.role.Role.TheVariants.{Plain, Reads, Saves}
+use Rattle.ft_pairs.specs.declared.role.Variable.{Variable}
+use Rattle.ft_repair.specs.KeptShelves.{HasItsShelf}
+use Rattle.ft_replay.specs.Merged.{Events}
+use Rattle.ft_shelves.proofs.Decided.{untied}
+use Rattle.ft_table.specs.Spots.{traced}
+use Rattle.ft_table.specs.Values.{values_at, values_by, ValuesBy}
+use Rattle.std.specs.Cmp.{nat_cmp_total}
+use Rattle.std.specs.FinMap.{nat_cmp-IsAntisymmetric}
+use Rattle.std.specs.Option.{option_map_or}
+use Rattle.std.specs.Ordering.{eq_by_cmp}
 use Rattle.ft_repair.proofs.KeptFor.{act_in}
 
 -- ---- acts
@@ -169,13 +168,6 @@ module _ (triggers : Triggers) (id : ℕ) where
 
   pub rest_none : (other : ℕ) → other ≡ id → map.get rest other ≡ None
   rest_none other same = ap (map.get rest) same ∙ get-remove_same nat_cmp_total triggers id
-
-  -- where it is not attached, the others are all
-  pub rest_all : map.get triggers id ≡ None → rest ≡ triggers
-  rest_all none = same_map nat_cmp_total nat_cmp-IsAntisymmetric rest triggers (λ q. ⊎_elim
-      (λ same. rest_none q same ∙ sym (ap (map.get triggers) same ∙ none))
-      (rest_same q)
-      (cases_eq q id))
 
   -- the one has no acts among those of the others
   pub rest_no_act : (events : Events) (at : At) → at.trigger ≡ id → acts_of rest events at ≡ None

@@ -1,35 +1,35 @@
 -- The events of a list come to what is kept, or go from it, one by one, at all triggers or at one.
 use Rattle.std.proofs.Common.{◌≡◌, ℕ, Bool, true, false, cond, List, [], ◌∷◌, refl, sym, ap, subst, ◌∙◌, Option, Some, None, is_some}
 use Rattle.std.specs.Prelude.{◌&&◌, if◌then◌else◌, option_and_then}
-use Rattle.std.specs.List.{AllByRecursion, IsDistinct}
-use Rattle.std.specs.Map.{keys_of}
-use Rattle.std.specs.Cmp.{tied_then, unsigned_tied}
-use Rattle.std.specs.Ordering.{nat_cmp, eq_by_cmp}
+use Rattle.std.specs.List.{IsDistinct, AllByRecursion}
 use Rattle.std.specs.FinMap as map
-use Rattle.std.specs.FinMap.{find}
-use Rattle.std.proofs.lemmas.Bool.{eq-eqb, eqb-true}
 use Rattle.std.proofs.lemmas.Map.Keys.{IsDistinct-head, IsDistinct-tail}
+use Rattle.ft_kept.specs.Views.{AreViewsOf, set, with_some, act_by_id, act_under}
+use Rattle.ft_kept.proofs.Views.{attached_act, views_as}
+use Rattle.ft_shelves.proofs.Decided.{itself}
+use Rattle.ft_pairs.specs.Edits.{same_at}
+use Rattle.ft_base.specs.Base.{Triggers}
 use Rattle.ft_fields.specs.Places.{pos_cmp, pos_cmp_total, pos_same}
 use Rattle.ft_fields.specs.Traced.{Traced}
+use Rattle.ft_fields.specs.declared.key.Part.{Part}
 use Rattle.ft_fields.specs.declared.pos.Pos.{Pos}
 use Rattle.ft_hist.specs.Hist.{Hist}
-use Rattle.ft_fields.specs.declared.key.Part.{Part}
 use Rattle.ft_kept.specs.Acts.{Acts}
-use Rattle.ft_kept.specs.Input.{input_of, AreViews}
+use Rattle.ft_kept.specs.Input.{AreViews, input_of}
 use Rattle.ft_kept.specs.Repairs.{IsHeldAt}
-use Rattle.ft_kept.specs.Shelves.{Shelves, FormsStay}
-use Rattle.ft_kept.specs.Signs.{event_before, event_after}
-use Rattle.ft_kept.specs.Views.{act_by_id, act_under, set, with_some}
-use Rattle.ft_kept.proofs.Views.{attached_act}
-use Rattle.ft_shelves.specs.declared.sign.Sign.{Sign}
-use Rattle.ft_shelves.proofs.Decided.{itself}
+use Rattle.ft_kept.specs.Shelves.{FormsStay, Shelves}
+use Rattle.ft_kept.specs.Signs.{event_after, event_before}
 use Rattle.ft_lanes.specs.Held.{Lanes}
 use Rattle.ft_maps.specs.Entries.{same_from_tie}
-use Rattle.ft_pairs.specs.Edits.{same_at}
 use Rattle.ft_pairs.specs.declared.at.At.{At}
-use Rattle.ft_base.specs.Base.{Triggers}
-use Rattle.ft_repair.specs.inner.Joining.{is_one}
 use Rattle.ft_repair.specs.KeptFor.{AreKeptFor}
+use Rattle.ft_repair.specs.inner.Joining.{is_one}
+use Rattle.ft_shelves.specs.declared.sign.Sign.{Sign}
+use Rattle.std.proofs.lemmas.Bool.{eq-eqb, eqb-true}
+use Rattle.std.specs.Cmp.{tied_then, unsigned_tied}
+use Rattle.std.specs.FinMap.{find}
+use Rattle.std.specs.Map.{keys_of}
+use Rattle.std.specs.Ordering.{eq_by_cmp, nat_cmp}
 use Rattle.ft_repair.proofs.KeptFor.{changed_for, input_is, views_of}
 
 -- an input on the way: at some places the first one, elsewhere the last one
@@ -88,7 +88,7 @@ module _ {triggers : Triggers} {lanes : Lanes} {mine : ℕ → Bool} {sign : Sig
     abbrev later : Acts
     later = between first last (left_of mine rest)
 
-    tells : input_of lanes old ≡ now
+    tells : input_of triggers lanes old ≡ now
     tells = input_is triggers lanes now old is.kept
 
     -- the next one can come or go
@@ -98,7 +98,7 @@ module _ {triggers : Triggers} {lanes : Lanes} {mine : ℕ → Bool} {sign : Sig
     pub next_held : IsHeldAt lanes e.0 e.1
     next_held = is.changes.0.held
 
-    pub next_before : (id : ℕ) → mine id ≡ true → input_of lanes old (record { pos = e.0; trigger = id }) ≡ act_by_id triggers id (event_before sign e.1)
+    pub next_before : (id : ℕ) → mine id ≡ true → input_of triggers lanes old (record { pos = e.0; trigger = id }) ≡ act_by_id triggers id (event_before sign e.1)
     next_before id own =
         let at : At = record { pos = e.0; trigger = id } in
         ap (λ (input : Acts). input at) tells
@@ -128,9 +128,10 @@ module _ {triggers : Triggers} {lanes : Lanes} {mine : ℕ → Bool} {sign : Sig
         by false true apart own = refl
         by false false apart other = refl
 
-    pub changing_fewer : (new : Shelves) → FormsStay old new → AreViews triggers lanes new → input_of lanes new ≡ with_some triggers (input_of lanes old) e.0 (event_after sign e.1) mine → IsChanging triggers lanes mine sign first last rest new
-    changing_fewer new forms views gives = record {
-      kept = changed_for triggers lanes later old new is.kept.each forms views (gives ∙ ap (λ (input : Acts). with_some triggers input e.0 (event_after sign e.1) mine) tells ∙ (λ i q. changed_at q i));
+    pub changing_fewer : (new : Shelves) → FormsStay old new → AreViewsOf triggers lanes (with_some triggers (input_of triggers lanes old) e.0 (event_after sign e.1) mine) new → IsChanging triggers lanes mine sign first last rest new
+    changing_fewer new forms views = record {
+      kept = changed_for triggers lanes later old new is.kept.each forms
+          (views_as triggers lanes _ later new (ap (λ (input : Acts). with_some triggers input e.0 (event_after sign e.1) mine) tells ∙ (λ i q. changed_at q i)) views);
       changes = is.changes.1;
       apart = IsDistinct-tail (eq_by_cmp pos_cmp) e.0 (keys_of rest) is.apart;
     }
@@ -162,10 +163,10 @@ module _ (triggers : Triggers) (id : ℕ) (hist : Hist) (attached : map.get trig
 
 module _ {triggers : Triggers} (id : ℕ) {hist : Hist} (attached : map.get triggers id ≡ Some hist)
     {lanes : Lanes} {sign : Sign} {first last : Acts} {e : Pos × Traced} {rest : List (Pos × Traced)} {old : Shelves} (is : IsChanging triggers lanes (is_one id) sign first last (e ∷ rest) old) where
-  pub its_before : input_of lanes old (record { pos = e.0; trigger = id }) ≡ option_and_then (act_under hist) (event_before sign e.1)
+  pub its_before : input_of triggers lanes old (record { pos = e.0; trigger = id }) ≡ option_and_then (act_under hist) (event_before sign e.1)
   its_before = next_before is id (eq-eqb id id refl) ∙ attached_act triggers id hist attached (event_before sign e.1)
 
-  pub its_fewer : (new : Shelves) → FormsStay old new → AreViews triggers lanes new
-      → input_of lanes new ≡ set (input_of lanes old) (record { pos = e.0; trigger = id }) (option_and_then (act_under hist) (event_after sign e.1)) → IsChanging triggers lanes (is_one id) sign first last rest new
-  its_fewer new forms views gives =
-      changing_fewer is new forms views (gives ∙ set_alone triggers id hist attached (input_of lanes old) e.0 (event_after sign e.1))
+  pub its_fewer : (new : Shelves) → FormsStay old new → AreViewsOf triggers lanes (set (input_of triggers lanes old) (record { pos = e.0; trigger = id }) (option_and_then (act_under hist) (event_after sign e.1))) new
+      → IsChanging triggers lanes (is_one id) sign first last rest new
+  its_fewer new forms views =
+      changing_fewer is new forms (views_as triggers lanes _ _ new (set_alone triggers id hist attached (input_of triggers lanes old) e.0 (event_after sign e.1)) views)

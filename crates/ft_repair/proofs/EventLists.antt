@@ -1,72 +1,71 @@
 -- Lists of events that come to what is kept or go from it: those on one trigger's name, those of new lanes, and those of a lane.
-use Rattle.std.proofs.Common.{◌≡◌, ◌+◌, ◌<◌, ℕ, List, ◌∷◌, drop, get_or, length, sym, ap, ◌∙◌, Bool, true, false, cond, [], refl, Option, Some, None, is_some, unwrap_or, ⊎_elim, option_map}
+use Rattle.std.proofs.Common.{subst, ◌≡◌, ◌+◌, ◌<◌, ℕ, List, ◌∷◌, drop, get_or, length, sym, ap, ◌∙◌, Bool, true, false, cond, [], refl, Option, Some, None, is_some, unwrap_or, ⊎_elim, option_map}
 use Rattle.std.specs.Prelude.{◌&&◌, option_and_then, option_map, if◌then◌else◌, IsPermutation, ◌||◌, not, map as list_map}
-use Rattle.std.specs.List.{AllByRecursion, IsDistinct, list_any, sum_by}
-use Rattle.std.specs.Map.{keys_of}
-use Rattle.std.specs.Ordering.{nat_cmp, eq_by_cmp, is_eq}
-use Rattle.std.specs.Cmp.{eq_by_cmp_equiv, nat_cmp_total, nat_eq_equiv, unsigned_tied}
+use Rattle.std.specs.List.{IsDistinct, list_any, AllByRecursion, sum_by}
 use Rattle.std.specs.FinMap as map
-use Rattle.std.specs.FinMap.{find, get-entries, entries_sorted, get-remove, same_map, nat_cmp-IsAntisymmetric}
 use Rattle.std.specs.FinMap.Entries as entries
 use Rattle.std.specs.List.Sorted.{IsStrictlySortedBy}
 use Rattle.std.specs.Map.Iter.{TakesFirst}
 use Rattle.std.specs.declared.cmp.Ordering.TheVariants.{Less}
 use Rattle.std.proofs.lemmas.List.{drop_more, length-map}
-use Rattle.std.proofs.lemmas.Bool.{cases_Bool, eqb-true, false_from_ne_true, or_parts, true≢false}
-use Rattle.std.proofs.lemmas.Option.{cond_some, none-some}
+use Rattle.std.proofs.lemmas.Bool.{false_from_ne_true, cases_Bool, eqb-true, or_parts, true≢false}
 use Rattle.std.proofs.lemmas.List.Elements.{All-from_recursion, recursion_from_All}
 use Rattle.std.proofs.lemmas.List.Sorted.{All-permutation, IsPermutation-map}
 use Rattle.std.proofs.lemmas.Map.Entries.{option_filter}
 use Rattle.std.proofs.lemmas.Map.Keys.{IsDistinct-from_sorted, IsDistinct-IsPermutation, sorted_head, sorted_tail}
 use Rattle.std.proofs.lemmas.List.Sums.{sum_by-cons}
-use Rattle.std.proofs.lemmas.Map.Iter.{rest_more}
-use Rattle.ft_fields.specs.Traced.{Traced, name_of}
-use Rattle.ft_fields.specs.declared.pos.Pos.{Pos}
-use Rattle.ft_fields.specs.Places.{pos_cmp, pos_cmp_total, pos_same}
-use Rattle.ft_fields.specs.declared.event.Name.{Name}
-use Rattle.ft_fields.specs.declared.key.Part.{Part}
-use Rattle.ft_hist.specs.Hist.{Hist}
-use Rattle.ft_hist.specs.Hit.{same_name}
 use Rattle.ft_hist.specs.Tests.{count_on}
-use Rattle.ft_pairs.specs.declared.at.At.{At}
-use Rattle.ft_shelves.specs.declared.sign.Sign.{Sign}
-use Rattle.ft_shelves.specs.declared.sign.Sign.TheVariants.{Insert, Retract}
-use Rattle.ft_shelves.proofs.Decided.{itself}
-use Rattle.ft_kept.proofs.Events.{has_at}
-use Rattle.ft_kept.specs.Acts.{Acts, AreHeld, acts_of}
-use Rattle.ft_kept.specs.Input.{input_of}
-use Rattle.ft_kept.specs.Shelves.{Shelves}
-use Rattle.ft_kept.specs.Views.{act_by_id, triggers_of}
-use Rattle.ft_kept.specs.Signs.{event_before, event_after}
+use Rattle.ft_kept.proofs.Views.{has_at}
 use Rattle.ft_kept.specs.Memory as memory
-use Rattle.ft_lanes.specs.Held.{Lanes, Lane, event_at}
 use Rattle.ft_lanes.specs.Loaded.{with_lanes, first_held}
 use Rattle.ft_lanes.specs.Walks.{traced_line}
-use Rattle.ft_maps.specs.Mapped.{entries_by}
-use Rattle.ft_maps.specs.Entries.{strictly_sorted}
 use Rattle.ft_maps.proofs.Common.{all_map}
-use Rattle.ft_store.specs.Stored.{held}
-use Rattle.ft_store.specs.declared.stored.Stored.{Stored}
-use Rattle.ft_base.specs.Base.{Triggers}
 use Rattle.ft_base.proofs.Apart.{entries_found}
-use Rattle.ft_base.specs.Reachable.{HasSavers}
 use Rattle.ft_base.proofs.Loading.{held-stays}
-use Rattle.ft_answers.specs.Deferral.{IsPlainLane}
-use Rattle.ft_replay.specs.Merged.{Events, merged, held_at, place_of}
-use Rattle.ft_replay.specs.Named.{is_on, is_named, events_on, named}
+use Rattle.ft_replay.specs.Named.{is_named, events_on, is_on, named}
 use Rattle.ft_replay.proofs.Placing.{find-moved, get-on, get-named}
 use Rattle.ft_replay.specs.Chosen.{is_among, lanes_of, lanes_but}
 use Rattle.ft_replay.proofs.Choosing.{get-chosen}
 use Rattle.ft_replay.proofs.Naming.{named_all}
-use Rattle.ft_replay.proofs.Places.{merged_at}
-use Rattle.ft_repair.specs.Outside.{acts_outside}
-use Rattle.ft_repair.specs.declared.scene.Member.{Member}
-use Rattle.ft_repair.specs.inner.Joining.{CanMove, is_one, own_after, own_before, with_acts}
-use Rattle.ft_repair.specs.KeptShelves.{AreKept}
+use Rattle.ft_repair.specs.declared.triggers.Member.{Member}
+use Rattle.ft_repair.specs.inner.Joining.{CanMove, own_after, own_before, is_one, with_acts}
 use Rattle.ft_repair.proofs.Alike.{never_any}
-use Rattle.ft_repair.proofs.Changing.{IsChanging, changing_all, none_left, Changes, changing_none}
+use Rattle.ft_repair.proofs.Changing.{IsChanging, changing_all, none_left, next_of, Changes, changing_none}
 use Rattle.ft_repair.proofs.KeptFor.{act_in, acts_held, AllHeld, held_is, merged_held, no_hit, acts_alike, for_kept, kept_for, plain_shelf}
-use Rattle.ft_repair.proofs.MergedLanes.{in_lane, on_stamp, placed_there, tie_at, tie_nat}
+use Rattle.ft_answers.specs.Deferral.{IsPlainLane}
+use Rattle.ft_base.specs.Base.{Base, Triggers}
+use Rattle.ft_base.specs.Reachable.{HasSavers}
+use Rattle.ft_fields.specs.Places.{pos_cmp, pos_cmp_total, pos_same}
+use Rattle.ft_fields.specs.Traced.{name_of, Traced}
+use Rattle.ft_fields.specs.declared.event.Name.{Name}
+use Rattle.ft_fields.specs.declared.key.Part.{Part}
+use Rattle.ft_fields.specs.declared.pos.Pos.{Pos}
+use Rattle.ft_hist.specs.Hist.{Hist}
+use Rattle.ft_hist.specs.Hit.{same_name}
+use Rattle.ft_kept.specs.Acts.{Acts, acts_of, AreHeld}
+use Rattle.ft_kept.specs.Input.{input_of}
+use Rattle.ft_kept.specs.Shelves.{Shelves}
+use Rattle.ft_kept.specs.Signs.{event_after, event_before}
+use Rattle.ft_kept.specs.Views.{act_by_id, triggers_of}
+use Rattle.ft_lanes.specs.Held.{event_at, Lane, Lanes}
+use Rattle.ft_maps.specs.Entries.{strictly_sorted}
+use Rattle.ft_maps.specs.Mapped.{entries_by}
+use Rattle.ft_pairs.specs.declared.at.At.{At}
+use Rattle.ft_repair.specs.KeptShelves.{AreKept}
+use Rattle.ft_repair.specs.Outside.{acts_outside}
+use Rattle.ft_replay.proofs.Places.{merged_at, none_later}
+use Rattle.ft_replay.specs.Merged.{Events, held_at, merged, place_of}
+use Rattle.ft_shelves.specs.declared.sign.Sign.{Sign}
+use Rattle.ft_shelves.specs.declared.sign.Sign.TheVariants.{Insert, Retract}
+use Rattle.ft_store.specs.Stored.{held}
+use Rattle.ft_store.specs.declared.stored.Stored.{Stored}
+use Rattle.std.proofs.lemmas.Map.Iter.{rest_more}
+use Rattle.std.proofs.lemmas.Option.{cond_some, none-some}
+use Rattle.std.specs.Cmp.{eq_by_cmp_equiv, nat_cmp_total, nat_eq_equiv, unsigned_tied}
+use Rattle.std.specs.FinMap.{entries_sorted, find, get-entries, get-remove, nat_cmp-IsAntisymmetric, same_map}
+use Rattle.std.specs.Map.{keys_of}
+use Rattle.std.specs.Ordering.{eq_by_cmp, is_eq, nat_cmp}
+use Rattle.ft_repair.proofs.MergedLanes.{in_lane, on_stamp, placed_there, stamp_tie, tie_at, tie_nat}
 
 -- ---- references to events with their places
 
@@ -118,7 +117,7 @@ on_names hist names among (Some event) = ⊎_elim
     (cases_Bool (fits names event))
 
 -- the name of an attached trigger is one on which some trigger is
-unasked : (test : ℕ × Hist → Bool) (es : List (ℕ × Hist)) (id : ℕ) (hist : Hist) → list_any test es ≡ false → entries.find nat_cmp id es ≡ Some hist → (k : ℕ) × (test (k, hist) ≡ false)
+pub unasked : (test : ℕ × Hist → Bool) (es : List (ℕ × Hist)) (id : ℕ) (hist : Hist) → list_any test es ≡ false → entries.find nat_cmp id es ≡ Some hist → (k : ℕ) × (test (k, hist) ≡ false)
 unasked test [] id hist none found = let both : ◌≡◌ {A = Option Hist} None (Some hist) = found in absurd cc
 unasked test (e ∷ es) id hist none found =
     let parts = or_parts (test e) (list_any test es) none in
@@ -147,14 +146,14 @@ abbrev pub own_events : Lanes → Hist → Events
 own_events lanes hist = events_on (same_name hist.event) (merged lanes)
 
 -- all acts are held
-pub all_acts_held : (triggers : Triggers) (lanes : Lanes) → AreHeld lanes (acts_of triggers (merged lanes))
+pub all_acts_held : (triggers : Triggers) (lanes : Lanes) → AreHeld triggers lanes (acts_of triggers (merged lanes))
 all_acts_held triggers lanes = acts_held triggers lanes (merged lanes) (merged_held lanes)
 
 -- and so they are without those of some triggers
-pub outside_held : (triggers : Triggers) (lanes : Lanes) (idle : ℕ → Bool) → AreHeld lanes (acts_outside idle triggers lanes)
-outside_held triggers lanes idle at key event is = ⊎_elim
-    (λ inside. absurd (none-some (key, event) (sym (ap (λ (b : Bool). if b then None else acts_of triggers (merged lanes) at) inside) ∙ is)))
-    (λ out. all_acts_held triggers lanes at key event (sym (ap (λ (b : Bool). if b then None else acts_of triggers (merged lanes) at) out) ∙ is))
+pub outside_held : (triggers : Triggers) (lanes : Lanes) (idle : ℕ → Bool) → AreHeld triggers lanes (acts_outside idle triggers lanes)
+outside_held triggers lanes idle at act is = ⊎_elim
+    (λ inside. absurd (none-some act (sym (ap (λ (b : Bool). if b then None else acts_of triggers (merged lanes) at) inside) ∙ is)))
+    (λ out. all_acts_held triggers lanes at act (sym (ap (λ (b : Bool). if b then None else acts_of triggers (merged lanes) at) out) ∙ is))
     (cases_Bool (idle at.trigger))
 
 -- events stand at places apart
@@ -202,8 +201,8 @@ module _ (triggers : Triggers) (lanes : Lanes) (id : ℕ) (hist : Hist) (attache
 -- some of its events are left
 abbrev pub IsMoving : Member → Sign → Shelves → List (Pos × Traced) → Shelves → Type 0
 IsMoving member sign old rest now =
-    IsChanging (triggers_of member.scene) member.scene.lanes.now (is_one member.id) sign (input_of member.scene.lanes.now old)
-    (with_acts member.id (own_after sign (triggers_of member.scene) member.scene.lanes.now) (input_of member.scene.lanes.now old)) rest now
+    IsChanging (triggers_of member.scene) member.scene.lanes.now (is_one member.id) sign (input_of (triggers_of member.scene) member.scene.lanes.now old)
+    (with_acts member.id (own_after sign (triggers_of member.scene) member.scene.lanes.now) (input_of (triggers_of member.scene) member.scene.lanes.now old)) rest now
 
 -- first all are
 pub moving_all : (member : Member) (sign : Sign) (es : List (Pos × Traced)) (shelves : Shelves) → CanMove member sign es shelves → IsMoving member sign shelves es shelves
@@ -223,7 +222,7 @@ moving_all member sign es shelves may = changing_all es shelves may.kept
     lanes = member.scene.lanes.now
 
     input : Acts
-    input = input_of lanes shelves
+    input = input_of triggers lanes shelves
 
     first : (w : Sign) (e : Pos × Traced) → map.get (merged lanes) e.0 ≡ Some e.1 → (k : ℕ) → own_before w triggers lanes (record { pos = e.0; trigger = k }) ≡ act_by_id triggers k (event_before w e.1)
     first Insert e there k = refl
@@ -360,22 +359,22 @@ module _ (cpu : ℕ) where
         above es less.1,
       )
 
-  -- an event of these lines stands at its place
-  stands : (q : Pos) (x : Traced) → q.cpu ≡ cpu → x.stamp ≡ q.stamp → (lines : List (ℕ × Traced)) → find nat_cmp q.line lines ≡ Some x → find pos_cmp q (placed lines) ≡ None → ⊥
-  stands q x own stamp [] is none = let both : ◌≡◌ {A = Option Traced} None (Some x) = is in absurd cc
-  stands q x own stamp (e ∷ lines) is none =
-      elim (eq_by_cmp nat_cmp q.line e.0) as (λ (b : Bool). eq_by_cmp nat_cmp q.line e.0 ≡ b → cond b (Some e.1) (find nat_cmp q.line lines) ≡ Some x → ⊥) [
-        | true ↦ λ tie here.
-            let event : e.1 ≡ x = ap (λ (o : Option Traced). unwrap_or o x) here in
-            let place : q ≡ place_of cpu e = λ i. record { stamp = (sym stamp ∙ ap (λ (t : Traced). t.stamp) (sym event)) i; cpu = own i; line = tie_nat q.line e.0 tie i } in
-            let both : ◌≡◌ {A = Option Traced} (Some e.1) None =
-            ap (λ (b : Bool). cond b (Some e.1) (find pos_cmp q (placed lines))) (sym (itself pos_cmp_total q) ∙ ap (eq_by_cmp pos_cmp q) place) ∙ none in
-            absurd cc
-        | false ↦ λ _ later. elim (eq_by_cmp pos_cmp q (place_of cpu e)) as (λ (b : Bool). cond b (Some e.1) (find pos_cmp q (placed lines)) ≡ None → ⊥) [
-          | true ↦ λ some. let both : ◌≡◌ {A = Option Traced} (Some e.1) None = some in absurd cc
-          | false ↦ λ rest. stands q x own stamp lines later rest
-        ] none
-      ] refl is
+  -- what stands among them at a place
+  find-placed : (q : Pos) (lines : List (ℕ × Traced)) → IsStrictlySortedBy nat_cmp (keys_of lines)
+      → find pos_cmp q (placed lines) ≡ cond (eq_by_cmp nat_cmp q.cpu cpu) (option_and_then (on_stamp q.stamp) (find nat_cmp q.line lines)) None
+  find-placed q [] sorted = elim (eq_by_cmp nat_cmp q.cpu cpu) as (λ (b : Bool). ◌≡◌ {A = Option Traced} None (cond b None None)) [ true ↦ refl | false ↦ refl ]
+  find-placed q (e ∷ lines) sorted =
+      (λ i. cond (tie_at q (place_of cpu e) i) (Some e.1) (find-placed q lines (sorted_tail nat_cmp e.0 (keys_of lines) sorted) i))
+      ∙ first (is_eq (nat_cmp q.stamp e.1.stamp)) (eq_by_cmp nat_cmp q.cpu cpu) (eq_by_cmp nat_cmp q.line e.0) (find nat_cmp q.line lines) (stamp_tie q.stamp e.1) (none_later q.line e lines sorted)
+    where
+      first : (stamp own line : Bool) (found : Option Traced) → on_stamp q.stamp e.1 ≡ cond stamp (Some e.1) None → (line ≡ true → found ≡ None)
+          → cond (stamp && (own && line)) (Some e.1) (cond own (option_and_then (on_stamp q.stamp) found) None) ≡ cond own (option_and_then (on_stamp q.stamp) (cond line (Some e.1) found)) None
+      first true true true found is none = sym is
+      first false true true found is none = ap (option_and_then (on_stamp q.stamp)) (none refl) ∙ sym is
+      first true true false found is none = refl
+      first false true false found is none = refl
+      first true false line found is none = refl
+      first false false line found is none = refl
 
 module _ (triggers : Triggers) (lanes : Lanes) (cpu : ℕ) where
   abbrev others : Lanes
@@ -406,32 +405,31 @@ module _ (triggers : Triggers) (lanes : Lanes) (cpu : ℕ) where
           after = λ id _. has_at triggers (merged others) (place_of cpu e) None (others_at (place_of cpu e) ∙ ap (λ (b : Bool). cond b None (held_at lanes (place_of cpu e))) ((eq_by_cmp_equiv nat_cmp_total).refl cpu)) id;
         }
 
+    sorted : IsStrictlySortedBy nat_cmp (map.keys lane.events)
+    sorted = strictly_sorted nat_cmp (map.entries lane.events) (entries_sorted lane.events)
+
     -- at a place of none of its lines nothing changes
     same_there : (q : Pos) → find pos_cmp q (placed cpu (map.entries lane.events)) ≡ None → map.get (merged lanes) q ≡ map.get (merged others) q
-    same_there q none =
-        merged_at q lanes
-        ∙ elim (eq_by_cmp nat_cmp q.cpu cpu) as (λ (b : Bool). eq_by_cmp nat_cmp q.cpu cpu ≡ b → held_at lanes q ≡ cond b None (held_at lanes q)) [
-          | true ↦ λ tie. nothing (tie_nat q.cpu cpu tie) (held_at lanes q) refl
-          | false ↦ λ _. refl
-        ] refl
-        ∙ sym (others_at q)
+    same_there q none = merged_at q lanes ∙ by (eq_by_cmp nat_cmp q.cpu cpu) refl (sym (find-placed cpu q (map.entries lane.events) sorted) ∙ none) ∙ sym (others_at q)
       where
-        nothing : q.cpu ≡ cpu → (o : Option Traced) → held_at lanes q ≡ o → o ≡ None
-        nothing own None is = refl
-        nothing own (Some x) is =
-            let there_now = held_is lanes q x is in
-            absurd (stands cpu q x own there_now.1 (map.entries lane.events) (sym (ap (in_lane q.line) (ap (map.get lanes) own ∙ there) ∙ get-entries lane.events q.line) ∙ there_now.0) none)
+        by : (b : Bool) → eq_by_cmp nat_cmp q.cpu cpu ≡ b → cond b (option_and_then (on_stamp q.stamp) (find nat_cmp q.line (map.entries lane.events))) None ≡ None → held_at lanes q ≡ cond b None (held_at lanes q)
+        by true tie gone = ap (option_and_then (on_stamp q.stamp)) (ap (in_lane q.line) (ap (map.get lanes) (tie_nat q.cpu cpu tie) ∙ there) ∙ get-entries lane.events q.line) ∙ gone
+        by false other gone = refl
 
     -- first all are left
     pub going_all : HasSavers triggers → (shelves : Shelves) → AreKept triggers (merged lanes) shelves → IsGoing (map.entries lane.events) shelves
     going_all savers = events_all triggers lanes Retract (merged lanes) (merged others) savers (merged_held lanes) (placed cpu (map.entries lane.events))
         (all_placed cpu _ (map.entries lane.events) (all_map _ _ line_goes (map.entries lane.events) (entries_found nat_cmp nat_cmp_total lane.events)))
-        (lines_apart cpu (map.entries lane.events) (strictly_sorted nat_cmp (map.entries lane.events) (entries_sorted lane.events)))
+        (lines_apart cpu (map.entries lane.events) sorted)
         (λ at none. acts_alike triggers (merged lanes) (merged others) at (same_there at.pos none))
 
-  -- if the lane is of plain hits, so is its event
-  pub going_plain : (e : ℕ × Traced) (rest : List (ℕ × Traced)) {shelves : Shelves} → IsGoing (e ∷ rest) shelves → IsPlainLane triggers lanes cpu → memory.AllActPlainly triggers shelves e.1
-  going_plain e rest {shelves} is plain id hist attached key hits = plain_shelf triggers shelves is.kept.each id hist attached (plain e.0 e.1 is.changes.0.held.0 id hist attached key hits)
+-- if a base's lane is of plain hits, so is its next event
+pub line_plain : (base : Base) {triggers : Triggers} {lanes : Lanes} → triggers ≡ base.triggers → lanes ≡ base.lanes → (cpu : ℕ) {lines rest : List (ℕ × Traced)} {e : ℕ × Traced} {shelves : Shelves}
+    → lines ≡ e ∷ rest → IsGoing triggers lanes cpu lines shelves → IsPlainLane base.triggers base.lanes cpu → memory.AllActPlainly triggers shelves e.1
+line_plain base {triggers} own all cpu {e = e} {shelves = shelves} more going plain id hist attached key hits =
+    let is = next_of (ap (placed cpu) more) going in
+    let here = subst (λ (held : Triggers × Lanes). IsPlainLane held.0 held.1 cpu) (λ i. (sym own i, sym all i)) plain in
+    plain_shelf triggers shelves is.kept.each id hist attached (here e.0 e.1 is.changes.0.held.0 id hist attached key hits)
 
 -- the line that a walk comes to is the first of those that are left
 pub line_next : (lines rest : List (ℕ × Traced)) (next : Option (ℕ × Stored)) (x : ℕ × Stored) (event : Traced) → next ≡ Some x → TakesFirst traced_line lines next rest → event ≡ held x.1 → lines ≡ (x.0, event) ∷ rest

@@ -1,20 +1,20 @@
 -- The family of a trigger: no other reads a saver of it.
 use Rattle.std.proofs.Common.{◌≡◌, ◌⊎◌, ℕ, Bool, true, false, true≢false, inl, inr, List, refl, sym, ap, ◌∙◌, Option, Some, None, unwrap_or, ⊎_elim}
 use Rattle.std.specs.Prelude.{◌==◌, ◌||◌}
-use Rattle.std.specs.Option.{option_map_or}
 use Rattle.std.specs.FinMap as map
-use Rattle.std.proofs.lemmas.Bool.{cases_Bool, eq-eqb, eqb-true, eqb-false, or_parts}
-use Rattle.ft_hist.specs.Hist.{Hist}
 use Rattle.ft_hist.specs.declared.label.Var.{Var}
 use Rattle.ft_hist.specs.declared.label.Var.TheVariants as vars
-use Rattle.ft_pairs.specs.declared.role.Role.{Role}
-use Rattle.ft_pairs.specs.declared.role.Role.TheVariants.{Plain, Saves, Reads}
-use Rattle.ft_base.specs.Base.{Triggers}
-use Rattle.ft_base.specs.OneTrigger.{reads_from, is_in_family}
 use Rattle.ft_base.specs.Reachable.{HasSaver, HasSavers}
-use Rattle.ft_base.specs.Roles.{is_reader, saves_name, role_of, role_at}
-use Rattle.ft_repair.specs.inner.Joining.{family_of, is_meant}
+use Rattle.ft_base.specs.Roles.{saves_name, is_reader, role_at, role_of}
+use Rattle.ft_repair.specs.inner.Joining.{is_meant, family_of}
 use Rattle.ft_answers.specs.Deferral.{ReadsNothing}
+use Rattle.ft_base.specs.Base.{Triggers}
+use Rattle.ft_base.specs.OneTrigger.{is_in_family, reads_from}
+use Rattle.ft_hist.specs.Hist.{Hist}
+use Rattle.ft_pairs.specs.declared.role.Role.{Role}
+use Rattle.ft_pairs.specs.declared.role.Role.TheVariants.{Plain, Reads, Saves}
+use Rattle.std.proofs.lemmas.Bool.{cases_Bool, eq-eqb, eqb-false, eqb-true, or_parts}
+use Rattle.std.specs.Option.{option_map_or}
 use Rattle.ft_base.proofs.Savers.{reads_of, saver-saves}
 
 pub reads_from_is : (id : ℕ) (role : Role) → reads_from id role ≡ true → role ≡ Reads id

@@ -1,38 +1,38 @@
 -- What is kept for an input: which acts are held, which forms shelves have, and how both follow a change.
-use Rattle.std.proofs.Common.{◌≡◌, Bool, true, false, cond, List, sym, ap, ◌∙◌, Option, Some, None, ℕ, subst, is_some}
+use Rattle.std.proofs.Common.{◌≡◌, Bool, false, List, sym, ap, ◌∙◌, Option, Some, None, ℕ, subst, is_some}
 use Rattle.std.specs.Prelude.{◌==◌, ◌&&◌, if◌then◌else◌, option_map, option_and_then}
-use Rattle.std.specs.Ordering.{eq_by_cmp}
 use Rattle.std.specs.FinMap as map
-use Rattle.std.specs.FinMap.{get-remove}
-use Rattle.std.proofs.lemmas.Bool.{eqb-true}
-use Rattle.std.proofs.lemmas.Option.{cond_some, none-some, option_and_then_some, some_pair_parts, same_Some}
+use Rattle.std.proofs.lemmas.Bool.{cond_both, eqb-true}
+use Rattle.std.proofs.lemmas.Option.{option_and_then_some, some_pair_parts, cond_some, none-some, same_Some}
+use Rattle.ft_hist.specs.Hit.{key_of, passes_filter, hit, same_name}
+use Rattle.ft_kept.specs.Views.{AreViewsOf, act_by_id, act_under}
+use Rattle.ft_kept.specs.Repairs as repairs
+use Rattle.ft_kept.specs.Shelves.{FormStays, role_on, admits_on, FormsStay, kept_on, Shelved, Shelves}
+use Rattle.ft_repair.specs.KeptShelves.{IsShelfOf, AreKept, AreKeptOf, HasItsShelf}
+use Rattle.ft_repair.proofs.Families.{attached_as, read_saves, role_there, saves_some}
+use Rattle.ft_base.specs.Base.{Base, Triggers}
+use Rattle.ft_base.specs.Reachable.{HasSavers}
+use Rattle.ft_base.specs.Roles.{role_at, role_of}
 use Rattle.ft_fields.specs.Places.{pos_cmp, pos_cmp_total}
-use Rattle.ft_fields.specs.Traced.{Traced, name_of}
+use Rattle.ft_fields.specs.Traced.{name_of, Traced}
+use Rattle.ft_fields.specs.declared.key.Part.{Part}
 use Rattle.ft_fields.specs.declared.pos.Pos.{Pos}
 use Rattle.ft_hist.specs.Hist.{Hist}
-use Rattle.ft_hist.specs.Hit.{hit, key_of, passes_filter, same_name}
-use Rattle.ft_fields.specs.declared.key.Part.{Part}
-use Rattle.ft_lanes.specs.Held.{Lanes, event_at}
-use Rattle.ft_kept.specs.Acts.{AreHeld, acts_of, Acts}
-use Rattle.ft_kept.specs.Views.{act_by_id, act_under, AreViewsOf}
-use Rattle.ft_pairs.specs.declared.at.At.{At}
-use Rattle.ft_base.specs.Base.{Base, Triggers}
-use Rattle.ft_replay.specs.Merged.{Events, merged, held_at}
-use Rattle.ft_replay.proofs.Places.{merged_at}
-use Rattle.std.specs.Option.{option_map_or}
+use Rattle.ft_kept.specs.Acts.{Acts, acts_of, AreHeld}
 use Rattle.ft_kept.specs.Entries.{IsKept}
-use Rattle.ft_kept.specs.Repairs as repairs
-use Rattle.ft_kept.specs.Shelves.{Shelved, Shelves, FormStays, FormsStay, role_on, admits_on, kept_on}
-use Rattle.ft_table.specs.Values.{values_by}
+use Rattle.ft_kept.specs.Input.{AreViews, input_of}
+use Rattle.ft_lanes.specs.Held.{event_at, Lanes}
+use Rattle.ft_pairs.specs.declared.at.At.{At}
 use Rattle.ft_pairs.specs.declared.role.Role.{Role}
 use Rattle.ft_pairs.specs.declared.role.Role.TheVariants.{Plain}
-use Rattle.ft_repair.specs.KeptShelves.{HasItsShelf, IsShelfOf, AreKept, AreKeptOf}
-use Rattle.ft_repair.proofs.Families.{attached_as, read_saves, role_there, saves_some}
-use Rattle.ft_base.specs.Reachable.{HasSavers}
-use Rattle.ft_base.specs.Roles.{role_of, role_at}
-use Rattle.ft_kept.specs.Input.{input_of, AreViews}
-use Rattle.ft_kept.proofs.Input.{acts_are}
 use Rattle.ft_repair.specs.KeptFor.{AreKeptFor}
+use Rattle.ft_replay.proofs.Places.{merged_at}
+use Rattle.ft_replay.specs.Merged.{Events, held_at, merged}
+use Rattle.ft_table.specs.Values.{values_by}
+use Rattle.std.specs.FinMap.{get-remove}
+use Rattle.std.specs.Option.{option_map_or}
+use Rattle.std.specs.Ordering.{eq_by_cmp}
+use Rattle.ft_kept.proofs.Input.{acts_are}
 
 -- ---- acts are held
 
@@ -52,10 +52,8 @@ merged_held lanes pos event is = sym (merged_at pos lanes) ∙ is
 -- and so they are without one
 pub less_held : (lanes : Lanes) (events : Events) (pos : Pos) → AllHeld lanes events → AllHeld lanes (map.remove events pos)
 less_held lanes events pos held q x found =
-    elim (eq_by_cmp pos_cmp q pos) as (λ (b : Bool). cond b None (map.get events q) ≡ Some x → held_at lanes q ≡ Some x) [
-      | true ↦ λ none. let both : ◌≡◌ {A = Option Traced} None (Some x) = none in absurd cc
-      | false ↦ λ there. held q x there
-    ] (sym (get-remove pos_cmp_total events pos q) ∙ found)
+    cond_both (eq_by_cmp pos_cmp q pos) None (map.get events q) (λ (o : Option Traced). o ≡ Some x → held_at lanes q ≡ Some x)
+    (λ _ none. absurd (none-some x none)) (λ _. held q x) (sym (get-remove pos_cmp_total events pos q) ∙ found)
 
 -- the act at an event, of a trigger if there is one
 abbrev pub act_in : Option Hist → Traced → Option (List Part × Traced)
@@ -68,10 +66,11 @@ act_event hist own key event is = option_and_then_some (λ (h : Hist). act_under
     by_key None found = absurd (none-some (key, event) found)
     by_key (Some k) found = (some_pair_parts k key own event found).1
 
-pub acts_held : (triggers : Triggers) (lanes : Lanes) (events : Events) → AllHeld lanes events → AreHeld lanes (acts_of triggers events)
+pub acts_held : (triggers : Triggers) (lanes : Lanes) (events : Events) → AllHeld lanes events → AreHeld triggers lanes (acts_of triggers events)
 unfolding acts_of
-acts_held triggers lanes events all at key event is = option_and_then_some (act_in (map.get triggers at.trigger)) (map.get events at.pos) (key, event) is (λ own there act.
-    held_is lanes at.pos event (all at.pos event (there ∙ ap (λ (x : Traced). Some x) (act_event (map.get triggers at.trigger) own key event act))))
+acts_held triggers lanes events all at act is = option_and_then_some (act_in (map.get triggers at.trigger)) (map.get events at.pos) act is (λ own there found.
+    let same : own ≡ act.1 = act_event (map.get triggers at.trigger) own act.0 act.1 found in
+    (held_is lanes at.pos act.1 (all at.pos act.1 (there ∙ ap (λ (x : Traced). Some x) same)), ap (act_in (map.get triggers at.trigger)) (sym same) ∙ found))
 
 -- acts are alike if the events are
 pub acts_alike : (triggers : Triggers) (events others : Events) (at : At) → map.get events at.pos ≡ map.get others at.pos → acts_of triggers events at ≡ acts_of triggers others at
@@ -147,7 +146,7 @@ all_shelved triggers shelves savers has = record {
 
 module _ (triggers : Triggers) (lanes : Lanes) where
   -- what is right by the triggers' roles is so by those of the shelves
-  pub right_for : HasSavers triggers → (input : Acts) → AreHeld lanes input → (shelves : Shelves) → HaveShelves triggers shelves
+  pub right_for : HasSavers triggers → (input : Acts) → AreHeld triggers lanes input → (shelves : Shelves) → HaveShelves triggers shelves
       → IsKept (role_at triggers) (values_by triggers) (admits_on shelves) input (kept_on shelves) → AreKeptFor triggers lanes input shelves
   right_for savers input held shelves each kept = record {
     each = each;
@@ -170,21 +169,18 @@ module _ (triggers : Triggers) (lanes : Lanes) where
 
   module _ (input : Acts) where
     -- the input is the one that shelves tell
-    pub input_is : (shelves : Shelves) → AreKeptFor triggers lanes input shelves → input_of lanes shelves ≡ input
+    pub input_is : (shelves : Shelves) → AreKeptFor triggers lanes input shelves → input_of triggers lanes shelves ≡ input
     input_is shelves is = acts_are triggers lanes input shelves is.views
 
     pub views_of : (shelves : Shelves) → AreKeptFor triggers lanes input shelves → AreViews triggers lanes shelves
     views_of shelves is = subst (λ (acts : Acts). AreViewsOf triggers lanes acts shelves) (sym (input_is shelves is)) is.views
 
-    pub told_for : (shelves : Shelves) → AreKeptFor triggers lanes input shelves → AreKeptFor triggers lanes (input_of lanes shelves) shelves
+    pub told_for : (shelves : Shelves) → AreKeptFor triggers lanes input shelves → AreKeptFor triggers lanes (input_of triggers lanes shelves) shelves
     told_for shelves is = record { each = is.each; views = views_of shelves is }
 
-    -- after a change they are kept for the input that they tell
-    pub changed_for : (old new : Shelves) → HaveShelves triggers old → FormsStay old new → AreViews triggers lanes new → input_of lanes new ≡ input → AreKeptFor triggers lanes input new
-    changed_for old new each forms views tells = record {
-      each = shelves_stay triggers old new each forms;
-      views = subst (λ (acts : Acts). AreViewsOf triggers lanes acts new) tells views;
-    }
+    -- after a change they are kept for the input that they are views of
+    pub changed_for : (old new : Shelves) → HaveShelves triggers old → FormsStay old new → AreViewsOf triggers lanes input new → AreKeptFor triggers lanes input new
+    changed_for old new each forms views = record { each = shelves_stay triggers old new each forms; views = views }
 
 -- all is kept of a base, with triggers and lanes that are its own
 pub kept_of : (base : Base) {triggers : Triggers} {lanes : Lanes} → triggers ≡ base.triggers → lanes ≡ base.lanes → HasSavers base.triggers → (shelves : Shelves) → AreKeptOf base shelves → AreKeptFor triggers lanes (acts_of triggers (merged lanes)) shelves

@@ -1,37 +1,18 @@
 -- What kept shelves hold is what replaying gives: told place by place, both say what the acts say, and that is one thing. So what stays in replays stays on shelves.
 use Rattle.std.proofs.Common.{◌≡◌, ℕ, Bool, true, false, cond, List, [], refl, sym, ap, subst, ◌∙◌, Some, None, Option, eqb-true, true≢false, unwrap_or, ⊎_elim}
 use Rattle.std.specs.Prelude.{◌==◌, IsSome, option_map, option_and_then, ◌&&◌, false}
-use Rattle.std.specs.Option.{option_map_or}
-use Rattle.std.proofs.lemmas.Bool.{eqb-false, cases_eq, eq-eqb}
 use Rattle.std.specs.FinMap as map
 use Rattle.ft_maps.proofs.Common.{cond_same}
-use Rattle.ft_maps.specs.Entries.{same_from_tie}
-use Rattle.ft_fields.specs.Traced.{Traced}
-use Rattle.ft_fields.specs.declared.pos.Pos.{Pos}
-use Rattle.ft_fields.specs.declared.key.Part.{Part}
 use Rattle.ft_fields.specs.Parts.{same_key}
 use Rattle.ft_fields.specs.Ties.{key_same}
 use Rattle.ft_hist.specs.Fitting.{KeyFits}
-use Rattle.ft_hist.specs.Hist.{Hist}
-use Rattle.ft_hist.specs.Hit.{hit}
 use Rattle.ft_hits.specs.declared.mark.Mark.{Mark}
-use Rattle.ft_pairs.specs.Roles.{op_as}
 use Rattle.ft_pairs.specs.Source.{Ops, IsSource}
-use Rattle.ft_pairs.specs.declared.at.At.{At}
 use Rattle.ft_pairs.specs.declared.at.Op.{Op}
-use Rattle.ft_pairs.specs.declared.role.Role.{Role}
-use Rattle.ft_pairs.specs.declared.role.Role.TheVariants.{Plain, Saves, Reads}
-use Rattle.ft_pairs.specs.declared.role.Variable.{Variable}
 use Rattle.ft_table.specs.Hits.{Hits, AreTraced}
 use Rattle.ft_table.specs.Spots.{IsMade, traced}
-use Rattle.ft_table.specs.Values.{ValuesBy, values_at, values_by}
-use Rattle.ft_kept.specs.Acts.{Acts, acts_of, op_of}
-use Rattle.ft_kept.specs.Entries.{HitsHere, Finds, IsEntry, IsRight, hits_here, one_hit, read_here}
-use Rattle.ft_kept.specs.Shelves.{Kept, Shelved, Shelves, admits_on, is_saver, kept_on}
-use Rattle.ft_kept.specs.Views.{act_under}
-use Rattle.ft_base.specs.Base.{Triggers, Base}
-use Rattle.ft_base.specs.Roles.{role_of, role_at, is_reader, saver_of}
-use Rattle.ft_replay.specs.Merged.{Events, merged}
+use Rattle.ft_kept.specs.Shelves.{is_saver, admits_on, Kept, kept_on, Shelved, Shelves}
+use Rattle.ft_base.specs.Roles.{saver_of, is_reader, role_at, role_of}
 use Rattle.ft_replay.specs.Hits.{TriggerHit, found_at, hit_at, read_as, replayed_hits, table_for}
 use Rattle.ft_replay.specs.Found.{values_found, saving_found, pairs_in}
 use Rattle.ft_replay.specs.Operations.{is_admitted, ops_on}
@@ -39,22 +20,41 @@ use Rattle.ft_replay.specs.Replay.{replay}
 use Rattle.ft_replay.proofs.Listed.{get-replayed_hits, values_under}
 use Rattle.ft_replay.proofs.Matched.{matched}
 use Rattle.ft_repair.proofs.Alike.{entry_moves, same_values, op_stays_there, acts_same, no_op_of, rest_same}
-use Rattle.std.specs.FinMap.{same_map}
 use Rattle.ft_table.specs.Growth.{InGrows, RowsGrow, TotalsGrow}
 use Rattle.ft_table.specs.Rows.{AllFit}
-use Rattle.ft_table.specs.Tabled.{Tabled, is_in}
 use Rattle.ft_replay.specs.Tally.{tally_of}
 use Rattle.ft_replay.proofs.KeptMaps.{pairs-are, values-are}
 use Rattle.ft_replay.proofs.Replaying.{admitted-in, tally-replayed}
 use Rattle.ft_kept.proofs.Forms.{admits_by, hits_by, read_by}
-use Rattle.ft_repair.specs.KeptShelves.{AreKept, AreKeptOf}
 use Rattle.ft_repair.proofs.Families.{attached_as, role_there, saves_some, not_reads, reads_from_is, reads_some}
 use Rattle.ft_repair.proofs.KeptFor.{its_shelf, own_shelf}
-use Rattle.ft_fields.specs.Places.{pos_cmp_total, pos_same}
 use Rattle.ft_hist.specs.declared.label.Var.{Var}
 use Rattle.ft_hist.specs.declared.label.Var.TheVariants as vars
-use Rattle.ft_lanes.specs.Held.{Lanes}
 use Rattle.ft_base.specs.OneTrigger.{GetsFilter, reads_from}
+use Rattle.ft_base.specs.Base.{Base, Triggers}
+use Rattle.ft_fields.specs.Places.{pos_cmp_total, pos_same}
+use Rattle.ft_fields.specs.Traced.{Traced}
+use Rattle.ft_fields.specs.declared.key.Part.{Part}
+use Rattle.ft_fields.specs.declared.pos.Pos.{Pos}
+use Rattle.ft_hist.specs.Hist.{Hist}
+use Rattle.ft_hist.specs.Hit.{hit}
+use Rattle.ft_kept.specs.Acts.{Acts, acts_of, op_of}
+use Rattle.ft_kept.specs.Entries.{Finds, hits_here, HitsHere, IsEntry, IsRight, one_hit, read_here}
+use Rattle.ft_kept.specs.Views.{act_under}
+use Rattle.ft_lanes.specs.Held.{Lanes}
+use Rattle.ft_maps.specs.Entries.{same_from_tie}
+use Rattle.ft_pairs.specs.Roles.{op_as}
+use Rattle.ft_pairs.specs.declared.at.At.{At}
+use Rattle.ft_pairs.specs.declared.role.Role.{Role}
+use Rattle.ft_pairs.specs.declared.role.Role.TheVariants.{Plain, Reads, Saves}
+use Rattle.ft_pairs.specs.declared.role.Variable.{Variable}
+use Rattle.ft_repair.specs.KeptShelves.{AreKept, AreKeptOf}
+use Rattle.ft_replay.specs.Merged.{Events, merged}
+use Rattle.ft_table.specs.Tabled.{is_in, Tabled}
+use Rattle.ft_table.specs.Values.{values_at, values_by, ValuesBy}
+use Rattle.std.proofs.lemmas.Bool.{cases_eq, eq-eqb, eqb-false}
+use Rattle.std.specs.FinMap.{same_map}
+use Rattle.std.specs.Option.{option_map_or}
 use Rattle.ft_repair.specs.Staying.{IsReadAlike, ReadsAsBefore}
 
 -- ---- spots

@@ -1,66 +1,66 @@
 -- One event that comes to what is kept of a base or goes from it, as an edit of the input; and which keys savers' tables have then: those that replaying has there.
-use Rattle.std.proofs.Common.{◌≡◌, ℕ, ◌+◌, ◌*◌, ◌≤◌, Bool, false, cond, sym, ap, subst, ◌∙◌, Option, Some, None, inl, inr, true, List, refl}
+use Rattle.std.proofs.Common.{[], ◌∷◌, ◌≡◌, ℕ, ◌+◌, ◌*◌, ◌≤◌, Bool, false, cond, sym, ap, subst, ◌∙◌, Option, Some, None, inl, inr, true, List, refl}
 use Rattle.std.specs.Prelude.{◌⊎◌, ℤ, ◌&&◌, option_and_then, option_map}
-use Rattle.std.specs.Option.{IfSome, option_map_or}
-use Rattle.std.specs.Ordering.{eq_by_cmp, is_eq, ordering_then}
 use Rattle.std.specs.FinMap as map
-use Rattle.std.specs.FinMap.{get-remove, get-insert}
-use Rattle.ft_fields.specs.Places.{pos_cmp, pos_cmp_total, pos_same}
-use Rattle.ft_fields.specs.Traced.{Traced}
-use Rattle.ft_fields.specs.declared.pos.Pos.{Pos}
 use Rattle.ft_hist.specs.Steps.{Steps}
 use Rattle.ft_hist.specs.Tests.{count_on}
-use Rattle.ft_kept.proofs.Events.{has_at, set_event}
-use Rattle.ft_kept.specs.Acts.{Acts, acts_of}
 use Rattle.ft_kept.specs.Bounds.{SomeSaverMoves}
-use Rattle.ft_kept.specs.Input.{input_of, AreViews}
 use Rattle.ft_kept.specs.Memory as memory
-use Rattle.ft_kept.specs.Repairs.{IsHeldAt}
-use Rattle.ft_kept.specs.Shelves.{Shelves, FormsStay, Shelved}
-use Rattle.ft_kept.specs.Signs.{event_before, event_after, table_edit, NeedsNoMemory}
-use Rattle.ft_kept.specs.Views.{HasAt, with_event, act_under}
-use Rattle.ft_shelves.specs.declared.sign.Sign.{Sign}
-use Rattle.ft_shelves.specs.declared.sign.Sign.TheVariants.{Insert, Retract}
-use Rattle.ft_lanes.specs.Held.{Lanes}
-use Rattle.ft_maps.specs.Entries.{get-remove_same, same_from_tie}
-use Rattle.ft_base.specs.Base.{Base, Triggers}
-use Rattle.ft_base.specs.Reachable.{HasSavers}
+use Rattle.ft_kept.specs.Signs.{table_edit, NeedsNoMemory, event_after, event_before}
+use Rattle.ft_kept.specs.Views.{AreViewsOf, act_under, with_event}
 use Rattle.ft_answers.specs.Costs.{SaversStay}
 use Rattle.ft_answers.specs.Deferral.{IsNoHit, IsPlainHit}
-use Rattle.ft_replay.specs.Merged.{Events, merged}
-use Rattle.ft_repair.specs.KeptShelves.{AreKept}
-use Rattle.ft_repair.specs.KeptFor.{AreKeptFor}
 use Rattle.ft_repair.specs.OneEvent.{AreKeptBefore, AreKeptAfter, ChangeCosts, EventNeedsNoMemory, events_before, events_after}
-use Rattle.ft_repair.proofs.KeptFor.{AllHeld, less_held, merged_held, changed_for, for_kept, input_is, kept_for, views_of, plain_shelf, its_shelf, shelves_role}
+use Rattle.std.specs.List.{IsDistinct}
+use Rattle.ft_repair.proofs.Changing.{changing_fewer}
+use Rattle.ft_repair.proofs.EventLists.{AreMoving, events_all, events_none}
+use Rattle.ft_repair.proofs.KeptFor.{acts_alike, AllHeld, less_held, merged_held, plain_shelf, its_shelf, shelves_role}
 use Rattle.ft_repair.proofs.KeptShelves.{Grounds, table-of, hits_traced, mark_at, replayed_right, hits_are}
 use Rattle.ft_repair.proofs.MergedLanes.{placed_there}
-use Rattle.std.specs.Cmp.{tied_then}
-use Rattle.std.proofs.lemmas.Option.{same_Some}
 use Rattle.ft_fields.specs.Parts.{key_cmp, same_key}
-use Rattle.ft_fields.specs.declared.key.Part.{Part}
-use Rattle.ft_hist.specs.Hist.{Hist}
-use Rattle.ft_hist.specs.Hit.{hit}
 use Rattle.ft_hits.specs.declared.mark.Mark.{Mark}
-use Rattle.ft_pairs.specs.declared.at.At.{At}
-use Rattle.ft_pairs.specs.declared.role.Role.{Role}
-use Rattle.ft_pairs.specs.declared.role.Role.TheVariants.{Saves}
 use Rattle.ft_table.specs.Growth.{with_hit}
 use Rattle.ft_table.specs.Hits.{AreTraced}
 use Rattle.ft_table.specs.Marks.{mark_cmp, mark_cmp_total, mark_same}
 use Rattle.ft_table.specs.OneKey.{without_hit}
-use Rattle.ft_table.specs.Tabled.{Tabled, is_in}
-use Rattle.ft_table.specs.Values.{values_at, values_by}
-use Rattle.ft_shelves.proofs.Decided.{untied}
 use Rattle.ft_shelves.specs.Switches.{differ}
-use Rattle.ft_kept.specs.Entries.{IsEntry, one_hit}
-use Rattle.ft_kept.proofs.Putting.{values_there}
-use Rattle.ft_kept.proofs.Views.{attached_act}
-use Rattle.ft_base.specs.Roles.{role_at}
+use Rattle.ft_kept.proofs.Views.{attached_act, has_at, values_there}
 use Rattle.ft_replay.specs.Hits.{replayed_hits, table_for}
 use Rattle.ft_replay.specs.Found.{saving_found, values_found}
 use Rattle.ft_replay.specs.Operations.{ops_on}
 use Rattle.ft_replay.proofs.Listed.{get-replayed_hits}
 use Rattle.ft_replay.proofs.Replaying.{admitted-in}
+use Rattle.ft_base.specs.Base.{Base, Triggers}
+use Rattle.ft_base.specs.Reachable.{HasSavers}
+use Rattle.ft_base.specs.Roles.{role_at}
+use Rattle.ft_fields.specs.Places.{pos_cmp, pos_cmp_total, pos_same}
+use Rattle.ft_fields.specs.Traced.{Traced}
+use Rattle.ft_fields.specs.declared.key.Part.{Part}
+use Rattle.ft_fields.specs.declared.pos.Pos.{Pos}
+use Rattle.ft_hist.specs.Hist.{Hist}
+use Rattle.ft_hist.specs.Hit.{hit}
+use Rattle.ft_kept.specs.Acts.{acts_of}
+use Rattle.ft_kept.specs.Entries.{IsEntry, one_hit}
+use Rattle.ft_kept.specs.Input.{input_of}
+use Rattle.ft_kept.specs.Repairs.{IsHeldAt}
+use Rattle.ft_kept.specs.Shelves.{FormsStay, Shelved, Shelves}
+use Rattle.ft_lanes.specs.Held.{Lanes}
+use Rattle.ft_maps.specs.Entries.{get-remove_same, same_from_tie}
+use Rattle.ft_pairs.specs.declared.at.At.{At}
+use Rattle.ft_pairs.specs.declared.role.Role.{Role}
+use Rattle.ft_pairs.specs.declared.role.Role.TheVariants.{Saves}
+use Rattle.ft_repair.specs.KeptShelves.{AreKept}
+use Rattle.ft_replay.specs.Merged.{Events, merged}
+use Rattle.ft_shelves.proofs.Decided.{untied}
+use Rattle.ft_shelves.specs.declared.sign.Sign.{Sign}
+use Rattle.ft_shelves.specs.declared.sign.Sign.TheVariants.{Insert, Retract}
+use Rattle.ft_table.specs.Tabled.{is_in, Tabled}
+use Rattle.ft_table.specs.Values.{values_at, values_by}
+use Rattle.std.proofs.lemmas.Option.{same_Some}
+use Rattle.std.specs.Cmp.{tied_then}
+use Rattle.std.specs.FinMap.{get-insert, get-remove}
+use Rattle.std.specs.Option.{IfSome, option_map_or}
+use Rattle.std.specs.Ordering.{eq_by_cmp, is_eq, ordering_then}
 use Rattle.ft_replay.proofs.Spots.{traced-cmp}
 
 -- a base with triggers and lanes that are its own
@@ -121,39 +121,26 @@ module _ {base : Base} {triggers : Triggers} {lanes : Lanes} {sign : Sign} {pos 
   same_apart Insert q other = sym (less q other)
   same_apart Retract q other = less q other
 
-  changed : with_event triggers (acts_of triggers before) pos (event_after sign event) ≡ acts_of triggers after
-  changed = set_event triggers before after pos (event_after sign event) (at_last sign) (same_apart sign)
+  -- it is the one event that is left to come or to go
+  pub moving : AreMoving triggers lanes sign before after ((pos, event) ∷ []) shelves
+  unfolding IsDistinct
+  moving = events_all triggers lanes sign before after may.savers (held_before sign) ((pos, event) ∷ [])
+      (record { held = may.held; before = λ id _. has_at triggers before pos (event_before sign event) (at_first sign) id; after = λ id _. has_at triggers after pos (event_after sign event) (at_last sign) id }, tt)
+      (tt, tt)
+      (λ at none. acts_alike triggers before after at (sym (same_apart sign at.pos (elsewhere (eq_by_cmp pos_cmp at.pos pos) none))))
+      shelves may.kept
+    where
+      held_before : (w : Sign) → AllHeld lanes (events_before w all pos)
+      held_before Insert = less_held lanes all pos (merged_held lanes)
+      held_before Retract = merged_held lanes
 
-  held_before : (w : Sign) → AllHeld lanes (events_before w all pos)
-  held_before Insert = less_held lanes all pos (merged_held lanes)
-  held_before Retract = merged_held lanes
+      elsewhere : (tie : Bool) → cond tie (Some event) None ≡ None → tie ≡ false
+      elsewhere true some = let both : ◌≡◌ {A = Option Traced} (Some event) None = some in absurd cc
+      elsewhere false none = refl
 
-  abbrev first : Acts
-  first = acts_of triggers before
-
-  abbrev last : Acts
-  last = acts_of triggers after
-
-  kept_now : AreKeptFor triggers lanes first shelves
-  kept_now = kept_for triggers lanes may.savers before (held_before sign) shelves may.kept
-
-  tells : input_of lanes shelves ≡ first
-  tells = input_is triggers lanes first shelves kept_now
-
-  -- ---- what the change needs
-
-  pub views_before : AreViews triggers lanes shelves
-  views_before = views_of triggers lanes first shelves kept_now
-
-  pub has_before : HasAt triggers (input_of lanes shelves) pos (event_before sign event)
-  has_before = subst (λ (input : Acts). HasAt triggers input pos (event_before sign event)) (sym tells) (has_at triggers before pos (event_before sign event) (at_first sign))
-
-  -- ---- and what it gives
-
-  pub kept_after : (new : Shelves) → FormsStay shelves new → AreViews triggers lanes new → input_of lanes new ≡ with_event triggers (input_of lanes shelves) pos (event_after sign event) → AreKeptAfter sign base pos new
-  kept_after new forms views gives = subst (λ (b : Base). AreKeptAfter sign b pos new) may.same
-      (for_kept triggers lanes after new (changed_for triggers lanes last shelves new may.kept.each forms views
-      (gives ∙ ap (λ (input : Acts). with_event triggers input pos (event_after sign event)) tells ∙ changed)))
+  pub kept_after : (new : Shelves) → FormsStay shelves new → AreViewsOf triggers lanes (with_event triggers (input_of triggers lanes shelves) pos (event_after sign event)) new → AreKeptAfter sign base pos new
+  kept_after new forms views = subst (λ (b : Base). AreKeptAfter sign b pos new) may.same
+      (events_none triggers lanes sign before after refl (changing_fewer moving new forms views))
 
   -- where its hits are plain, its acts are
   pub plain_acts : IsPlainHit base.triggers event → memory.AllActPlainly triggers shelves event
@@ -207,15 +194,18 @@ module _ {base : Base} {triggers : Triggers} {lanes : Lanes} {sign : Sign} {pos 
     abbrev ties_with : Mark → List Part → Bool
     ties_with m key = eq_by_cmp mark_cmp m (mark_at pos key)
 
-    get_edited : (w : Sign) (table : Tabled) (m : Mark) → map.get (table_edit w pos event hist table).hits m ≡ put_at (value w) (ties_with m) (hit hist event) (map.get table.hits m)
-    get_edited Insert table m = elim (hit hist event) as (λ o. map.get (option_map_or (λ key. with_hit table (mark_at pos key) (values_at hist pos event None)) o table).hits m ≡ put_at (value Insert) (ties_with m) o (map.get table.hits m)) [
-      | None ↦ refl
-      | Some key ↦ get-insert mark_cmp_total table.hits (mark_at pos key) (values_at hist pos event None) m
-    ]
-    get_edited Retract table m = elim (hit hist event) as (λ o. map.get (option_map_or (λ key. without_hit table (mark_at pos key)) o table).hits m ≡ put_at (value Retract) (ties_with m) o (map.get table.hits m)) [
-      | None ↦ refl
-      | Some key ↦ get-remove mark_cmp_total table.hits (mark_at pos key) m
-    ]
+    edited : (w : Sign) (table : Tabled) → ((table_edit w pos event hist table).size ≡ table.size)
+        × ((m : Mark) → map.get (table_edit w pos event hist table).hits m ≡ put_at (value w) (ties_with m) (hit hist event) (map.get table.hits m))
+    edited Insert table = elim (hit hist event) as (λ o. let new : Tabled = option_map_or (λ key. with_hit table (mark_at pos key) (values_at hist pos event None)) o table in
+        (new.size ≡ table.size) × ((m : Mark) → map.get new.hits m ≡ put_at (value Insert) (ties_with m) o (map.get table.hits m))) [
+          | None ↦ (refl, λ _. refl)
+          | Some key ↦ (refl, get-insert mark_cmp_total table.hits (mark_at pos key) (values_at hist pos event None))
+        ]
+    edited Retract table = elim (hit hist event) as (λ o. let new : Tabled = option_map_or (λ key. without_hit table (mark_at pos key)) o table in
+        (new.size ≡ table.size) × ((m : Mark) → map.get new.hits m ≡ put_at (value Retract) (ties_with m) o (map.get table.hits m))) [
+          | None ↦ (refl, λ _. refl)
+          | Some key ↦ (refl, get-remove mark_cmp_total table.hits (mark_at pos key))
+        ]
 
     -- the marks of places tie where both the places and the keys do
     ties_at : (q : Pos) (key : List Part) (b : Bool) → eq_by_cmp pos_cmp q pos ≡ b → (own : List Part) → ties_with (mark_at q key) own ≡ (b && same_key key own)
@@ -239,19 +229,15 @@ module _ {base : Base} {triggers : Triggers} {lanes : Lanes} {sign : Sign} {pos 
     abbrev new : Tabled
     new = table_edit sign pos event hist old
 
-    same_size : (w : Sign) → (table_edit w pos event hist old).size ≡ hist.size
-    same_size Insert = elim (hit hist event) as (λ o. (option_map_or (λ key. with_hit old (mark_at pos key) (values_at hist pos event None)) o old).size ≡ hist.size) [ None ↦ refl | Some key ↦ refl ]
-    same_size Retract = elim (hit hist event) as (λ o. (option_map_or (λ key. without_hit old (mark_at pos key)) o old).size ≡ hist.size) [ None ↦ refl | Some key ↦ refl ]
-
     new_traced : AreTraced new.hits
     new_traced m made =
-        get_edited sign old m
+        (edited sign old).1 m
         ∙ untouched (value sign) (ties_with m) (λ key. untied mark_cmp_total mark_same m (mark_at pos key) (λ same. made (ap (λ (x : Mark). x.spot.maker) same))) (hit hist event) (map.get old.hits m)
         ∙ hits_traced triggers before id m made
 
     new_at : (q : Pos) (key : List Part) → map.get new.hits (mark_at q key) ≡ values_found triggers after id (mark_at q key)
     new_at q key =
-        get_edited sign old (mark_at q key)
+        (edited sign old).1 (mark_at q key)
         ∙ ap (put_at (value sign) (ties_with (mark_at q key)) (hit hist event)) (get-replayed_hits triggers before id (mark_at q key) ∙ adds before q key)
         ∙ sym (adds after q key ∙ by (eq_by_cmp pos_cmp q pos) refl)
       where
@@ -265,7 +251,7 @@ module _ {base : Base} {triggers : Triggers} {lanes : Lanes} {sign : Sign} {pos 
 
     -- so a saver's table has its hit as an event comes, if it is one, and as it goes, it hasn't
     table_edited : table_for hist (replayed_hits triggers after id) ≡ new
-    table_edited = let hits = hits_are triggers after id new.hits new_traced new_at in λ i. record { hits = sym hits i; size = sym (same_size sign) i }
+    table_edited = let hits = hits_are triggers after id new.hits new_traced new_at in λ i. record { hits = sym hits i; size = sym (edited sign old).0 i }
 
   -- ---- what it costs
 

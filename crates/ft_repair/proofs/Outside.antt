@@ -1,45 +1,45 @@
 -- What is kept as a family gets new shelves, or as a trigger's shelf goes: outside the family all stays.
 use Rattle.std.proofs.Common.{◌≡◌, ℕ, Bool, true, false, true≢false, List, refl, sym, ap, subst, ◌∙◌, Option, Some, None, ⊎_elim}
 use Rattle.std.specs.Prelude.{if◌then◌else◌, option_and_then}
-use Rattle.std.specs.Cmp.{nat_cmp_total}
-use Rattle.std.specs.Ordering.{nat_cmp}
 use Rattle.std.specs.FinMap as map
-use Rattle.std.specs.FinMap.{get-empty, nat_cmp-IsAntisymmetric}
-use Rattle.std.proofs.lemmas.Bool.{cases_Bool, cases_eq, eq-eqb, eqb-true, eqb-false, ne_eqb}
-use Rattle.std.proofs.lemmas.Option.{none-some}
-use Rattle.ft_fields.specs.declared.pos.Pos.{Pos}
-use Rattle.ft_fields.specs.declared.key.Part.{Part}
-use Rattle.ft_fields.specs.Places.{pos_cmp}
-use Rattle.ft_hist.specs.Hist.{Hist}
-use Rattle.ft_lanes.specs.Held.{Lanes}
-use Rattle.ft_maps.specs.Entries.{get-remove_same, get-remove_other}
 use Rattle.ft_pairs.specs.ByKey.{ops_of}
+use Rattle.ft_base.specs.OneTrigger.{IsUnread, JoinsAs, is_in_family}
+use Rattle.ft_repair.specs.ButOneTrigger.{AreKeptBut, AwaitFilter, OtherShelvesStay}
+use Rattle.ft_repair.specs.inner.Joining.{CanLeave, is_one, with_acts}
+use Rattle.ft_repair.proofs.Alike.{rest, acts_same, rest_same, rest_none, rest_no_act, same_ops, op_same, no_act_of, no_op_there, no_op_of, right_moves, right_none, shelf_same}
+use Rattle.ft_repair.proofs.Families.{closed, inside_is, nothing_read, outside_apart}
+use Rattle.ft_repair.proofs.KeptFor.{for_right, HaveShelves, input_is, kept_for, kept_of, merged_held, right_for}
+use Rattle.ft_answers.specs.Deferral.{ReadsNothing}
+use Rattle.ft_base.specs.Base.{Base, Triggers}
+use Rattle.ft_base.specs.Reachable.{HasSavers}
+use Rattle.ft_base.specs.Roles.{role_at}
+use Rattle.ft_fields.specs.Places.{pos_cmp}
+use Rattle.ft_fields.specs.declared.key.Part.{Part}
+use Rattle.ft_fields.specs.declared.pos.Pos.{Pos}
+use Rattle.ft_hist.specs.Hist.{Hist}
+use Rattle.ft_kept.specs.Acts.{Acts, acts_of, op_of}
+use Rattle.ft_kept.specs.Entries.{hits_here, IsKept, IsRight, read_here}
+use Rattle.ft_kept.specs.Input.{input_of}
+use Rattle.ft_kept.specs.Shelves.{admits_on, kept_on, Shelved, Shelves}
+use Rattle.ft_lanes.specs.Held.{Lanes}
+use Rattle.ft_maps.specs.Entries.{get-remove_other, get-remove_same}
 use Rattle.ft_pairs.specs.Roles.{Admits}
 use Rattle.ft_pairs.specs.declared.at.At.{At}
 use Rattle.ft_pairs.specs.declared.role.Role.{Role}
 use Rattle.ft_pairs.specs.declared.role.Role.TheVariants.{Reads, Saves}
 use Rattle.ft_pairs.specs.declared.role.Variable.{Variable}
+use Rattle.ft_repair.specs.KeptFor.{AreKeptFor}
+use Rattle.ft_repair.specs.KeptShelves.{AreKept, AreKeptOf, HasItsShelf}
+use Rattle.ft_repair.specs.Outside.{acts_outside, AreKeptOutside, AreRenewed, HasNewShelf}
+use Rattle.ft_replay.specs.Merged.{Events, merged}
 use Rattle.ft_table.specs.Spots.{traced}
 use Rattle.ft_table.specs.Tabled.{Tabled}
-use Rattle.ft_table.specs.Values.{ValuesBy, values_by}
-use Rattle.ft_kept.specs.Acts.{Acts, acts_of, op_of}
-use Rattle.ft_kept.specs.Input.{input_of}
-use Rattle.ft_kept.specs.Entries.{IsKept, IsRight, hits_here, read_here}
-use Rattle.ft_kept.specs.Shelves.{Shelved, Shelves, admits_on, kept_on}
-use Rattle.ft_base.specs.Base.{Triggers, Base}
-use Rattle.ft_base.specs.OneTrigger.{IsUnread, JoinsAs, is_in_family}
-use Rattle.ft_base.specs.Reachable.{HasSavers}
-use Rattle.ft_base.specs.Roles.{role_at}
-use Rattle.ft_answers.specs.Deferral.{ReadsNothing}
-use Rattle.ft_replay.specs.Merged.{Events, merged}
-use Rattle.ft_repair.specs.KeptShelves.{AreKept, AreKeptOf, HasItsShelf}
-use Rattle.ft_repair.specs.KeptFor.{AreKeptFor}
-use Rattle.ft_repair.specs.ButOneTrigger.{AreKeptBut, AwaitFilter, OtherShelvesStay}
-use Rattle.ft_repair.specs.Outside.{AreKeptOutside, AreRenewed, HasNewShelf, acts_outside}
-use Rattle.ft_repair.specs.inner.Joining.{CanLeave, is_one, with_acts}
-use Rattle.ft_repair.proofs.Alike.{rest, acts_same, rest_same, rest_none, rest_no_act, same_ops, op_same, no_act_of, no_op_there, no_op_of, right_moves, right_none, shelf_same}
-use Rattle.ft_repair.proofs.Families.{closed, inside_is, nothing_read, outside_apart}
-use Rattle.ft_repair.proofs.KeptFor.{for_right, HaveShelves, input_is, kept_for, kept_of, merged_held, right_for}
+use Rattle.ft_table.specs.Values.{values_by, ValuesBy}
+use Rattle.std.proofs.lemmas.Bool.{cases_Bool, cases_eq, eq-eqb, eqb-false, eqb-true, ne_eqb}
+use Rattle.std.proofs.lemmas.Option.{none-some}
+use Rattle.std.specs.Cmp.{nat_cmp_total}
+use Rattle.std.specs.FinMap.{get-empty, nat_cmp-IsAntisymmetric}
+use Rattle.std.specs.Ordering.{nat_cmp}
 use Rattle.ft_repair.proofs.EventLists.{outside_held}
 
 -- ---- nothing is kept
@@ -83,10 +83,10 @@ its_new triggers hist shelf has = (
 )
 
 -- if nothing is kept, that is what no acts say
-none_kept : (role : ℕ → Role) (values : ValuesBy) (admits : Admits) (shelves : Shelves) → ((id : ℕ) → IsBare shelves id) → IsKept role values admits (λ _. None) (kept_on shelves)
-none_kept role values admits shelves bare = record {
-  ops = λ variable at. (bare variable.saver).ops variable.key at ∙ sym (no_op_there role admits (λ _. None) variable at refl);
-  entries = λ at. right_none role values (λ _. None) (kept_on shelves) at refl ((bare at.trigger).read at.pos) ((bare at.trigger).hits at.pos);
+none_kept : (role : ℕ → Role) (values : ValuesBy) (admits : Admits) (acts : Acts) (shelves : Shelves) → ((at : At) → acts at ≡ None) → ((id : ℕ) → IsBare shelves id) → IsKept role values admits acts (kept_on shelves)
+none_kept role values admits acts shelves none bare = record {
+  ops = λ variable at. (bare variable.saver).ops variable.key at ∙ sym (no_op_there role admits acts variable at (none at));
+  entries = λ at. right_none role values acts (kept_on shelves) at (none at) ((bare at.trigger).read at.pos) ((bare at.trigger).hits at.pos);
 }
 
 abbrev no_shelves : Shelves
@@ -96,9 +96,8 @@ no_shelves = map.empty
 pub empty_kept : AreKept map.empty (merged map.empty) map.empty
 empty_kept = record {
   each = λ id. subst (λ (o : Option Hist). HasItsShelf none o (map.get no_shelves id)) (sym (get-empty {X = Hist} nat_cmp id)) (get-empty {X = Shelved} nat_cmp id);
-  kept = subst (λ (acts : Acts). IsKept (role_at none) (values_by none) (admits_on no_shelves) acts (kept_on no_shelves))
-      (λ i at. sym (no_act_of none (merged map.empty) at (get-empty {X = Hist} nat_cmp at.trigger)) i)
-      (none_kept (role_at none) (values_by none) (admits_on no_shelves) no_shelves (λ id. bare_none no_shelves id (get-empty {X = Shelved} nat_cmp id)));
+  kept = none_kept (role_at none) (values_by none) (admits_on no_shelves) (acts_of none (merged map.empty)) no_shelves
+      (λ at. no_act_of none (merged map.empty) at (get-empty {X = Hist} nat_cmp at.trigger)) (λ id. bare_none no_shelves id (get-empty {X = Shelved} nat_cmp id));
 }
   where
     none : Triggers
@@ -181,7 +180,7 @@ pub new_idle : (triggers : Triggers) (lanes : Lanes) → HasSavers triggers → 
 new_idle triggers lanes savers shelves renewed =
     right_for triggers lanes savers (acts_outside (λ _. true) triggers lanes) (outside_held triggers lanes (λ _. true)) shelves
     (each_new triggers (λ _. true) no_shelves shelves renewed outside nowhere)
-    (none_kept (role_at triggers) (values_by triggers) (admits_on shelves) shelves (λ id. (inside_new triggers (λ _. true) no_shelves shelves renewed outside nowhere id refl).0))
+    (none_kept (role_at triggers) (values_by triggers) (admits_on shelves) (acts_outside (λ _. true) triggers lanes) shelves (λ _. refl) (λ id. (inside_new triggers (λ _. true) no_shelves shelves renewed outside nowhere id refl).0))
   where
     outside : (id : ℕ) → true ≡ false → HasItsShelf triggers (map.get triggers id) (map.get no_shelves id)
     outside id out = absurd (true≢false out)
@@ -322,7 +321,7 @@ can_leave base id savers nothing shelves kept = record {
 
 -- nor does one whose acts have gone
 pub gone_leaves : (base : Base) (id : ℕ) {triggers : Triggers} {lanes : Lanes} → triggers ≡ base.triggers → lanes ≡ base.lanes → HasSavers base.triggers → (old new : Shelves) → AreKeptOf base old
-    → AreKeptFor triggers lanes (with_acts id (λ _. None) (input_of lanes old)) new → CanLeave id base new
+    → AreKeptFor triggers lanes (with_acts id (λ _. None) (input_of triggers lanes old)) new → CanLeave id base new
 gone_leaves base id {triggers} {lanes} own all savers old new kept gone = record {
   acts = with_acts id (λ _. None) input;
   kept = subst (λ (held : Triggers × Lanes). AreKeptFor held.0 held.1 (with_acts id (λ _. None) input) new) (λ i. (own i, all i)) gone;
@@ -332,7 +331,7 @@ gone_leaves base id {triggers} {lanes} own all savers old new kept gone = record
 }
   where
     input : Acts
-    input = input_of lanes old
+    input = input_of triggers lanes old
 
 -- the shelves of all others stay
 pub others_left : (id : ℕ) (before after : Shelves) → after ≡ map.remove before id → OtherShelvesStay id before after

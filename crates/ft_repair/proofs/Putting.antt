@@ -1,46 +1,54 @@
 -- Trigger by trigger a family gets new shelves, and then its acts.
 use Rattle.std.proofs.Common.{◌≡◌, ◌+◌, ◌≤◌, ℕ, Bool, true, false, cond, List, [], ◌∷◌, length, refl, sym, ap, subst, ◌∙◌, Option, Some, None, is_some, ⊎_elim, arith}
 use Rattle.std.specs.Prelude.{◌==◌, ◌&&◌, if◌then◌else◌}
-use Rattle.std.specs.List.{AllByRecursion, sum_by}
 use Rattle.std.specs.List.Sorted.{IsStrictlySortedBy}
-use Rattle.std.specs.Map.{keys_of}
-use Rattle.std.specs.Ordering.{nat_cmp}
-use Rattle.std.specs.Cmp.{eq_by_cmp_equiv, nat_cmp_total, unsigned_tied}
 use Rattle.std.specs.FinMap as map
-use Rattle.std.specs.FinMap.{find, get-entries, len-entries, entries_sorted, nat_cmp-IsAntisymmetric}
-use Rattle.std.proofs.lemmas.Bool.{cases_eq, eqb-false, true≢false}
-use Rattle.std.proofs.lemmas.Option.{same_Some}
+use Rattle.std.specs.FinMap.{len-entries, entries_sorted, find, get-entries, nat_cmp-IsAntisymmetric}
 use Rattle.std.proofs.lemmas.List.Sums.{sum_by-cons}
 use Rattle.std.proofs.lemmas.Map.Keys.{sorted_tail}
-use Rattle.ft_fields.specs.Traced.{Traced, name_of}
+use Rattle.ft_hist.specs.Tests.{tests_taken}
+use Rattle.ft_maps.specs.Entries.{get-insert_other, get-insert_same, strictly_sorted}
+use Rattle.ft_base.proofs.Apart.{entries_found}
+use Rattle.ft_answers.specs.Costs.{named_in}
+use Rattle.ft_repair.proofs.Alike.{no_act_of}
+use Rattle.ft_repair.proofs.KeptFor.{input_is, told_for, held_is, shelves_stay}
+use Rattle.ft_repair.proofs.EventLists.{own_events, all_of_them, IsAmong, act_by, among_all, all_acts_held, on_held, own_acts}
+use Rattle.ft_groups.specs.Grouped.{Grouped, AreGrouped}
+use Rattle.ft_kept.proofs.Forms.{roles_stay, shelved_stay}
+use Rattle.ft_kept.specs.Acts.{IsHeldAct, Acts, acts_of, AreHeld}
+use Rattle.ft_kept.specs.AtOnce.{AllCome, AllHaveCome}
+use Rattle.ft_base.specs.Base.{Triggers}
+use Rattle.ft_base.specs.Roles.{role_of}
+use Rattle.ft_fields.specs.Traced.{name_of, Traced}
 use Rattle.ft_fields.specs.declared.event.Name.{Name}
+use Rattle.ft_fields.specs.declared.key.Part.{Part}
 use Rattle.ft_fields.specs.declared.pos.Pos.{Pos}
 use Rattle.ft_hist.specs.Hist.{Hist}
 use Rattle.ft_hist.specs.Hit.{same_name}
-use Rattle.ft_hist.specs.Tests.{tests_taken}
+use Rattle.ft_kept.specs.Entries.{IsKept}
+use Rattle.ft_kept.specs.Input.{input_of}
+use Rattle.ft_kept.specs.Shelves.{AddsShelf, admits_on, FormsStay, kept_on, Shelves}
 use Rattle.ft_lanes.specs.Held.{Lanes}
-use Rattle.ft_maps.specs.Entries.{get-insert_other, get-insert_same, strictly_sorted}
 use Rattle.ft_maps.specs.Mapped.{entries_by}
 use Rattle.ft_pairs.specs.declared.at.At.{At}
-use Rattle.ft_kept.specs.Acts.{Acts, acts_of}
-use Rattle.ft_kept.specs.Input.{input_of}
-use Rattle.ft_kept.specs.Shelves.{Shelves, AddsShelf}
-use Rattle.ft_base.specs.Base.{Triggers}
-use Rattle.ft_base.specs.Roles.{role_of}
-use Rattle.ft_base.proofs.Apart.{entries_found}
-use Rattle.ft_answers.specs.Costs.{named_in}
+use Rattle.ft_pairs.specs.declared.role.Role.{Role}
+use Rattle.ft_repair.specs.KeptFor.{AreKeptFor}
+use Rattle.ft_repair.specs.Outside.{acts_outside, AreRenewed, HasNewShelf}
+use Rattle.ft_repair.specs.inner.Joining.{HasItsEvents, is_one, with_trigger}
+use Rattle.ft_replay.proofs.Places.{none_later}
 use Rattle.ft_replay.specs.Merged.{merged}
-use Rattle.ft_replay.specs.Named.{events_on}
+use Rattle.ft_replay.specs.Named.{events_on, is_on, named}
 use Rattle.ft_shelves.proofs.Decided.{untied}
 use Rattle.ft_store.specs.Stored.{held}
 use Rattle.ft_store.specs.declared.stored.Stored.{Stored}
-use Rattle.ft_replay.proofs.Places.{none_later}
-use Rattle.ft_repair.specs.Outside.{AreRenewed, HasNewShelf, acts_outside}
-use Rattle.ft_repair.specs.inner.Joining.{is_one, with_trigger}
-use Rattle.ft_repair.specs.KeptFor.{AreKeptFor}
-use Rattle.ft_repair.proofs.Alike.{no_act_of}
-use Rattle.ft_repair.proofs.KeptFor.{input_is, told_for}
-use Rattle.ft_repair.proofs.EventLists.{own_events, all_of_them}
+use Rattle.ft_table.specs.Values.{values_by}
+use Rattle.std.proofs.lemmas.Bool.{cases_eq, eq-eqb, eqb-false, ne_eqb, true≢false}
+use Rattle.std.proofs.lemmas.Option.{same_Some}
+use Rattle.std.specs.Cmp.{eq_by_cmp_equiv, nat_cmp_total, unsigned_tied}
+use Rattle.std.specs.List.{AllByRecursion, sum_by}
+use Rattle.std.specs.Map.{keys_of}
+use Rattle.std.specs.Ordering.{nat_cmp}
+use Rattle.ft_shelves.specs.Joining.{AreGroupsOf, acts_with}
 
 -- ---- new shelves, one by one
 
@@ -190,14 +198,14 @@ module _ {triggers : Triggers} {lanes : Lanes} {family : ℕ → Bool} {e : ℕ 
   abbrev input : Acts
   input = acts_outside (left_in family (e ∷ rest)) triggers lanes
 
-  tells : input_of lanes shelves ≡ input
+  tells : input_of triggers lanes shelves ≡ input
   tells = input_is triggers lanes input shelves is.idle
 
   -- and so it can join
-  pub told_idle : AreKeptFor triggers lanes (input_of lanes shelves) shelves
+  pub told_idle : AreKeptFor triggers lanes (input_of triggers lanes shelves) shelves
   told_idle = told_for triggers lanes input shelves is.idle
 
-  pub idle_first : family e.0 ≡ true → (pos : Pos) → input_of lanes shelves (record { pos = pos; trigger = e.0 }) ≡ None
+  pub idle_first : family e.0 ≡ true → (pos : Pos) → input_of triggers lanes shelves (record { pos = pos; trigger = e.0 }) ≡ None
   idle_first member pos =
       let at : At = record { pos = pos; trigger = e.0 } in
       ap (λ (input : Acts). input at) tells ∙ ap (λ (b : Bool). if b then None else acts_of triggers (merged lanes) at) (first_idle member)
@@ -209,7 +217,7 @@ module _ {triggers : Triggers} {lanes : Lanes} {family : ℕ → Bool} {e : ℕ 
   ] refl
 
   -- and as it has joined, the rest are left
-  pub put_more : (new : Shelves) → AreKeptFor triggers lanes (with_trigger triggers lanes e.0 (input_of lanes shelves)) new → IsPut triggers lanes family rest new
+  pub put_more : (new : Shelves) → AreKeptFor triggers lanes (with_trigger triggers lanes e.0 (input_of triggers lanes shelves)) new → IsPut triggers lanes family rest new
   put_more new joined = record {
     idle = subst (λ (idle : ℕ → Bool). KeptIdle triggers lanes idle new) (λ i id. but_first id i)
         (subst (λ (input : Acts). AreKeptFor triggers lanes input new) (ap (with_trigger triggers lanes e.0) tells ∙ idle_joined triggers lanes e.0 (left_in family (e ∷ rest))) joined);
@@ -219,13 +227,13 @@ module _ {triggers : Triggers} {lanes : Lanes} {family : ℕ → Bool} {e : ℕ 
 
 -- ---- tests
 
--- how many references there are to the events on a name
-pub own_count : (lanes : Lanes) (hist : Hist) (names : Name → Bool) → names ≡ same_name hist.event → (items : List (Pos × Stored))
-    → entries_by held items ≡ map.entries (events_on names (merged lanes)) → length items ≡ named_in lanes hist
-own_count lanes hist names named items all =
-    sym (all_of_them items)
-    ∙ ap (λ (es : List (Pos × Traced)). length es) (all ∙ ap (λ (some : Name → Bool). map.entries (events_on some (merged lanes))) named)
-    ∙ sym (len-entries (own_events lanes hist))
+-- the events on a trigger's name have its own, and are as many as references to them
+pub own_listed : (lanes : Lanes) (hist : Hist) {names : Name → Bool} → ((name : Name) → names name ≡ same_name hist.event name) → (items : List (Pos × Stored))
+    → entries_by held items ≡ map.entries (events_on names (merged lanes)) → HasItsEvents lanes hist (entries_by held items) × (length items ≡ named_in lanes hist)
+own_listed lanes hist {names} named items all = (
+  record { names = names; own = λ name same. named name ∙ same; all = all },
+  sym (all_of_them items) ∙ ap (λ (es : List (Pos × Traced)). length es) (all ∙ ap (λ (some : Name → Bool). map.entries (events_on some (merged lanes))) (λ i name. named name i)) ∙ sym (len-entries (own_events lanes hist)),
+)
 
 -- one event, one test at most
 pub asked_once : (hist : Hist) (event : Traced) → tests_taken hist event ≤ 1
@@ -235,11 +243,61 @@ asked_once hist event = elim (same_name hist.event (name_of event.body)) as (λ 
 ]
 
 module _ (family : ℕ → Bool) (lanes : Lanes) {es rest : List (ℕ × Hist)} {e : ℕ × Hist} (more : es ≡ e ∷ rest) where
-  tests_with : (is : Bool) → family e.0 ≡ is → tests_in family lanes es ≡ (if is then named_in lanes e.1 else 0) + tests_in family lanes rest
-  tests_with is own = ap (tests_in family lanes) more ∙ sum_by-cons (λ (x : ℕ × Hist). if family x.0 then named_in lanes x.1 else 0) e rest ∙ ap (λ (b : Bool). (if b then named_in lanes e.1 else 0) + tests_in family lanes rest) own
+  pub tests_next : (is : Bool) → family e.0 ≡ is → tests_in family lanes es ≡ (if is then named_in lanes e.1 else 0) + tests_in family lanes rest
+  tests_next is own = ap (tests_in family lanes) more ∙ sum_by-cons (λ (x : ℕ × Hist). if family x.0 then named_in lanes x.1 else 0) e rest ∙ ap (λ (b : Bool). (if b then named_in lanes e.1 else 0) + tests_in family lanes rest) own
 
-  pub tests_member : family e.0 ≡ true → tests_in family lanes es ≡ named_in lanes e.1 + tests_in family lanes rest
-  tests_member = tests_with true
+-- ---- all acts of an idle trigger at once
 
-  pub tests_other : family e.0 ≡ false → tests_in family lanes es ≡ 0 + tests_in family lanes rest
-  tests_other = tests_with false
+-- the named events are a list with an attached trigger's own
+pub named_listed : (triggers : Triggers) (lanes : Lanes) (id : ℕ) (hist : Hist) → map.get triggers id ≡ Some hist
+    → (es : List (Pos × Traced)) → es ≡ map.entries (named triggers (merged lanes)) → HasItsEvents lanes hist es
+unfolding named events_on
+named_listed triggers lanes id hist attached es are = record { names = is_on triggers; own = among_all triggers id hist attached; all = are }
+
+-- groups of a list with a trigger's events are those of the events at their places
+abbrev pub are_groups : (lanes : Lanes) (hist : Hist) (es : List (Pos × Traced)) → HasItsEvents lanes hist es → (groups : Grouped) → AreGrouped hist es groups → AreGroupsOf hist groups
+are_groups lanes hist es listed groups are = record {
+  events = events_on listed.names (merged lanes);
+  stamped = λ pos event is. (held_is lanes pos event (on_held lanes listed.names pos event is)).1;
+  grouped = subst (λ (events : List (Pos × Traced)). AreGrouped hist events groups) listed.all are;
+}
+
+module _ (triggers : Triggers) (lanes : Lanes) (id : ℕ) (hist : Hist) (attached : map.get triggers id ≡ Some hist) (names : Name → Bool) (among : IsAmong hist names) where
+  abbrev its_acts : Pos → Option (List Part × Traced)
+  its_acts = acts_with hist (events_on names (merged lanes))
+
+  its_found : (pos : Pos) → acts_of triggers (events_on names (merged lanes)) (record { pos = pos; trigger = id }) ≡ its_acts pos
+  unfolding acts_of
+  its_found pos = ap (λ (h : Option Hist). act_by h (map.get (events_on names (merged lanes)) pos)) attached
+
+  module _ (input : Acts) (idle : (pos : Pos) → input (record { pos = pos; trigger = id }) ≡ None) where
+    abbrev after : Acts
+    after = with_trigger triggers lanes id input
+
+    all_come : AllCome id its_acts input after
+    all_come = record {
+      elsewhere = λ q apart. ap (λ (b : Bool). if b then acts_of triggers (merged lanes) q else input q) (ne_eqb q.trigger id apart);
+      absent = idle;
+      here = λ pos.
+          let at : At = record { pos = pos; trigger = id } in
+          ap (λ (b : Bool). if b then acts_of triggers (merged lanes) at else input at) (eq-eqb id id refl)
+          ∙ sym (own_acts triggers lanes id hist attached names among at refl)
+          ∙ its_found pos;
+    }
+
+    after_held : AreHeld triggers lanes input → AreHeld triggers lanes after
+    after_held held at act is =
+        elim (is_one id at.trigger) as (λ (b : Bool). (if b then acts_of triggers (merged lanes) at else input at) ≡ Some act → IsHeldAct triggers lanes at act) [
+          | true ↦ all_acts_held triggers lanes at act
+          | false ↦ held at act
+        ] is
+
+    pub joined_at_once : (old new : Shelves) → AreKeptFor triggers lanes input old → FormsStay old new → AllHaveCome triggers id its_acts old new → AreKeptFor triggers lanes after new
+    joined_at_once old new kept forms come = record {
+      each = shelves_stay triggers old new kept.each forms;
+      views = record {
+        shelved = shelved_stay triggers old new forms kept.views.shelved;
+        held = after_held kept.views.held;
+        kept = subst (λ (role : ℕ → Role). IsKept role (values_by triggers) (admits_on new) after (kept_on new)) (λ i k. sym (roles_stay old new forms k) i) (come input after all_come kept.views.kept);
+      };
+    }

@@ -6,10 +6,10 @@ pub mod ButOneLane
 pub mod ButOneTrigger
 pub mod SomeLanes
 pub mod Repaired
-pub mod ReadingsTold
 pub mod Staying
 pub mod inner
 pub use Rattle.ft_kept.specs.Shelves
+pub use Rattle.ft_kept.specs.Changes
 pub use Rattle.ft_base.specs.OneTrigger
 pub use Rattle.ft_base.specs.Base
 pub use Rattle.ft_answers.specs.Costs

@@ -22,11 +22,8 @@ ghost use Rattle.ft_repair.specs.Staying.{IsReadAlike, ReadsAsBefore};
 ghost use Rattle.ft_replay.specs.Replay.{replay};
 ghost use Rattle.ft_replay.specs.Tally.{tally_of};
 
-/// A law: where shelves keep what the triggers' acts at events say, told place by place, a
-/// trigger's shelf gives the tally that replaying the events gives it, and the keys of its hits fit
-/// the trigger's key items. Its table is made of the hits that the trigger has in the whole replay,
-/// its readings found there what is kept of them, and the operations that are kept on a variable are
-/// those of the whole replay.
+/// A law: shelves that keep what the triggers' acts at events say, told place by place, hold what
+/// replaying the events gives. The keys of hits fit the triggers' key items.
 pub fn kept_shelves()
     ensures tally { OnEachShelf (λ triggers events id hist shelf.
         map.get (replay triggers events).tallies id
@@ -59,10 +56,9 @@ pub fn others_stay()
 }
 
 /// A law: a trigger that reads keeps its table and what its readings found, whatever other triggers
-/// come, go or get another filter, where its saver stays and the triggers that read it are those
-/// that did; the operations on what that saver saves stay too. So another filter of one trigger
-/// leaves a reader's table and readings as they are, but where that trigger is the saver or reads
-/// it: since a reading unsets its variable, what one reader's filter admits another may miss.
+/// come, go or get another filter, if its saver stays and the same triggers read that; so do the
+/// operations on what the saver saves. Another filter of the saver, or of one that reads it, can
+/// change more: since a reading unsets its variable, what one reader's filter admits another may miss.
 pub fn readers_stay()
     ensures operations { (triggers others : Triggers) (events : Events) (old new : Shelves)
         → AreKept triggers events old → AreKept others events new → (saver : ℕ)

@@ -1,33 +1,20 @@
 -- Places and variables are the same or not.
-use Rattle.std.proofs.Common.{◌≡◌, true, false, refl, sym, ap, subst, ◌∙◌, Some, None, Option, inl, inr}
+use Rattle.std.proofs.Common.{◌≡◌, true, false, refl, sym, ap, subst, ◌∙◌, arith, Some, None, Option, inl, inr}
 use Rattle.std.specs.Prelude.{◌⊎◌, List, OnOk, IfOk, Result, Ok, Err}
-use Rattle.std.proofs.lemmas.Bool.{true≢false}
 use Rattle.std.specs.declared.cmp.Ordering.{Ordering}
-use Rattle.std.specs.declared.cmp.Ordering.TheVariants.{Less, Equal, Greater}
-use Rattle.std.specs.Ordering.{eq_by_cmp, is_eq}
-use Rattle.std.specs.Cmp.{IsTotalOrder, tied_itself, eq_by_cmp_equiv}
+use Rattle.std.specs.Ordering.{eq_by_cmp}
+use Rattle.std.specs.Cmp.{IsTotalOrder, eq_by_cmp_equiv}
 use Rattle.std.specs.FinMap.{IsAntisymmetric}
 use Rattle.ft_fields.specs.Orders.{key_cmp_total}
 use Rattle.ft_fields.specs.Ties.{key_same}
 use Rattle.ft_fields.specs.declared.key.Part.{Part}
+use Rattle.ft_maps.specs.Entries.{same_from_tie}
 use Rattle.ft_pairs.specs.Order.{at_cmp_total, at_same}
 use Rattle.ft_pairs.specs.declared.at.At.{At}
 use Rattle.ft_pairs.specs.Variables.{variable_cmp_total, variable_same}
 use Rattle.ft_pairs.specs.declared.role.Variable.{Variable}
 
-is_equal : (o : Ordering) → is_eq o ≡ true → o ≡ Equal
-is_equal Less e = absurd (true≢false (sym e))
-is_equal Equal e = refl
-is_equal Greater e = absurd (true≢false (sym e))
-
 module _ {K : Type 0} {R : K → K → Ordering} (total : IsTotalOrder R) where
-  -- nothing is below itself
-  pub not_below : (p : K) → R p p ≡ Less → ⊥
-  not_below p h = absurd (cc (tied_itself total p))
-
-  pub not_below_same : (p q : K) → p ≡ q → R p q ≡ Less → ⊥
-  not_below_same p q e h = not_below q (subst (λ x. R x q ≡ Less) e h)
-
   -- each is itself
   pub itself : (p : K) → eq_by_cmp R p p ≡ true
   itself p = (eq_by_cmp_equiv total).refl p
@@ -35,20 +22,17 @@ module _ {K : Type 0} {R : K → K → Ordering} (total : IsTotalOrder R) where
   module _ (same : IsAntisymmetric R) where
     -- what ties is equal
     pub tied : (p q : K) → eq_by_cmp R p q ≡ true → p ≡ q
-    tied p q e = same p q (is_equal (R p q) e)
+    tied = same_from_tie same
 
     -- what differs does not tie
     pub untied : (p q : K) → (p ≡ q → ⊥) → eq_by_cmp R p q ≡ false
-    untied p q apart = elim (eq_by_cmp R p q) as (λ b. eq_by_cmp R p q ≡ b → b ≡ false) [
-      | true ↦ λ tie. absurd (apart (tied p q tie))
-      | false ↦ λ _. refl
-    ] refl
+    untied p q apart = grind (arith, same p q, apart)
 
     -- equal or not
     pub decided : (p q : K) → (p ≡ q) ⊎ (p ≡ q → ⊥)
     decided p q = elim (eq_by_cmp R p q) as (λ b. eq_by_cmp R p q ≡ b → (p ≡ q) ⊎ (p ≡ q → ⊥)) [
       | true ↦ λ tie. inl (tied p q tie)
-      | false ↦ λ not_tied. inr (λ e. absurd (true≢false (sym (itself q) ∙ ap (λ x. eq_by_cmp R x q) (sym e) ∙ not_tied)))
+      | false ↦ λ not_tied. inr (λ e. absurd (cc (sym (itself q) ∙ ap (λ x. eq_by_cmp R x q) (sym e) ∙ not_tied)))
     ] refl
 
 pub at_decided : (p q : At) → (p ≡ q) ⊎ (p ≡ q → ⊥)
@@ -66,11 +50,6 @@ pub none_not_some : {X : Type 0} (o : Option X) (x : X) → o ≡ None → o ≡
 none_not_some o x none some = absurd (cc (sym none ∙ some))
 
 -- ---- results
-
--- what two facts of a success tell together
-pub on_ok_both : {T E : Type 0} {P Q S : Type 0} (r : Result T E) → (P → Q → S) → OnOk r P → OnOk r Q → OnOk r S
-on_ok_both (Ok x) f p q = f p q
-on_ok_both (Err e) f p q = tt
 
 -- what a fact of a success and one of its value tell together
 pub if_ok_both : {T E : Type 0} (P : Type 0) (Q S : T → Type 0) (r s : Result T E) → r ≡ s → ((x : T) → P → Q x → S x) → OnOk s P → IfOk s Q → IfOk r S

@@ -4,10 +4,8 @@ pub mod Decided
 pub mod Edge
 pub mod Findable
 pub mod Followed
-pub mod Hitting
 pub mod KeyByKey
 pub mod Listed
 pub mod OneKey
-pub mod Passing
-pub mod Saving
+pub mod Walking
 pub mod Unasked

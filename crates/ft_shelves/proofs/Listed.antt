@@ -1,20 +1,20 @@
 -- What is listed of the events of a key, looked up: events, hits, saves, reads, and what readings found.
 use Rattle.std.proofs.Common.{◌≡◌, cond, List, [], ◌∷◌, ap, ◌∙◌, Some, Bool, true, false, ◌++◌, refl, sym, None, Option, ◌+◌, ◌<◌, ◌≤◌, ℕ, zero, suc, arith, ℤ, get_or, length, subst, inl, inr}
-use Rattle.std.specs.List.{AllByRecursion, cons_option, filter, list_any}
+use Rattle.std.specs.List.{AllByRecursion, filter, list_any}
 use Rattle.std.specs.List.Sorted.{IsStrictlySortedBy}
 use Rattle.std.specs.Map.{keys_of, update, update_all}
 use Rattle.std.specs.declared.cmp.Ordering.{Ordering}
 use Rattle.std.specs.declared.cmp.Ordering.TheVariants.{Less}
-use Rattle.std.specs.Ordering.{is_eq, eq_by_cmp, nat_cmp}
+use Rattle.std.specs.Ordering.{eq_by_cmp, nat_cmp}
 use Rattle.std.specs.Cmp.{IsTotalOrder, eq_by_cmp_equiv, tied_then}
 use Rattle.std.specs.FinMap as map
 use Rattle.std.specs.FinMap.{find, entries_sorted, get-entries, IsAntisymmetric, get-empty, get-from_entries}
 use Rattle.std.proofs.lemmas.Map.Keys.{sorted_head, sorted_tail}
-use Rattle.ft_maps.specs.Entries.{strictly_sorted, same_from_tie}
-use Rattle.ft_maps.proofs.Common.{all_map, and_true, cond_same, all_filter}
+use Rattle.ft_maps.specs.Entries.{strictly_sorted}
+use Rattle.ft_maps.proofs.Common.{all_map, cond_same, all_filter}
 use Rattle.std.specs.Prelude.{◌&&◌, option_and_then, option_map, ◌||◌, is_some}
 use Rattle.std.specs.Option.{option_or, option_map_or}
-use Rattle.ft_shelves.specs.inner.Joining.{chosen, act_at, found_last, hits_of_run, readings_of, reads_of_run, saves_of_run}
+use Rattle.ft_shelves.specs.inner.Joining.{chosen, act_at, found_last, hits_of_run, readings_of_run, reads_of_run, saves_of_run}
 use Rattle.std.specs.Borrow.{Bor}
 use Rattle.std.specs.FinMap.Entries.{is_some-find}
 use Rattle.std.proofs.Math.ListN.{get_or-map}
@@ -39,21 +39,26 @@ use Rattle.ft_store.specs.declared.stored.Stored.{Stored}
 use Rattle.ft_table.specs.Hits.{Hits}
 use Rattle.ft_table.specs.Spots.{spot_cmp, spot_cmp_total, traced}
 use Rattle.ft_table.specs.Values.{values_at}
-use Rattle.ft_shelves.specs.Joining.{AreGroupsOf, ReadBy, acts_with, event_in, hit_in, read_from, reading_in, what_read}
+use Rattle.ft_shelves.specs.Joining.{AreGroupsOf, ReadBy, acts_with, event_in, hit_in, reading_in, what_read}
 use Rattle.ft_shelves.proofs.Attached.{each_found}
 use Rattle.ft_shelves.proofs.Decided.{itself, key_decided, none_not_some, untied}
 use Rattle.ft_shelves.proofs.KeyByKey.{IsPut, is_left, left_no_more, left_now, left_still, no_run, none_left, put_none}
 
 -- ---- in order
 
-module _ {K X : Type 0} {R : K → K → Ordering} (same : IsAntisymmetric R) where
+module _ {K X : Type 0} {R : K → K → Ordering} (total : IsTotalOrder R) (same : IsAntisymmetric R) where
   none_above : (k : K) (es : List (K × X)) → AllByRecursion (λ q. R k q ≡ Less) (keys_of es) → find R k es ≡ None
   none_above k [] above = refl
-  none_above k (e ∷ es) above = ap (λ o. cond (is_eq o) (Some e.1) (find R k es)) above.0 ∙ none_above k es above.1
+  none_above k (e ∷ es) above = grind (arith, none_above k es, above.0, above.1)
 
   -- the first entry's key is at no other
   none_later : (q : K) (e : K × X) (es : List (K × X)) → IsStrictlySortedBy R (keys_of (e ∷ es)) → eq_by_cmp R q e.0 ≡ true → find R q es ≡ None
-  none_later q e es sorted tie = ap (λ k. find R k es) (same_from_tie same q e.0 tie) ∙ none_above e.0 es (sorted_head R e.0 (keys_of es) sorted)
+  none_later q e es sorted tie = grind (arith, none_above e.0 es (sorted_head R e.0 (keys_of es) sorted), same q e.0)
+
+  -- among the entries whose values pass a test, a key has what it had, if that passes
+  pub find-filter : (test : X → Bool) (q : K) (es : List (K × X)) → IsStrictlySortedBy R (keys_of es) → find R q (filter (λ e. test e.1) es) ≡ option_and_then (λ x. cond (test x) (Some x) None) (find R q es)
+  find-filter test q [] sorted = refl
+  find-filter test q (e ∷ es) sorted = let rest = find-filter test q es (sorted_tail R e.0 (keys_of es) sorted) in let none = none_later q e es sorted in grind (arith, rest, none)
 
 module _ {K X : Type 0} (R : K → K → Ordering) (test : K × X → Bool) where
   above_filter : (k : K) (es : List (K × X)) → AllByRecursion (λ q. R k q ≡ Less) (keys_of es) → AllByRecursion (λ q. R k q ≡ Less) (keys_of (filter test es))
@@ -74,80 +79,25 @@ module _ {K X : Type 0} (R : K → K → Ordering) (test : K × X → Bool) wher
 
 -- ---- chosen
 
--- one or none in front of what else is found, if it stands there
-abbrev first : {Y : Type 0} → Option Y → Bool → Option Y → Option Y
-first None tie rest = rest
-first (Some y) tie rest = cond tie (Some y) rest
-
-found_first : {L Y : Type 0} (S : L → L → Ordering) (w : Option Y) (q k : L) (es : List (L × Y)) → find S q (cons_option (option_map (λ y. (k, y)) w) es) ≡ first w (eq_by_cmp S q k) (find S q es)
-found_first S None q k es = refl
-found_first S (Some y) q k es = refl
-
-module _ {K X L Y : Type 0} (into : K → L) (worth : K → X → Option Y) {R : K → K → Ordering} (same : IsAntisymmetric R) (out : L → K) (fits : L → Bool) where
-  step : (q : L) (e : K × X) (later : Option X) (rest w : Option Y) (b f : Bool) → worth e.0 e.1 ≡ w → eq_by_cmp R (out q) e.0 ≡ b → (b ≡ true → later ≡ None)
-      → rest ≡ cond f (option_and_then (worth (out q)) later) None → first w (b && f) rest ≡ cond f (option_and_then (worth (out q)) (cond b (Some e.1) later)) None
-  step q e later rest None true true is tie none found = found ∙ ap (option_and_then (worth (out q))) (none refl) ∙ sym (ap (λ k. worth k e.1) (same_from_tie same (out q) e.0 tie) ∙ is)
-  step q e later rest (Some y) true true is tie none found = sym (ap (λ k. worth k e.1) (same_from_tie same (out q) e.0 tie) ∙ is)
-  step q e later rest None true false is tie none found = found
-  step q e later rest (Some y) true false is tie none found = found
-  step q e later rest None false f is tie none found = found
-  step q e later rest (Some y) false f is tie none found = found
-
-  module _ (S : L → L → Ordering) (ties : (q : L) (k : K) → eq_by_cmp S q (into k) ≡ (eq_by_cmp R (out q) k && fits q)) where
-    -- what is found there is what is chosen of the entry that is found at the key that it stands for
-    pub find-chosen : (q : L) (es : List (K × X)) → IsStrictlySortedBy R (keys_of es) → find S q (chosen into worth es) ≡ cond (fits q) (option_and_then (worth (out q)) (find R (out q) es)) None
-    find-chosen q [] sorted = sym (cond_same (fits q) None)
-    find-chosen q (e ∷ es) sorted =
-        found_first S (worth e.0 e.1) q (into e.0) (chosen into worth es)
-        ∙ ap (λ b. first (worth e.0 e.1) b (find S q (chosen into worth es))) (ties q e.0)
-        ∙ step q e (find R (out q) es) (find S q (chosen into worth es)) (worth e.0 e.1) (eq_by_cmp R (out q) e.0) (fits q) refl refl
-        (none_later same (out q) e es sorted) (find-chosen q es (sorted_tail R e.0 (keys_of es) sorted))
-
-module _ {K X : Type 0} {R : K → K → Ordering} (same : IsAntisymmetric R) where
-  -- what passes a test is chosen
-  as_chosen : (test : K × X → Bool) (es : List (K × X)) → filter test es ≡ chosen (λ k. k) (λ k x. cond (test (k, x)) (Some x) None) es
-  as_chosen test [] = refl
-  as_chosen test (e ∷ es) = elim (test e) as (λ b. cond b (e ∷ filter test es) (filter test es) ≡ cons_option (option_map (λ x. (e.0, x)) (cond b (Some e.1) None)) (chosen (λ k. k) (λ k x. cond (test (k, x)) (Some x) None) es)) [
-    | true ↦ ap (λ xs. e ∷ xs) (as_chosen test es)
-    | false ↦ as_chosen test es
-  ]
-
-  -- among the entries that pass, a key has what it had, if that passes
-  pub find-filter : (test : K × X → Bool) (q : K) (es : List (K × X)) → IsStrictlySortedBy R (keys_of es) → find R q (filter test es) ≡ option_and_then (λ x. cond (test (q, x)) (Some x) None) (find R q es)
-  find-filter test q es sorted =
-      ap (find R q) (as_chosen test es)
-      ∙ find-chosen (λ k. k) (λ k x. cond (test (k, x)) (Some x) None) same (λ k. k) (λ _. true) R (λ p k. sym (and_true (eq_by_cmp R p k))) q es sorted
-
--- ---- put in turn
+module _ {K X L Y : Type 0} (into : K → L) (worth : K → X → Option Y) {R : K → K → Ordering} (total : IsTotalOrder R) (same : IsAntisymmetric R) (out : L → K) (fits : L → Bool) (S : L → L → Ordering)
+    (ties : (q : L) (k : K) → eq_by_cmp S q (into k) ≡ (eq_by_cmp R (out q) k && fits q)) where
+  -- what is found there is what is chosen of the entry that is found at the key that it stands for
+  pub find-chosen : (q : L) (es : List (K × X)) → IsStrictlySortedBy R (keys_of es) → find S q (chosen into worth es) ≡ cond (fits q) (option_and_then (worth (out q)) (find R (out q) es)) None
+  find-chosen q [] sorted = sym (cond_same (fits q) None)
+  find-chosen q (e ∷ es) sorted =
+      let rest = find-chosen q es (sorted_tail R e.0 (keys_of es) sorted) in
+      let none = none_later total same (out q) e es sorted in
+      grind (arith, rest, none, ties q e.0, same (out q) e.0)
 
 module _ {K X Y : Type 0} (worth : K → X → Option Y) {R : K → K → Ordering} (total : IsTotalOrder R) (same : IsAntisymmetric R) where
-  -- a map by look-up, with one more or none
-  abbrev with_one : K → Option Y → (K → Option Y) → K → Option Y
-  with_one k None base = base
-  with_one k (Some y) base = update (eq_by_cmp R) base k (Some y)
-
-  put_first : (w : Option Y) (k : K) (es : List (K × Y)) (base : K → Option Y) (q : K) → update_all (eq_by_cmp R) base (cons_option (option_map (λ y. (k, y)) w) es) q ≡ update_all (eq_by_cmp R) (with_one k w base) es q
-  put_first None k es base q = refl
-  put_first (Some y) k es base q = refl
-
-  put_step : (q : K) (e : K × X) (later : Option X) (base : K → Option Y) (w : Option Y) (b : Bool) → worth e.0 e.1 ≡ w → eq_by_cmp R q e.0 ≡ b → (b ≡ true → later ≡ None)
-      → option_or (option_and_then (worth q) later) (with_one e.0 w base q) ≡ option_or (option_and_then (worth q) (cond b (Some e.1) later)) (base q)
-  put_step q e later base None true is tie none = ap (λ o. option_or (option_and_then (worth q) o) (base q)) (none refl) ∙ sym (ap (λ o. option_or o (base q)) (ap (λ k. worth k e.1) (same_from_tie same q e.0 tie) ∙ is))
-  put_step q e later base None false is tie none = refl
-  put_step q e later base (Some y) true is tie none =
-      ap (λ o. option_or (option_and_then (worth q) o) (cond (eq_by_cmp R e.0 q) (Some y) (base q))) (none refl)
-      ∙ ap (λ t. cond t (Some y) (base q)) ((eq_by_cmp_equiv total).symm e.0 q ∙ tie)
-      ∙ sym (ap (λ o. option_or o (base q)) (ap (λ k. worth k e.1) (same_from_tie same q e.0 tie) ∙ is))
-  put_step q e later base (Some y) false is tie none = ap (λ t. option_or (option_and_then (worth q) later) (cond t (Some y) (base q))) ((eq_by_cmp_equiv total).symm e.0 q ∙ tie)
-
   -- what is chosen, put in turn over what is there
   pub put-chosen : (es : List (K × X)) → IsStrictlySortedBy R (keys_of es) → (base : K → Option Y) (q : K)
       → update_all (eq_by_cmp R) base (chosen (λ k. k) worth es) q ≡ option_or (option_and_then (worth q) (find R q es)) (base q)
   put-chosen [] sorted base q = refl
   put-chosen (e ∷ es) sorted base q =
-      put_first (worth e.0 e.1) e.0 (chosen (λ k. k) worth es) base q
-      ∙ put-chosen es (sorted_tail R e.0 (keys_of es) sorted) (with_one e.0 (worth e.0 e.1) base) q
-      ∙ put_step q e (find R q es) base (worth e.0 e.1) (eq_by_cmp R q e.0) refl refl (none_later same q e es sorted)
+      let rest = λ (base : K → Option Y). put-chosen es (sorted_tail R e.0 (keys_of es) sorted) base q in
+      let none = none_later total same q e es sorted in
+      grind (arith, rest, none, same q e.0, (eq_by_cmp_equiv total).symm e.0 q)
 
 -- a list after another is put last
 pub put_behind : {K X : Type 0} (same : K → K → Bool) (base : K → Option X) (es more : List (K × X)) (q : K) → update_all same base (es ++ more) q ≡ update_all same (update_all same base es) more q
@@ -234,7 +184,7 @@ module _ (hist : Hist) (groups : Grouped) (of : AreGroupsOf hist groups) where
   pub event_of : (key : List Part) (pos : Pos) → event_in groups key pos ≡ under key (acts_with hist of.events pos)
   event_of key pos =
       ap (find pos_cmp pos) (of.grouped.runs key)
-      ∙ find-filter pos_same (λ e. is_under hist key e.1) pos (map.entries of.events) events_ascend
+      ∙ find-filter pos_cmp_total pos_same (is_under hist key) pos (map.entries of.events) events_ascend
       ∙ ap (option_and_then (λ event. cond (is_under hist key event) (Some event) None)) (sym (get-entries of.events pos))
       ∙ counted key (map.get of.events pos)
 
@@ -243,7 +193,7 @@ module _ (hist : Hist) (groups : Grouped) (of : AreGroupsOf hist groups) where
   pub hit_listed : (read : ReadBy) (key : List Part) (spot : Spot) → map.get (map.from_entries {R = spot_cmp} (hits_of_run hist (read key) (run_of groups key))) spot ≡ hit_in hist groups read key spot
   hit_listed read key spot =
       get-from_entries spot_cmp_total (hits_of_run hist (read key) (run_of groups key)) spot
-      ∙ find-chosen traced (λ pos event. option_map (values_at hist pos event) (read key pos)) pos_same (λ (s : Spot). s.pos) (λ s. eq_by_cmp nat_cmp s.maker 0) spot_cmp
+      ∙ find-chosen traced (λ pos event. option_map (values_at hist pos event) (read key pos)) pos_cmp_total pos_same (λ (s : Spot). s.pos) (λ s. eq_by_cmp nat_cmp s.maker 0) spot_cmp
       (λ s pos. sym (tied_then (pos_cmp s.pos pos) (nat_cmp s.maker 0))) spot (run_of groups key) (run_ascends key)
 
   -- at first none stands
@@ -267,14 +217,10 @@ module _ (hist : Hist) (groups : Grouped) (of : AreGroupsOf hist groups) where
   save_listed id key at =
       get-from_entries at_cmp_total (saves_of_run id (run_of groups key)) at
       ∙ ap (find at_cmp at) (saves_chosen id (run_of groups key))
-      ∙ find-chosen {X = Traced} (λ pos. record { pos = pos; trigger = id }) (λ pos event. Some Save) pos_same (λ (q : At). q.pos) (λ q. eq_by_cmp nat_cmp q.trigger id) at_cmp
+      ∙ find-chosen {X = Traced} (λ pos. record { pos = pos; trigger = id }) (λ pos event. Some Save) pos_cmp_total pos_same (λ (q : At). q.pos) (λ q. eq_by_cmp nat_cmp q.trigger id) at_cmp
       (λ q pos. sym (tied_then (pos_cmp q.pos pos) (nat_cmp q.trigger id))) at (run_of groups key) (run_ascends key)
 
   -- ---- readings
-
-  found_chosen : (find : At → Option At) (id : ℕ) (run : List (Pos × Traced)) → readings_of find (reads_of_run id run) ≡ chosen (λ k. k) (λ pos event. option_map (λ (saved : At). saved.pos) (find (record { pos = pos; trigger = id }))) run
-  found_chosen find id [] = refl
-  found_chosen find id (e ∷ run) = ap (cons_option (option_map (λ saved. (e.0, saved)) (option_map (λ (saved : At). saved.pos) (find (act_at id e))))) (found_chosen find id run)
 
   module _ (keys : List (List Part)) (are : keys ≡ groups.keys) where
     pub gathered_none : (read : ReadBy) → AreGathered (acts_with hist of.events) read keys 0 []
@@ -288,22 +234,18 @@ module _ (hist : Hist) (groups : Grouped) (of : AreGroupsOf hist groups) where
         by None acting = refl
         by (Some a) acting = left a acting (is_left keys 0 a.0) refl
 
-    module _ (id : ℕ) (find : List Part → At → Option At) (n : ℕ) (k : List Part) (within : n < length keys) (is : k ≡ get_or keys n k) where
-      abbrev read : ReadBy
-      read = read_from (λ key pos. find key (record { pos = pos; trigger = id }))
-
+    module _ (read : ReadBy) (n : ℕ) (k : List Part) (within : n < length keys) (is : k ≡ get_or keys n k) where
       -- with those of the next key
       pub gathered_more : (readings : List (Pos × Pos)) → AreGathered (acts_with hist of.events) read keys n readings
-          → AreGathered (acts_with hist of.events) read keys (n + 1) (readings ++ readings_of (find k) (reads_of_run id (run_of groups k)))
+          → AreGathered (acts_with hist of.events) read keys (n + 1) (readings ++ readings_of_run (read k) (run_of groups k))
       gathered_more readings before pos =
-          put_behind (eq_by_cmp pos_cmp) (λ _. None) readings (readings_of (find k) (reads_of_run id (run_of groups k))) pos
-          ∙ ap (λ es. update_all (eq_by_cmp pos_cmp) (found_last readings) es pos) (found_chosen (find k) id (run_of groups k))
-          ∙ put-chosen (λ place event. option_map (λ (saved : At). saved.pos) (find k (record { pos = place; trigger = id }))) pos_cmp_total pos_same (run_of groups k) (run_ascends k) (found_last readings) pos
+          put_behind (eq_by_cmp pos_cmp) (λ _. None) readings (readings_of_run (read k) (run_of groups k)) pos
+          ∙ put-chosen (λ place event. what_read (read k place)) pos_cmp_total pos_same (run_of groups k) (run_ascends k) (found_last readings) pos
           ∙ (λ i. option_or (Found (event_of k pos i)) (before pos i))
           ∙ by (acts_with hist of.events pos)
         where
           Found : Option Traced → Option Pos
-          Found o = option_and_then (λ event. option_map (λ (saved : At). saved.pos) (find k (record { pos = pos; trigger = id }))) o
+          Found o = option_and_then (λ event. what_read (read k pos)) o
 
           none_else : (o : Option Pos) → option_or o None ≡ o
           none_else None = refl
@@ -314,8 +256,7 @@ module _ (hist : Hist) (groups : Grouped) (of : AreGroupsOf hist groups) where
           by (Some a) = elim (key_decided k a.0) [
             | inl own ↦ subst (λ key. option_or (Found (under k (Some (key, a.1)))) (left_reading read keys n pos (Some (key, a.1))) ≡ left_reading read keys (n + 1) pos (Some (key, a.1))) own
                 ((λ i. option_or (Found (under_own (k, a.1) i)) (cond (left_now hist groups of keys are n k within is i) None (what_read (read k pos))))
-                ∙ none_else (option_map (λ (saved : At). saved.pos) (find k (record { pos = pos; trigger = id })))
-                ∙ flat (find k (record { pos = pos; trigger = id }))
+                ∙ none_else (what_read (read k pos))
                 ∙ sym (ap (λ b. cond b None (what_read (read k pos))) (left_no_more hist groups of keys are n k within is)))
             | inr apart ↦
                 ap (λ o. option_or (Found o) (left_reading read keys n pos (Some a))) (under_other k a apart)
@@ -325,10 +266,7 @@ module _ (hist : Hist) (groups : Grouped) (of : AreGroupsOf hist groups) where
 -- ---- reads
 
 either_and : (a b t : Bool) → ((a && t) || (b && t)) ≡ ((a || b) && t)
-either_and true b true = refl
-either_and true true false = refl
-either_and true false false = refl
-either_and false b t = refl
+either_and a b t = grind arith
 
 -- a read of a run stands at a place, if an event's place and the trigger's id are there
 pub any_read : (id : ℕ) (q : At) (run : List (Pos × Traced)) → list_any (same_at q) (reads_of_run id run) ≡ (is_some (find pos_cmp q.pos run) && eq_by_cmp nat_cmp q.trigger id)

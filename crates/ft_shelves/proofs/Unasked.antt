@@ -9,7 +9,7 @@ use Rattle.ft_hist.specs.Hist.{Hist}
 use Rattle.ft_hist.specs.Values.{value_at, value_of, values_of}
 use Rattle.ft_hist.specs.declared.item.Item.{Item}
 use Rattle.ft_hist.specs.declared.item.Item.TheVariants as items
-use Rattle.ft_shelves.specs.inner.Sums.{is_field}
+use Rattle.ft_shelves.specs.inner.Joining.{is_field}
 
 -- what no field is counts the same
 unasked_item : (a b : Traced) (own : ℤ) (item : Item) → is_field item ≡ false → value_of a own item ≡ value_of b own item

@@ -10,8 +10,8 @@ use Rattle.ft_table.specs.Growth.{with_hit}
 use Rattle.ft_table.specs.Hits.{Hits}
 use Rattle.ft_table.specs.OneKey.{without_hit}
 use Rattle.ft_table.specs.Tabled.{Tabled}
-use Rattle.ft_shelves.specs.declared.change.HitChange.{HitChange}
-use Rattle.ft_shelves.specs.declared.change.HitChange.TheVariants as changes
+use Rattle.ft_shelves.specs.declared.sign.HitChange.{HitChange}
+use Rattle.ft_shelves.specs.declared.sign.HitChange.TheVariants as changes
 use Rattle.ft_shelves.specs.declared.sign.Sign.{Sign}
 use Rattle.ft_shelves.specs.declared.sign.Sign.TheVariants.{Insert, Retract}
 use Rattle.ft_shelves.specs.Shelves.{Readings, Shelved}

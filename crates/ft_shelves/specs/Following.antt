@@ -15,8 +15,8 @@ use Rattle.ft_table.specs.Tabled.{Tabled, is_in}
 use Rattle.ft_shelves.specs.Changes.{PlaceIsFree, change_mark, op_after, set_op, sign_of, with_change}
 use Rattle.ft_shelves.specs.Switches.{differ, Members}
 use Rattle.ft_shelves.specs.Shelves.{Shelved}
-use Rattle.ft_shelves.specs.declared.change.HitChange.{HitChange}
-use Rattle.ft_shelves.specs.declared.change.HitChange.TheVariants as changes
+use Rattle.ft_shelves.specs.declared.sign.HitChange.{HitChange}
+use Rattle.ft_shelves.specs.declared.sign.HitChange.TheVariants as changes
 use Rattle.ft_shelves.specs.declared.saver.Moved.{Moved}
 
 -- the operations on a key's variable with a save at each hit of the key (kernel: histogram.rst, inter-event hist triggers)

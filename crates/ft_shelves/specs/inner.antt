@@ -1,4 +1,3 @@
 -- Words of private functions: what helps to prove, and nothing that public clauses say.
 pub mod Following
 pub mod Joining
-pub mod Sums

@@ -1,7 +1,8 @@
 //! A trigger that joins: each key's part of what is kept of it is made as a whole, from the events of
 //! that key.
 
-ghost use Rattle.std.specs.Prelude.{◌≡◌, ◌++◌, ◌∷◌, [], List, length, Option, None, OnOk, IfOk};
+ghost use Rattle.std.specs.Prelude.{◌≡◌, ◌++◌, ◌∷◌, [], List, Option, None, OnOk, IfOk};
+ghost use Rattle.std.specs.List.{list_any};
 ghost use Rattle.std.specs.Option.{option_copied};
 ghost use Rattle.std.specs.FinMap as map;
 ghost use Rattle.ft_groups.specs.Grouped.{run_of};
@@ -10,17 +11,17 @@ ghost use Rattle.ft_fields.specs.declared.pos.Pos.{Pos};
 ghost use Rattle.ft_pairs.specs.ByKey.{ops_of};
 ghost use Rattle.ft_pairs.specs.declared.at.At.{At};
 ghost use Rattle.ft_store.specs.Stored.{held};
+ghost use Rattle.ft_table.specs.Values.{values_at};
 ghost use Rattle.ft_shelves.specs.Joining.{AreGroupsOf, HasGroups, HasSaves, unread};
-ghost use Rattle.ft_shelves.specs.inner.Joining.{AreFound, AreReadAt, ReadingsJoin, hits_of_run, read_at, readings_of, reads_of_run, saves_of_run};
+ghost use Rattle.ft_shelves.specs.inner.Joining.{AreReadAt, ReadingsJoin, hits_of_run, is_field, read_at, readings_of_run, reads_of_run, saves_of_run};
 ghost use Rattle.ft_shelves.specs.Counts.{TestsNone};
 
-use crate::sums::sums_at;
-use ft_fields::Pos;
+use ft_fields::{Event, Pos};
 use ft_groups::Groups;
-use ft_hist::{Key, Trigger, Triggers, Work};
+use ft_hist::{Item, Key, Trigger, Triggers, Work};
 use ft_pairs::{At, Op, Pairs};
 use ft_store::Stored;
-use ft_table::{Spot, Table};
+use ft_table::{Spot, Table, own_value};
 use std::alloc::{AllocError, Global};
 
 /// A trigger that joins others, and the events that it counts, grouped by key.
@@ -51,8 +52,9 @@ pub(crate) fn put_groups(
         table.old table.new) }
     ensures work { TestsNone work.old work.new }
 {
+    let mut none = Vec::new(joining.alloc);
     for key in joining.groups.keys() {
-        let run = hits_of(joining, key, None)?;
+        let run = hits_of(joining, key, None, &mut none)?;
         table.put_key(*key, run, work)?;
     }
     Ok(())
@@ -100,36 +102,41 @@ pub(crate) fn read_groups(
         // First all reads of the key, so that each finds what it will find.
         let reads = reads_of(joining, key)?;
         let found = pairs.put_reads(*key, &reads, work)?;
-        let run = hits_of(joining, key, Some(&found))?;
+        let run = hits_of(joining, key, Some(&found), &mut readings)?;
         table.put_key(*key, run, work)?;
-        gather(&reads, &found, &mut readings)?;
     }
     Ok(readings)
 }
 
 /// The hits of a key's events, by what their readings found, if they read: those that found nothing
-/// are none. Refused for memory.
+/// are none. What was found is added to the readings. Refused for memory.
 fn hits_of(
     joining: &Joining<'_, '_>,
     key: &Key,
     found: Option<&[Option<At>]>,
+    readings: &mut Vec<(Pos, Pos)>,
 ) -> Result<Vec<(Spot, [i64; 3])>, AllocError>
     requires { AreGroupsOf joining.now.trigger.now joining.now.groups.now }
-    ensures { (read : Pos → Option (Option Pos))
+    ensures hits { (read : Pos → Option (Option Pos))
         → AreReadAt (option_copied found.entry) read (run_of joining.now.groups.now key.now)
         → IfOk result (λ hits. hits.items
         ≡ hits_of_run joining.now.trigger.now read (run_of joining.now.groups.now key.now)) }
+    ensures readings { (read : Pos → Option (Option Pos))
+        → AreReadAt (option_copied found.entry) read (run_of joining.now.groups.now key.now)
+        → OnOk result (readings.new.items ≡ readings.old.items
+        ++ readings_of_run read (run_of joining.now.groups.now key.now)) }
 {
     let run = joining.groups.run(key);
     let mut hits = Vec::with_capacity(joining.alloc, run.len())?;
     for (i, event) in run.iter().enumerate() {
-        add_hit(joining.trigger, event, read_at(found, i), &mut hits)?;
+        let read = read_at(found, i);
+        add_hit(joining.trigger, event, read, &mut hits, readings)?;
     }
     Ok(hits)
 }
 
-/// What the event in a place of a run read, if it is a hit: nothing where nothing reads, else what
-/// its reading found.
+/// What the event at an index of a run read, if it is a hit: nothing if nothing reads, else what its
+/// reading found.
 fn read_at(found: Option<&[Option<At>]>, i: usize) -> Option<Option<Pos>>
     ensures { result ≡ read_at (option_copied found.entry) i }
 {
@@ -142,54 +149,56 @@ fn read_at(found: Option<&[Option<At>]>, i: usize) -> Option<Option<Pos>>
     }
 }
 
-/// Adds the hit of an event, if it is one, by what it read. Refused for memory.
+/// Adds the hit of an event, if it is one, by what it read, and what its reading found. Refused for
+/// memory.
 fn add_hit(
     trigger: &Trigger,
     event: &(Pos, Stored<'_>),
     read: Option<Option<Pos>>,
     hits: &mut Vec<(Spot, [i64; 3])>,
+    readings: &mut Vec<(Pos, Pos)>,
 ) -> Result<(), AllocError>
     requires { (held event.now.1).stamp ≡ event.now.0.stamp }
-    ensures { OnOk result (hits.new.items ≡ hits.old.items
+    ensures hits { OnOk result (hits.new.items ≡ hits.old.items
         ++ hits_of_run trigger.now (λ _. read) ((event.now.0, held event.now.1) ∷ [])) }
+    ensures readings { OnOk result (readings.new.items ≡ readings.old.items
+        ++ readings_of_run (λ _. read) ((event.now.0, held event.now.1) ∷ [])) }
 {
     let Some(read) = read else {
         return Ok(());
     };
     hits.push((Spot::traced(event.0), sums_at(trigger, event, read)))?;
-    Ok(())
-}
-
-/// Gathers what reads found after what others did. Refused for memory.
-fn gather(
-    reads: &[At],
-    found: &[Option<At>],
-    readings: &mut Vec<(Pos, Pos)>,
-) -> Result<(), AllocError>
-    requires { length found.now ≡ length reads.now }
-    ensures { (find : At → Option At) → AreFound find reads.now found.now
-        → OnOk result (readings.new.items ≡ readings.old.items ++ readings_of find reads.now) }
-{
-    for (i, read) in reads.iter().enumerate() {
-        add_reading(*read, found[i], readings)?;
-    }
-    Ok(())
-}
-
-/// Adds what a read found, if it found something. Refused for memory.
-fn add_reading(
-    read: At,
-    found: Option<At>,
-    readings: &mut Vec<(Pos, Pos)>,
-) -> Result<(), AllocError>
-    ensures { OnOk result
-        (readings.new.items ≡ readings.old.items ++ readings_of (λ _. found) (read ∷ [])) }
-{
-    let Some(saved) = found else {
+    let Some(saved) = read else {
         return Ok(());
     };
-    readings.push((read.pos, saved.pos))?;
+    readings.push((event.0, saved))?;
     Ok(())
+}
+
+/// What a trigger's hit at an event adds to its sums, by what it read. The event's stamp is that of
+/// its place, so the event is looked at only if the trigger sums a field of it.
+fn sums_at(trigger: &Trigger, event: &(Pos, Stored<'_>), read: Option<Pos>) -> [i64; 3]
+    requires { (held event.now.1).stamp ≡ event.now.0.stamp }
+    ensures { result ≡ values_at trigger.now event.now.0 (held event.now.1) read }
+{
+    if trigger.values().is_empty() {
+        return [0, 0, 0];
+    }
+    let (pos, stored) = *event;
+    // A law, by which the stamp of its place is at most an event's.
+    stored.stamp_fits();
+    let own = own_value(pos.stamp, read);
+    if sums_field(trigger.values()) {
+        return trigger.values_of(&stored.bare(), own);
+    }
+    trigger.values_of(&Event::blank(), own)
+}
+
+/// Whether one of these value items is a field of events.
+fn sums_field(items: &[Item]) -> bool
+    ensures { result ≡ list_any is_field items.now }
+{
+    items.iter().any(|item| matches!(item, Item::Num(_)))
 }
 
 /// The saves of a key's events. Refused for memory.

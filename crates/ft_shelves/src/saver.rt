@@ -1,19 +1,18 @@
 //! What a saver's shelf keeps: the operations on what it saves follow the keys of its table.
 
-ghost use Rattle.std.specs.Prelude.{◌≡◌, ◌+◌, ◌≤◌, ◌⊎◌, List, false, None, OnOk, IfOk, if◌then◌else◌};
+ghost use Rattle.std.specs.Prelude.{◌≡◌, ◌+◌, ◌≤◌, ◌⊎◌, List, false, None, OnOk, IfOk};
 ghost use Rattle.ft_fields.specs.declared.pos.Pos.{Pos};
 ghost use Rattle.ft_fields.specs.declared.key.Part.{Part};
 ghost use Rattle.ft_pairs.specs.ByKey.{ops_of};
 ghost use Rattle.ft_table.specs.Tabled.{is_in};
-ghost use Rattle.ft_shelves.specs.Changes.{is_insert, change_mark, on_insert, sign_of, table_with};
+ghost use Rattle.ft_shelves.specs.Changes.{change_mark, on_insert, sign_of, table_with};
 ghost use Rattle.ft_shelves.specs.Following.{HitFollows, IsUnsaved, MovesKeys};
 ghost use Rattle.ft_shelves.specs.Switches.{HasMoved};
-ghost use Rattle.ft_shelves.specs.inner.Following.{OwnChanges, edge_for, has_crossed};
+ghost use Rattle.ft_shelves.specs.inner.Following.{OwnChanges, beside, edge_for};
 ghost use Rattle.ft_shelves.specs.Counts.{TestsNone, PutsAtMost};
 
-use crate::change::HitChange;
 use crate::shelf::Shelf;
-use crate::sign::Sign;
+use crate::sign::{HitChange, Sign};
 use ft_hist::{Key, Work};
 use ft_pairs::{At, Op};
 use ft_table::{Mark, Table, first_outside, one_key};
@@ -52,16 +51,12 @@ pub fn change_saver_hit(
     let sign = change.sign();
     let key = change.mark().key;
     let was_in = shelf.table().is_in(&key);
-    let edge = edge_for(shelf.table(), sign);
+    let edge = edge_beside(shelf.table(), &key, sign);
     change_own(shelf, id, change, was_in, work)?;
-    let is_in = shelf.table().is_in(&key);
-    shelf.switch(id, key, was_in, work)?;
-    let other = crossed(shelf.table(), edge, &key, sign);
-    if let Some(moved) = other {
-        shelf.switch(id, moved, sign.is_insert(), work)?;
-    }
+    let own = shelf.follow_table(id, Some(key), was_in, work)?;
+    let other = shelf.follow_table(id, edge, sign.is_insert(), work)?;
     Ok(Moved {
-        own: was_in != is_in,
+        own: own.is_some(),
         other,
     })
 }
@@ -89,20 +84,14 @@ fn change_own(
     shelf.change_op(key, at, Op::Save, change.sign(), work)
 }
 
-/// The key at a table's edge that a change may move: the last one in as a hit comes, the first one
-/// out as one goes.
-fn edge_for(table: &Table, sign: Sign) -> Option<Key>
-    ensures { result ≡ edge_for sign table.now }
+/// The key at a table's edge that a change may move, if it is another than the hit's own: the last one
+/// in as a hit comes, the first one out as one goes.
+fn edge_beside(table: &Table, key: &Key, sign: Sign) -> Option<Key>
+    ensures { result ≡ beside key.now (edge_for sign table.now) }
 {
-    match sign {
+    let edge = match sign {
         Sign::Insert => table.edge().last_in,
         Sign::Retract => table.edge().first_out,
-    }
-}
-
-/// The key that was at a table's edge, if it is another than this one and is on the other side now.
-fn crossed(table: &Table, edge: Option<Key>, key: &Key, sign: Sign) -> Option<Key>
-    ensures { result ≡ (if has_crossed table.now key.now (is_insert sign) edge then edge else None) }
-{
-    edge.filter(|other| other != key && table.is_in(other) != sign.is_insert())
+    };
+    edge.filter(|other| other != key)
 }

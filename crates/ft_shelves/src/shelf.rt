@@ -1,31 +1,26 @@
 //! Shelves: what is kept of one attached trigger.
 
-ghost use Rattle.std.specs.Prelude.{◌≡◌, ◌<◌, List, false, true, Some, None, Ok, OnOk, IfOk, IfSome, IsTrue};
+ghost use Rattle.std.specs.Prelude.{◌≡◌, ◌<◌, List, false, true, Some, None, Ok, OnOk, IfOk, if◌then◌else◌};
 ghost use Rattle.std.specs.FinMap as map;
 ghost use Rattle.ft_fields.specs.Places.{pos_cmp};
 ghost use Rattle.ft_fields.specs.declared.pos.Pos.{Pos};
 ghost use Rattle.ft_fields.specs.declared.key.Part.{Part};
 ghost use Rattle.ft_maps.specs.Seen.{seen};
-ghost use Rattle.ft_pairs.specs.ByKey.{ChangesKey, ops_of, ops_left};
-ghost use Rattle.ft_pairs.specs.Edits.{reads_alone};
-ghost use Rattle.ft_pairs.specs.Next.{IsNext};
-ghost use Rattle.ft_pairs.specs.Source.{IsSource};
+ghost use Rattle.ft_pairs.specs.ByKey.{ChangesKey, ops_of};
 ghost use Rattle.ft_pairs.specs.declared.at.At.{At};
 ghost use Rattle.ft_pairs.specs.declared.role.Role.TheVariants.{Saves};
-ghost use Rattle.ft_table.specs.Tabled.{is_in};
 ghost use Rattle.ft_shelves.specs.Changes.{PlaceIsFree, is_insert, on_insert, op_after, set_op, sign_of, with_change};
 ghost use Rattle.ft_shelves.specs.declared.sign.Sign.TheVariants.{Retract};
 ghost use Rattle.ft_shelves.specs.Shelves.{IsNewShelf};
 ghost use Rattle.ft_shelves.specs.Edits.{OpsChange, with_hit_on, without_hit_on};
 ghost use Rattle.ft_shelves.specs.Joining.{AreGroupsOf, HasJoined, HasRead};
 ghost use Rattle.ft_shelves.specs.inner.Joining.{found_last};
-ghost use Rattle.ft_shelves.specs.Following.{with_saves, switched};
-ghost use Rattle.ft_shelves.specs.inner.Following.{with_save};
+ghost use Rattle.ft_shelves.specs.Following.{with_saves};
+ghost use Rattle.ft_shelves.specs.inner.Following.{FollowsTable, has_moved, with_save};
 ghost use Rattle.ft_shelves.specs.Counts.{TestsNone, PutsAtMost, PutsExactly};
 
-use crate::change::HitChange;
 use crate::joining::{Joining, put_groups, read_groups, save_groups};
-use crate::sign::Sign;
+use crate::sign::{HitChange, Sign};
 use ft_fields::Pos;
 use ft_hist::{Key, Work};
 use ft_maps::{put, take};
@@ -100,20 +95,11 @@ impl Shelf {
         &self.readings
     }
 
-    /// What a reading of a key finds at a place: the saving, if the last operation before it is one.
-    pub fn source(&self, key: &Key, at: At) -> Option<At>
-        ensures { IsSource (ops_of self.now.ops key.now) at result }
+    /// The operations on what it saves.
+    pub fn ops(&self) -> &Pairs
+        ensures { result.now ≡ self.now.ops }
     {
-        self.pairs.source(key, at)
-    }
-
-    /// The first operation of a key after a place, or its first of all.
-    pub fn next_op(&self, key: &Key, after: Option<At>) -> Option<(At, Op)>
-        ensures next { IsNext (ops_of self.now.ops key.now) after result }
-        ensures fewer { IfSome result (λ next.
-            ops_left self.now.ops key.now (Some next.0) < ops_left self.now.ops key.now after) }
-    {
-        self.pairs.next_op(key, after)
+        &self.pairs
     }
 
     /// Puts a hit where none stands, and what it read, if it read. Refused for memory.
@@ -183,27 +169,6 @@ impl Shelf {
         }
     }
 
-    /// Takes the saves of a key away. Its reads stay.
-    pub(crate) fn drop_saves(&mut self, key: &Key)
-        ensures { OpsChange key.now reads_alone self.old self.new }
-    {
-        self.pairs.remove_key(key);
-    }
-
-    /// Whether it has no hits.
-    pub fn has_no_hits(&self) -> bool
-        ensures { IsTrue result → self.now.table.hits ≡ map.empty }
-    {
-        self.table.is_empty()
-    }
-
-    /// Whether no operation stands on what it saves.
-    pub fn has_no_ops(&self) -> bool
-        ensures { IsTrue result → (key : List Part) (at : At) → ops_of self.now.ops key at ≡ None }
-    {
-        self.pairs.is_empty()
-    }
-
     /// Puts the hits of all groups of a trigger that joins, where it has none, and of a saver a save
     /// at each event whose key is in its table, where no operation stands. Refused for memory.
     pub fn join(&mut self, joining: &Joining<'_, '_>, work: &mut Work) -> Result<(), AllocError>
@@ -222,31 +187,38 @@ impl Shelf {
         }
     }
 
-    /// Lets the operations of a key of this saver follow its table, where the key was in it or
-    /// not: as it comes in, each hit of it saves, and as it goes out, none does. Refused for memory.
-    pub(crate) fn switch(
+    /// Lets the operations of a key of this saver follow its table, if there is a key, which was in the
+    /// table or not: as it comes in, each hit of it saves, and as it goes out, none does. The key, if it
+    /// came in or went out. Refused for memory.
+    pub(crate) fn follow_table(
         &mut self,
         id: u32,
-        key: Key,
+        key: Option<Key>,
         was_in: bool,
         work: &mut Work,
-    ) -> Result<(), AllocError>
-        requires { was_in ≡ false → (pos : Pos)
-            → ops_of self.old.ops key (record { pos = pos; trigger = id }) ≡ None }
-        ensures ok { OnOk result (OpsChange key
-            (switched was_in (is_in self.old.table key) self.old.table.hits id key)
-            self.old self.new) }
-        ensures puts { was_in ≡ is_in self.old.table key → work.new.puts ≡ work.old.puts }
+    ) -> Result<Option<Key>, AllocError>
+        requires { (k : List Part) → key ≡ Some k → was_in ≡ false → (pos : Pos)
+            → ops_of self.old.ops k (record { pos = pos; trigger = id }) ≡ None }
+        ensures ok { OnOk result (FollowsTable id key was_in self.old self.new) }
+        ensures moved { IfOk result (λ moved.
+            moved ≡ (if has_moved was_in self.old.table key then key else None)) }
+        ensures puts { has_moved was_in self.old.table key ≡ false
+            → work.new.puts ≡ work.old.puts }
         ensures work { TestsNone work.old work.new }
     {
-        match (was_in, self.table.is_in(&key)) {
-            (false, true) => self.put_saves(id, key, work),
-            (true, false) => {
-                self.drop_saves(&key);
-                Ok(())
-            }
-            (true, true) | (false, false) => Ok(()),
+        let Some(moved) = key else {
+            return Ok(None);
+        };
+        let is_in = self.table.is_in(&moved);
+        if is_in == was_in {
+            return Ok(None);
         }
+        if is_in {
+            self.put_saves(id, moved, work)?;
+            return Ok(key);
+        }
+        self.pairs.remove_key(&moved);
+        Ok(key)
     }
 
     /// Puts a save at each hit of a key, where none stands yet. Refused for memory.

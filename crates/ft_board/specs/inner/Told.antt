@@ -12,7 +12,7 @@ use Rattle.ft_replay.specs.declared.pair.Pair.{Pair}
 use Rattle.ft_replay.specs.Found.{pairs_in}
 use Rattle.ft_replay.specs.Merged.{merged}
 use Rattle.ft_replay.specs.Tally.{tally_of}
-use Rattle.ft_board.specs.declared.answers.TableOf.{TableOf}
+use Rattle.ft_board.specs.declared.kept.TableOf.{TableOf}
 
 -- what is kept of a trigger tells what replaying tells of it, and its hits' keys fit its key items
 pub record ShelfTells (base : Base) (id : ℕ) (hist : Hist) (shelf : Shelved) : Type 0 where

@@ -1,47 +1,42 @@
 -- One act that comes or goes.
-use Rattle.std.specs.Prelude.{◌≡◌, ℕ, List, [], ◌∷◌, Some, None}
+use Rattle.std.specs.Prelude.{◌≡◌, [], ◌∷◌, Some, None}
 use Rattle.std.specs.FinMap as map
-use Rattle.ft_hist.specs.Hist.{Hist}
-use Rattle.ft_pairs.specs.declared.role.Role.{Role}
+use Rattle.ft_hist.specs.Hit.{hit}
 use Rattle.ft_pairs.specs.declared.at.At.{At}
 use Rattle.ft_pairs.specs.declared.role.Variable.{Variable}
 use Rattle.ft_kept.specs.Acts.{Acts, op_of}
 use Rattle.ft_kept.specs.Bounds.{OtherSaversStay}
-use Rattle.ft_kept.specs.Changes.{HasToldFew, Told}
+use Rattle.ft_kept.specs.Changes.{HasToldFew}
+use Rattle.ft_kept.specs.declared.changes.Changes.{Changes}
 use Rattle.ft_kept.specs.Repairs.{IsHeldAt}
-use Rattle.ft_kept.specs.Views.{AreViewsOf, set}
+use Rattle.ft_kept.specs.Views.{AreViewsOf, set, triggers_of}
 use Rattle.ft_kept.specs.Signs.{act_before, act_after}
 use Rattle.ft_kept.specs.Entries.{IsRight}
 use Rattle.ft_kept.specs.inner.Edits.{StaysBut}
 use Rattle.ft_shelves.specs.Shelves.{Shelves, FormsStay, admits_on, kept_on, role_on}
-use Rattle.ft_kept.specs.Views.{triggers_of}
 use Rattle.ft_kept.specs.declared.act.Act.{Act}
-use Rattle.ft_shelves.specs.declared.change.HitChange.{HitChange}
-use Rattle.ft_shelves.specs.declared.change.HitChange.TheVariants as changes
+use Rattle.ft_shelves.specs.declared.sign.HitChange.{HitChange}
+use Rattle.ft_shelves.specs.declared.sign.HitChange.TheVariants as changes
 use Rattle.ft_shelves.specs.declared.sign.Sign.{Sign}
 use Rattle.ft_shelves.specs.declared.sign.Sign.TheVariants.{Insert, Retract}
 use Rattle.ft_table.specs.Spots.{traced}
 use Rattle.ft_table.specs.Values.{values_at, values_by}
 
--- the act of an attached trigger with a role can come or go
-pub record MayChange (act : Act) (acts : Acts) (wanted : Role) (shelves : Shelves) : Type 0 where
+-- the act of an attached trigger can come or go
+pub record MayChange (act : Act) (acts : Acts) (shelves : Shelves) : Type 0 where
   pub views : AreViewsOf (triggers_of act.scene) act.scene.lanes.now acts shelves
   pub attached : map.get (triggers_of act.scene) act.at.trigger ≡ Some act.trigger.now
   pub held : IsHeldAt act.scene.lanes.now act.at.pos act.event.now
+  pub counts : hit act.trigger.now act.event.now ≡ Some act.key
   pub was : acts act.at ≡ act_before act.sign (act.key, act.event.now)
-  pub role : role_on shelves act.at.trigger ≡ wanted
 
 -- the acts as it has come or gone
 abbrev pub acts_after : Act → Acts → Acts
 acts_after act acts = set acts act.at (act_after act.sign (act.key, act.event.now))
 
--- it is asked of one trigger
-abbrev pub asked_at : Act → List (ℕ × Hist)
-asked_at act = (act.at.trigger, act.trigger.now) ∷ []
-
--- what was told says how shelves changed, and few keys were told
-abbrev pub HasToldAct : Act → Told → Told → Shelves → Shelves → Type 0
-HasToldAct act before after old new = HasToldFew (asked_at act) before after old new
+-- what was recorded says how shelves changed, and few keys were recorded, where one trigger was asked
+abbrev pub HasToldAct : Act → Changes → Changes → Shelves → Shelves → Type 0
+HasToldAct act = HasToldFew ((act.at.trigger, act.trigger.now) ∷ [])
 
 -- it came or went; shelves keep their forms, and other savers their tables
 pub record HasChanged (act : Act) (acts : Acts) (old new : Shelves) : Type 0 where

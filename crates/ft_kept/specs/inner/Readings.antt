@@ -1,21 +1,18 @@
 -- Readings that are settled: what has to hold before it, and what is right afterwards.
 use Rattle.std.specs.Prelude.{◌≡◌, ◌⊎◌, List, Option, Some, None, option_map}
-use Rattle.std.specs.FinMap as map
 use Rattle.ft_fields.specs.Traced.{Traced}
 use Rattle.ft_fields.specs.declared.key.Part.{Part}
 use Rattle.ft_fields.specs.declared.pos.Pos.{Pos}
 use Rattle.ft_hist.specs.Hist.{Hist}
 use Rattle.ft_hist.specs.Triggers.{Triggers}
-use Rattle.ft_hits.specs.declared.mark.Mark.{Mark}
 use Rattle.ft_pairs.specs.Next.{IsNext}
 use Rattle.ft_pairs.specs.declared.at.At.{At}
 use Rattle.ft_pairs.specs.declared.at.Op.{Op}
 use Rattle.ft_pairs.specs.declared.at.Op.TheVariants.{Read}
 use Rattle.ft_pairs.specs.declared.role.Role.TheVariants.{Reads}
 use Rattle.ft_pairs.specs.declared.role.Variable.{Variable}
-use Rattle.ft_table.specs.Spots.{traced}
 use Rattle.ft_table.specs.Values.{values_at, values_by}
-use Rattle.ft_shelves.specs.Shelves.{KeepsForm, Shelved, Shelves, role_on, admits_on, kept_on}
+use Rattle.ft_shelves.specs.Shelves.{Shelved, Shelves, role_on, admits_on, kept_on}
 use Rattle.ft_kept.specs.Acts.{Acts, AreHeld, op_of}
 use Rattle.ft_kept.specs.Entries.{HitsHere, IsCounted, IsEntry, IsReading, hits_here, read_here}
 use Rattle.ft_kept.specs.Repairs.{AreShelved}
@@ -23,7 +20,7 @@ use Rattle.ft_kept.specs.Signs.{act_after}
 use Rattle.ft_kept.specs.Views.{triggers_of}
 use Rattle.ft_kept.specs.declared.act.Scene.{Scene}
 use Rattle.ft_kept.specs.declared.settle.Reading.{Reading}
-use Rattle.ft_kept.specs.inner.Edits.{ReadersChange, StaysBut}
+use Rattle.ft_kept.specs.inner.Edits.{OneHitChanges, ReadersChange, StaysBut}
 
 -- hits at a place stand under the key of the act there only
 abbrev pub IsOwn : Option (List Part × Traced) → HitsHere → Type 0
@@ -40,7 +37,7 @@ IsReadAt operation at = operation ≡ Some (at, Read)
 -- readings can be settled: each trigger has its shelf, the events of all acts are held, the operations are those of the acts, and hits are right by what the readings found
 pub record CanSettle (scene : Scene) (acts : Acts) (shelves : Shelves) : Type 0 where
   pub shelved : AreShelved (triggers_of scene) shelves
-  pub held : AreHeld scene.lanes.now acts
+  pub held : AreHeld (triggers_of scene) scene.lanes.now acts
   pub ops : (variable : Variable) (at : At) → (kept_on shelves).ops variable at ≡ op_of (role_on shelves) (admits_on shelves) acts variable at
   pub counted : (at : At) → IsCounted (values_by (triggers_of scene)) at (role_on shelves at.trigger) (acts at) (hits_here (kept_on shelves) at) (read_here (kept_on shelves) at)
 
@@ -51,18 +48,10 @@ pub record IsReady (triggers : Triggers) (reading : Reading) (shelves : Shelves)
   pub own : IsOwn (Some (reading.variable.key, reading.event.now)) (hits_here (kept_on shelves) reading.at)
   pub stamped : reading.event.now.stamp ≡ reading.at.pos.stamp
 
--- where the hit of a reading stands
-abbrev pub mark_of : Reading → Mark
-mark_of reading = record { spot = traced reading.at.pos; key = reading.variable.key }
-
 -- on the shelf of its trigger a reading found this now, with its hit; nothing else of the shelf changed
 pub record IsReread (reading : Reading) (hist : Hist) (found : Option Pos) (shelf after : Shelved) : Type 0 where
-  pub form : KeepsForm shelf after
   pub ops : after.ops ≡ shelf.ops
-  pub read : map.get after.readings reading.at.pos ≡ found
-  pub reads : (pos : Pos) → (pos ≡ reading.at.pos → ⊥) → map.get after.readings pos ≡ map.get shelf.readings pos
-  pub hit : map.get after.table.hits (mark_of reading) ≡ option_map (λ saved. values_at hist reading.at.pos reading.event.now (Some saved)) found
-  pub hits : (mark : Mark) → (mark ≡ mark_of reading → ⊥) → map.get after.table.hits mark ≡ map.get shelf.table.hits mark
+  pub changes : OneHitChanges reading.at.pos reading.variable.key (option_map (λ saved. values_at hist reading.at.pos reading.event.now (Some saved)) found) found shelf after
 
 -- a reading was settled: only what readers counted and read changed, only at its place, and there it is right
 pub record IsSettled (triggers : Triggers) (reading : Reading) (old new : Shelves) : Type 0 where

@@ -21,7 +21,7 @@ use Rattle.ft_base.specs.OneTrigger.{is_kin}
 use Rattle.ft_base.specs.Roles.{role_at}
 use Rattle.ft_replay.specs.Merged.{merged}
 use Rattle.ft_replay.specs.Named.{events_on}
-use Rattle.ft_repair.specs.declared.scene.Member.{Member}
+use Rattle.ft_repair.specs.declared.triggers.Member.{Member}
 use Rattle.ft_repair.specs.KeptFor.{AreKeptFor}
 
 -- one trigger alone
@@ -42,8 +42,8 @@ family_of triggers head other = is_meant head other (role_at triggers other)
 -- an attached trigger has no act yet in the input that the shelves are kept for
 pub record CanJoin (member : Member) (shelves : Shelves) : Type 0 where
   pub attached : map.get (triggers_of member.scene) member.id ≡ Some member.trigger.now
-  pub kept : AreKeptFor (triggers_of member.scene) member.scene.lanes.now (input_of member.scene.lanes.now shelves) shelves
-  pub idle : (pos : Pos) → input_of member.scene.lanes.now shelves (record { pos = pos; trigger = member.id }) ≡ None
+  pub kept : AreKeptFor (triggers_of member.scene) member.scene.lanes.now (input_of (triggers_of member.scene) member.scene.lanes.now shelves) shelves
+  pub idle : (pos : Pos) → input_of (triggers_of member.scene) member.scene.lanes.now shelves (record { pos = pos; trigger = member.id }) ≡ None
 
 -- an input with these acts of one trigger
 abbrev pub with_acts : ℕ → Acts → Acts → Acts
@@ -57,7 +57,7 @@ with_trigger triggers lanes id = with_acts id (acts_of triggers (merged lanes))
 abbrev pub HasItsActs : Member → Shelves → Shelves → Type 0
 HasItsActs member old new =
     AreKeptFor (triggers_of member.scene) member.scene.lanes.now
-    (with_trigger (triggers_of member.scene) member.scene.lanes.now member.id (input_of member.scene.lanes.now old)) new
+    (with_trigger (triggers_of member.scene) member.scene.lanes.now member.id (input_of (triggers_of member.scene) member.scene.lanes.now old)) new
 
 -- ---- its acts are told by a list of events
 
@@ -87,8 +87,8 @@ own_after Retract triggers lanes at = None
 -- an attached trigger's acts can come to shelves or go from them: a list has the held events of some names in any order, and the trigger's name is one of these
 pub record CanMove (member : Member) (sign : Sign) (events : List (Pos × Traced)) (shelves : Shelves) : Type 0 where
   pub attached : map.get (triggers_of member.scene) member.id ≡ Some member.trigger.now
-  pub kept : AreKeptFor (triggers_of member.scene) member.scene.lanes.now (input_of member.scene.lanes.now shelves) shelves
-  pub before : (at : At) → at.trigger ≡ member.id → input_of member.scene.lanes.now shelves at ≡ own_before sign (triggers_of member.scene) member.scene.lanes.now at
+  pub kept : AreKeptFor (triggers_of member.scene) member.scene.lanes.now (input_of (triggers_of member.scene) member.scene.lanes.now shelves) shelves
+  pub before : (at : At) → at.trigger ≡ member.id → input_of (triggers_of member.scene) member.scene.lanes.now shelves at ≡ own_before sign (triggers_of member.scene) member.scene.lanes.now at
   pub names : Name → Bool
   pub own : (name : Name) → same_name member.trigger.now.event name ≡ true → names name ≡ true
   pub all : IsPermutation (map.entries (events_on names (merged member.scene.lanes.now))) events
@@ -97,7 +97,7 @@ pub record CanMove (member : Member) (sign : Sign) (events : List (Pos × Traced
 abbrev pub HaveMoved : Member → Sign → Shelves → Shelves → Type 0
 HaveMoved member sign old new =
     AreKeptFor (triggers_of member.scene) member.scene.lanes.now
-    (with_acts member.id (own_after sign (triggers_of member.scene) member.scene.lanes.now) (input_of member.scene.lanes.now old)) new
+    (with_acts member.id (own_after sign (triggers_of member.scene) member.scene.lanes.now) (input_of (triggers_of member.scene) member.scene.lanes.now old)) new
 
 -- ---- a trigger leaves
 

@@ -1,5 +1,5 @@
--- What is made of the events of one key, and of those of all keys of a reader.
-use Rattle.std.specs.Prelude.{◌≡◌, ◌<◌, ℤ, ℕ, List, length, Option, Some, None, option_map, slice_index_or, map as list_map}
+-- What is made of the events of one key, and of those of all keys of a reader, and what hits add to sums.
+use Rattle.std.specs.Prelude.{◌≡◌, ◌<◌, ℤ, ℕ, Bool, true, false, List, length, Option, Some, None, option_map, slice_index_or, map as list_map}
 use Rattle.std.specs.List.{filter_map}
 use Rattle.std.specs.Map.{update_all}
 use Rattle.std.specs.Ordering.{eq_by_cmp}
@@ -9,6 +9,8 @@ use Rattle.ft_fields.specs.declared.pos.Pos.{Pos}
 use Rattle.ft_fields.specs.declared.key.Part.{Part}
 use Rattle.ft_groups.specs.Grouped.{Grouped}
 use Rattle.ft_hist.specs.Hist.{Hist}
+use Rattle.ft_hist.specs.declared.item.Item.{Item}
+use Rattle.ft_hist.specs.declared.item.Item.TheVariants as items
 use Rattle.ft_pairs.specs.ByKey.{OpsByKey}
 use Rattle.ft_pairs.specs.declared.at.At.{At}
 use Rattle.ft_pairs.specs.declared.at.Op.{Op}
@@ -17,7 +19,7 @@ use Rattle.ft_table.specs.Spots.{traced}
 use Rattle.ft_table.specs.Tabled.{Tabled}
 use Rattle.ft_table.specs.Values.{values_at}
 use Rattle.ft_hits.specs.declared.spot.Spot.{Spot}
-use Rattle.ft_shelves.specs.Joining.{AreGroupsOf, AreSources, HasGroups, HasReads, acts_with, read_from, reading_in}
+use Rattle.ft_shelves.specs.Joining.{AreGroupsOf, AreSources, HasGroups, HasReads, acts_with, read_from, reading_in, what_read}
 
 -- entries that a list gives: for each of its own one or none, under a key that stands for its own
 abbrev pub chosen : {K X L Y : Type 0} → (K → L) → (K → X → Option Y) → List (K × X) → List (L × Y)
@@ -50,14 +52,9 @@ read_at (Some found) i = option_map (λ saved. Some saved.pos) (slice_index_or f
 abbrev pub AreReadAt : Option (List (Option At)) → (Pos → Option (Option Pos)) → List (Pos × Traced) → Type 0
 AreReadAt found read run = (i : ℕ) (d : Pos × Traced) → i < length run → read (slice_index_or run i d).0 ≡ read_at found i
 
--- what reads found is listed in their order
-pub record AreFound (find : At → Option At) (reads : List At) (found : List (Option At)) : Type 0 where
-  pub many : length found ≡ length reads
-  pub each : (i : ℕ) (d : At) → i < length reads → slice_index_or found i None ≡ find (slice_index_or reads i d)
-
--- what reads found, as the place of the saving by that of the reading
-abbrev pub readings_of : (At → Option At) → List At → List (Pos × Pos)
-readings_of find reads = filter_map (λ at. option_map (λ saved. (at.pos, saved)) (option_map (λ (saved : At). saved.pos) (find at))) reads
+-- what the readings of a run found, as the place of the saving by that of the reading
+abbrev pub readings_of_run : (Pos → Option (Option Pos)) → List (Pos × Traced) → List (Pos × Pos)
+readings_of_run read run = chosen (λ pos. pos) (λ pos event. what_read (read pos)) run
 
 -- what the reading at a place found, by a list; of those that name the place the last one tells (our own choice)
 abbrev pub found_last : List (Pos × Pos) → Pos → Option Pos
@@ -70,3 +67,10 @@ pub record ReadingsJoin (id : ℕ) (hist : Hist) (groups : Grouped) (was is : Op
   pub reads : HasReads id groups was is
   pub table : HasGroups hist groups (read_from sources) old new
   pub listed : (of : AreGroupsOf hist groups) (pos : Pos) → found_last readings pos ≡ reading_in (read_from sources) (acts_with hist of.events) pos
+
+-- ---- sums
+
+-- the value item is a field
+abbrev pub is_field : Item → Bool
+is_field (items.Num field) = true
+is_field items.Own = false

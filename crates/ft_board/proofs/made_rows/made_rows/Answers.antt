@@ -1,5 +1,4 @@
-use Rattle.std.proofs.Common.{rules, ◌≡◌, ◌⊎◌, ◌++◌, ℕ, Bool, true, List, [], ◌∷◌, Option, Some, append_assoc, sym, ap, subst, ◌∙◌}
-use Rattle.std.specs.Prelude.{if◌then◌else◌}
+use Rattle.std.proofs.Common.{rules, ◌≡◌, ◌⊎◌, ◌++◌, ℕ, true, List, [], ◌∷◌, Option, Some, append_assoc, sym, ap, subst, ◌∙◌}
 use Rattle.std.specs.FinMap as map
 use Rattle.std.specs.List.{flat_map}
 use Rattle.std.specs.Map.Iter.{deref_pair}
@@ -8,21 +7,20 @@ use Rattle.std.specs.Ordering.{nat_cmp}
 use Rattle.std.proofs.lemmas.Bool.{true≢false}
 use Rattle.std.proofs.lemmas.List.{append-nil}
 use Rattle.std.proofs.lemmas.Map.Iter.{rest_all, rest_more}
-use Rattle.ft_hist.specs.Hist.{Hist}
+use Rattle.ft_kept.specs.Report.{rows_at}
+use Rattle.ft_replay.proofs.Stepping.{grow_none, grow_more}
+use Rattle.ft_board.specs.inner.MadeRows.{updated_rows, AreUpdatedRows, keys_counted}
+use Rattle.ft_board.proofs.MadeRows.{made_of_any, no_rows, updated_rows_are}
+use Rattle.ft_answers.specs.Counting.{CountNone, MakesNothing}
+use Rattle.ft_base.specs.Base.{Base, Triggers}
+use Rattle.ft_board.specs.MadeShelves.{MadeTables}
 use Rattle.ft_changes.specs.Findings.{Lead}
-use Rattle.ft_fields.specs.declared.key.Part.{Part}
 use Rattle.ft_changes.specs.declared.changed.Changed.{Changed}
 use Rattle.ft_changes.specs.declared.changed.ReadingChange.{ReadingChange}
-use Rattle.ft_kept.specs.Report.{rows_at}
-use Rattle.ft_maps.specs.Seen.{seen}
-use Rattle.ft_base.specs.Base.{Base, Triggers}
-use Rattle.ft_replay.specs.Merged.{merged}
-use Rattle.ft_replay.proofs.Stepping.{grow_none, grow_more}
+use Rattle.ft_hist.specs.Hist.{Hist}
 use Rattle.ft_made.specs.Making.{MakeNone}
-use Rattle.ft_answers.specs.Counting.{CountNone, MakesNothing}
-use Rattle.ft_board.specs.MadeShelves.{MadeTables, made_on}
-use Rattle.ft_board.specs.inner.MadeRows.{AreUpdatedRows, keys_counted, keys_named, updated_rows}
-use Rattle.ft_board.proofs.MadeRows.{made_of_any, no_rows, updated_rows_are}
+use Rattle.ft_maps.specs.Seen.{seen}
+use Rattle.ft_replay.specs.Merged.{merged}
 use Rattle.ft_board.proofs.made_rows.made_rows.Goals as goal
 
 pub returns-then-not-are_made-clause-rows : goal.returns-then-not-are_made-clause-rows
@@ -50,34 +48,16 @@ loop-id-init c =
       grow = grow_none _;
     }
 
-pub loop-id-preserved-then-counts_made : goal.loop-id-preserved-then-counts_made
-loop-id-preserved-then-counts_made c =
-    let base : Base = c.args.content.now in
-    let changes : List ReadingChange = c.in_ok-changes.changes.now in
-    let made : MadeTables = seen nat_cmp c.args.made.now in
-    let e : ℕ × Hist = (c.in-Some.id.now, c.in-Some.trigger.now) in
-    let more : c.loop-id.id-iterator ≡ e ∷ c.next.new.self = rest_more (deref_pair {K = ℕ} {X = Hist}) _ _ _ _ c.in-Some.is c.next.ensures.steps in
-    let keys = keys_named base.triggers (merged base.lanes) changes in
-    let its = (λ i. keys (c.table_of-told.ensures.table i) (c.table_of-told.ensures.trigger i)) ∙ ap (λ (b : Bool). if b then keys (made_on made e.0 e.1) e.1 else []) (sym (sym c.counts_made.ensures ∙ c.if-counts_made.true)) in
-    record {
-      rows = ap (λ (rows : List Changed). rows ++ rows_left base changes made c.next.new.self) c.in-Ok.ensures.rows ∙ append_assoc c.loop-id.rows.items _ _
-          ∙ ap (λ (named : List (List Part)). c.loop-id.rows.items ++ (rows_at e.0 named ++ rows_left base changes made c.next.new.self)) its
-          ∙ ap (λ (left : List (ℕ × Hist)). c.loop-id.rows.items ++ rows_left base changes made left) (sym more) ∙ c.loop-id.invariant.rows;
-      grow = grow_more _ _ _ c.loop-id.invariant.grow c.put_rows.ensures.grow;
-    }
-
 pub loop-id-preserved : goal.loop-id-preserved
 loop-id-preserved c =
     let base : Base = c.args.content.now in
     let changes : List ReadingChange = c.in_ok-changes.changes.now in
     let made : MadeTables = seen nat_cmp c.args.made.now in
-    let e : ℕ × Hist = (c.in-Some.id.now, c.in-Some.trigger.now) in
-    let more : c.loop-id.id-iterator ≡ e ∷ c.next.new.self = rest_more (deref_pair {K = ℕ} {X = Hist}) _ _ _ _ c.in-Some.is c.next.ensures.steps in
-    let named = keys_named base.triggers (merged base.lanes) changes (made_on made e.0 e.1) e.1 in
+    let more : c.loop-id.id-iterator ≡ (c.in-Some.id.now, c.in-Some.trigger.now) ∷ c.next.new.self = rest_more (deref_pair {K = ℕ} {X = Hist}) _ _ _ _ c.in-Some.is c.next.ensures.steps in
     record {
-      rows = sym (ap (λ (left : List (ℕ × Hist)). c.loop-id.rows.items ++ rows_left base changes made left) more
-          ∙ ap (λ (b : Bool). c.loop-id.rows.items ++ (rows_at e.0 (if b then named else []) ++ rows_left base changes made c.next.new.self)) (sym c.counts_made.ensures ∙ c.if-counts_made.false)) ∙ c.loop-id.invariant.rows;
-      grow = c.loop-id.invariant.grow;
+      rows = ap (λ (rows : List Changed). rows ++ rows_left base changes made c.next.new.self) c.in-Ok.ensures.rows ∙ append_assoc c.loop-id.rows.items _ _
+          ∙ ap (λ (left : List (ℕ × Hist)). c.loop-id.rows.items ++ rows_left base changes made left) (sym more) ∙ c.loop-id.invariant.rows;
+      grow = grow_more _ _ _ c.loop-id.invariant.grow c.put_rows.ensures.grow;
     }
 
 pub returns-clause-rows : goal.returns-clause-rows

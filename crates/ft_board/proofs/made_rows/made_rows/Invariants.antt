@@ -3,9 +3,9 @@ use Rattle.std.specs.List.{flat_map}
 use Rattle.std.specs.Ordering.{nat_cmp}
 use Rattle.ft_hist.specs.Steps.{StepsGrow}
 use Rattle.ft_kept.specs.Report.{rows_at, rows_by}
+use Rattle.ft_board.specs.inner.MadeRows.{keys_counted}
 use Rattle.ft_maps.specs.Seen.{seen}
 use Rattle.ft_replay.specs.Merged.{merged}
-use Rattle.ft_board.specs.inner.MadeRows.{keys_counted}
 use Rattle.ft_board.proofs.made_rows.made_rows.Given as goal
 
 -- with the rows of the triggers that are left they are all; no count of steps fell

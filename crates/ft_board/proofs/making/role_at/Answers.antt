@@ -1,6 +1,7 @@
 use Rattle.std.proofs.Common.{ap, sym, ◌∙◌}
 use Rattle.ft_base.specs.Roles.{role_of}
-use Rattle.ft_board.proofs.MadeStays.{role_gone, role_there}
+use Rattle.ft_board.proofs.MadeStays.{role_gone}
+use Rattle.ft_repair.proofs.Families.{role_there}
 use Rattle.ft_board.proofs.making.role_at.Goals as goal
 
 pub returns-in-Some : goal.returns-in-Some

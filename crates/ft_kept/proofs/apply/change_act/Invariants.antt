@@ -1,8 +1,5 @@
 use Rattle.ft_kept.proofs.apply.change_act.Given as goal
 
-abbrev pub ghost-change_hit : goal.ghost-change_hit
-ghost-change_hit g a = g.acts
-
 abbrev pub ghost-change_saving : goal.ghost-change_saving
 ghost-change_saving g a = g.acts
 

@@ -1,4 +1,4 @@
-use Rattle.ft_kept.proofs.ToldKeys.{reported_once, others_stay, two_reported, reader_reported}
+use Rattle.ft_kept.proofs.Rows.{reported_once, others_stay, two_reported, reader_reported}
 use Rattle.ft_kept.proofs.laws.reported_rows.Goals as goal
 
 pub returns : goal.returns

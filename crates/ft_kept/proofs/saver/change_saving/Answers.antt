@@ -1,20 +1,19 @@
 -- The hit comes or goes with the operations on what it saves, and then the readings are settled.
-use Rattle.std.proofs.Common.{[], ◌∷◌, ◌++◌, arith, inl, inr}
+use Rattle.std.proofs.Common.{◌++◌, arith, inl, inr}
 use Rattle.std.proofs.lemmas.Result.{on_ok_weaker}
-use Rattle.ft_pairs.specs.declared.role.Role.TheVariants.{Saves}
 use Rattle.ft_shelves.specs.Shelves.{role_on}
 use Rattle.ft_kept.specs.inner.Telling.{moved_keys, own_key}
 use Rattle.ft_kept.proofs.HitShelf.{saver_changed}
 use Rattle.ft_kept.proofs.InPlace.{can_settle}
-use Rattle.ft_kept.proofs.Told.{few_saving, told_few, told_trans}
+use Rattle.ft_kept.proofs.Told.{few_saving, told_trans}
 use Rattle.ft_kept.proofs.saver.change_saving.Goals as goal
 
 pub settle_moved-requires : goal.settle_moved-requires
-settle_moved-requires g c = can_settle c.args.act.now g.acts Saves c.args.tables.now c.requires c.change_shelf.new.tables c.in-Ok.ensures.followed.placed
+settle_moved-requires g c = can_settle c.args.act.now g.acts c.args.tables.now c.requires.0 c.change_shelf.new.tables c.in-Ok.ensures.followed.placed
 
 pub returns-in-Ok-clause-changed : goal.returns-in-Ok-clause-changed
 returns-in-Ok-clause-changed g c = on_ok_weaker c.settle_moved.result
-    (saver_changed c.args.act.now g.acts c.args.tables.now c.requires c.in-Ok.moved c.change_shelf.new.tables c.settle_moved.new.tables c.in-Ok.ensures.followed)
+    (saver_changed c.args.act.now g.acts c.args.tables.now c.requires.0 c.requires.1 c.in-Ok.moved c.change_shelf.new.tables c.settle_moved.new.tables c.in-Ok.ensures.followed)
     c.settle_moved.ensures.settled
 
 pub returns-in-Ok-clause-told : goal.returns-in-Ok-clause-told
@@ -22,12 +21,11 @@ returns-in-Ok-clause-told g c =
     let act = c.args.act.now in
     let id = act.at.trigger in
     let moves = c.in-Ok.moved in
-    let old = c.args.tables.now in
-    let was = c.args.changes.now in
-    on_ok_weaker c.settle_moved.result (λ told.
-    told_few ((id, act.trigger.now) ∷ []) (own_key id act.key ++ moved_keys id act.key moves) was c.settle_moved.new.changes old c.settle_moved.new.tables (few_saving (role_on old) id act.trigger.now act.key moves)
-    (told_trans (own_key id act.key) (moved_keys id act.key moves) was c.change_shelf.new.changes c.settle_moved.new.changes old c.change_shelf.new.tables c.settle_moved.new.tables
-    c.in-Ok.ensures.followed.placed.forms c.in-Ok.ensures.told told)) c.settle_moved.ensures.told
+    on_ok_weaker c.settle_moved.result (λ told. record {
+      keys = own_key id act.key ++ moved_keys id act.key moves;
+      few = few_saving (role_on c.args.tables.now) id act.trigger.now act.key moves;
+      told = told_trans (own_key id act.key) (moved_keys id act.key moves) c.in-Ok.ensures.followed.placed.forms c.in-Ok.ensures.told told;
+    }) c.settle_moved.ensures.told
 
 pub returns-in-Ok-clause-puts : goal.returns-in-Ok-clause-puts
 returns-in-Ok-clause-puts g c = elim c.change_shelf.ensures.puts [

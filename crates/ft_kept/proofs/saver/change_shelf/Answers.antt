@@ -1,6 +1,5 @@
 -- A saver has a shelf; its hit comes or goes there, and the shelf is written back.
-use Rattle.std.proofs.Common.{◌≡◌, Bool, true, false, List, Option, refl, sym, ap, subst, ◌∙◌, Some, None, inl, inr, arith}
-use Rattle.std.specs.Prelude.{◌⊎◌, option_map}
+use Rattle.std.proofs.Common.{◌≡◌, Bool, true, false, List, Option, refl, sym, ap, subst, ◌∙◌, Some, None, inl, inr, arith, ◌⊎◌, option_map}
 use Rattle.std.specs.Option.{option_copied_mut}
 use Rattle.ft_fields.specs.declared.key.Part.{Part}
 use Rattle.ft_shelves.specs.Changes.{change_mark, sign_of, table_with}
@@ -8,7 +7,6 @@ use Rattle.ft_shelves.specs.Following.{HitFollows, IsUnsaved, MovesKeys}
 use Rattle.ft_shelves.specs.Shelves.{Shelved}
 use Rattle.ft_shelves.specs.Switches.{HasMoved, Members}
 use Rattle.ft_shelves.specs.declared.saver.Moved.{Moved}
-use Rattle.ft_pairs.specs.declared.role.Role.TheVariants.{Saves}
 use Rattle.ft_table.specs.Tabled.{is_in}
 use Rattle.ft_kept.specs.inner.Saving.{NoneMoved}
 use Rattle.ft_shelves.proofs.Decided.{if_ok_both}
@@ -23,8 +21,8 @@ change_saver_hit-requires g c =
     let shelf = c.in-Some.shelf.now in
     let was = lent_was act.at.trigger old c.shelf_mut.result c.in-Some.shelf c.in-Some.is c.shelf_mut.ensures.value in
     record {
-      free = subst (λ change. IsUnsaved act.at.trigger change shelf) (sym c.hit_change-change.ensures) (unsaved act g.acts Saves old c.requires (inr c.requires.role) shelf was c.requires.role);
-      outside = outside act g.acts Saves old c.requires (inr c.requires.role) shelf was c.requires.role;
+      free = subst (λ change. IsUnsaved act.at.trigger change shelf) (sym c.hit_change-change.ensures) (unsaved act g.acts old c.requires.0 (inr c.requires.1) shelf was c.requires.1);
+      outside = outside act g.acts old c.requires.0 (inr c.requires.1) shelf was c.requires.1;
     }
 
 -- no key moved, or a key of the table did
@@ -49,11 +47,11 @@ returns-in-Some g c =
     let follows = λ (e : HitFollows id c.hit_change-change.result shelf after). subst (λ change. HitFollows id change shelf after) c.hit_change-change.ensures e in
     record {
       followed = if_ok_both _ _ _ c.change_saver_hit.result c.change_saver_hit.result refl (λ moves e moved.
-          followed act g.acts Saves old c.requires (inr c.requires.role) shelf w.was c.requires.role new after w.is w.others (follows e) moves
+          followed act g.acts old c.requires.0 (inr c.requires.1) shelf w.was c.requires.1 new after w.is w.others (follows e) moves
           (subst (λ change. MovesKeys (change_mark change).key moves (is_in shelf.table) (is_in after.table)) c.hit_change-change.ensures moved))
           c.change_saver_hit.ensures.follows c.change_saver_hit.ensures.moved;
       told = if_ok_both _ _ _ c.change_saver_hit.result c.change_saver_hit.result refl (λ moves e moved.
-          own_told act g.acts Saves old c.requires (inr c.requires.role) shelf w.was new after w.is w.others (follows e).shelf c.args.changes.now c.tell_key.new.self c.tell_key.ensures.keys c.tell_key.ensures.readings)
+          own_told act g.acts old c.requires.0 (inr c.requires.1) shelf w.was new after w.is w.others (follows e).shelf c.args.changes.now c.record_key.new.self c.record_key.ensures.keys c.record_key.ensures.readings)
           c.change_saver_hit.ensures.follows c.change_saver_hit.ensures.moved;
       moves = if_ok_both _ _ _ c.change_saver_hit.result c.change_saver_hit.result refl (λ moves e moved.
           elim (none_or_moved (change_mark c.hit_change-change.result).key moves (is_in shelf.table) (is_in after.table) moved) [
@@ -68,4 +66,4 @@ returns-in-Some g c =
     }
 
 pub returns-in-None : goal.returns-in-None
-returns-in-None g c = absurd (saver_there c.args.tables.now c.args.act.now.at.trigger c.requires.role (sym c.shelf_mut.ensures.value ∙ ap option_copied_mut c.in-None.is))
+returns-in-None g c = absurd (saver_there c.args.tables.now c.args.act.now.at.trigger c.requires.1 (sym c.shelf_mut.ensures.value ∙ ap option_copied_mut c.in-None.is))

@@ -7,9 +7,9 @@ use Rattle.ft_hits.specs.declared.spot.Spot.{Spot}
 use Rattle.ft_table.specs.Values.{values_at}
 use Rattle.ft_shelves.specs.Edits.{with_hit_on, without_hit_on}
 use Rattle.ft_shelves.specs.Shelves.{Shelved}
-use Rattle.ft_kept.specs.inner.Readings.{IsReread, mark_of}
-use Rattle.ft_kept.proofs.Putting.{traced_hit}
-use Rattle.ft_kept.proofs.Settled.{cleared, filled, is_cleared, is_filled}
+use Rattle.ft_kept.specs.inner.Readings.{IsReread}
+use Rattle.ft_kept.specs.inner.Edits.{mark_at}
+use Rattle.ft_kept.proofs.Settled.{cleared, filled, is_cleared, is_filled, traced_hit}
 use Rattle.ft_kept.proofs.settle.put_found.Goals as goal
 
 pub returns-in-None-clause-reread : goal.returns-in-None-clause-reread
@@ -27,7 +27,7 @@ put_hit-requires c =
     let clear : c.take_hit.new.self ≡ cleared reading hist shelf = c.take_hit.ensures ∙ ap (λ (spot : Spot). without_hit_on (record { spot = spot; key = reading.variable.key }) shelf) c.traced-spot.ensures in
     ap (λ (s : Shelved). map.get s.table.hits (record { spot = c.hit_with-hit.result.spot; key = c.hit_with-hit.result.key })) clear
     ∙ ap (λ h. map.get (cleared reading hist shelf).table.hits (record { spot = h.spot; key = h.key })) (traced_hit hist reading.event.now reading.variable.key c.args.found c.traced-spot.result c.hit_with-hit.result reading.at.pos c.hit_with-hit.ensures c.traced-spot.ensures)
-    ∙ (is_cleared reading hist shelf).hit
+    ∙ (is_cleared reading hist shelf).changes.hit
 
 pub returns-in-Some-clause-reread : goal.returns-in-Some-clause-reread
 returns-in-Some-clause-reread c =
@@ -39,5 +39,5 @@ returns-in-Some-clause-reread c =
     let fill : c.put_hit.new.self ≡ filled reading hist shelf c.in-Some.field-0 =
     is ∙ ap (λ h. with_hit_on (record { spot = h.spot; key = h.key }) h.values c.args.found c.take_hit.new.self)
     (traced_hit hist reading.event.now reading.variable.key c.args.found c.traced-spot.result c.hit_with-hit.result reading.at.pos c.hit_with-hit.ensures c.traced-spot.ensures)
-    ∙ (λ i. with_hit_on (mark_of reading) (values_at hist reading.at.pos reading.event.now (c.in-Some.is i)) (c.in-Some.is i) (clear i)) in
+    ∙ (λ i. with_hit_on (mark_at reading.at.pos reading.variable.key) (values_at hist reading.at.pos reading.event.now (c.in-Some.is i)) (c.in-Some.is i) (clear i)) in
     subst (λ (x : Option Pos × Shelved). IsReread reading hist x.0 shelf x.1) (λ i. (sym c.in-Some.is i, sym fill i)) (is_filled reading hist shelf c.in-Some.field-0)) c.put_hit.ensures.ok

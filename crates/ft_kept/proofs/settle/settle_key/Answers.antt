@@ -8,9 +8,10 @@ use Rattle.ft_pairs.specs.declared.at.Op.TheVariants.{Read}
 use Rattle.ft_shelves.specs.Shelves.{kept_on}
 use Rattle.ft_shelves.proofs.Counted.{tests_none, none_then, few_tests_none}
 use Rattle.ft_kept.specs.inner.Readings.{AreSettled, IsReadAt}
-use Rattle.ft_kept.proofs.Forms.{readers_forms, readers_ops, readers_trans}
+use Rattle.ft_kept.proofs.Forms.{readers_trans}
 use Rattle.ft_kept.proofs.Sources.{none_settled, settled_then, settled_too}
-use Rattle.ft_kept.proofs.Told.{reread_nothing, reread_trans}
+use Rattle.ft_kept.proofs.Told.{under_nothing, under_trans}
+use Rattle.ft_kept.specs.inner.Telling.{variable_key}
 use Rattle.ft_kept.proofs.Walks.{IsPassedRead, next_there, walk_begins, walk_goes_on}
 use Rattle.ft_kept.proofs.settle.settle_key.Goals as goal
 
@@ -20,18 +21,19 @@ loop-next-init g c =
     record {
       settled = none_settled c.args.act.now.scene g.acts c.args.tables.now c.requires (IsPassedRead ops c.next_op-next.result) (λ q. walk_begins ops q c.next_op-next.result c.next_op-next.ensures.next);
       there = next_there ops None c.next_op-next.result c.next_op-next.ensures.next;
-      told = reread_nothing c.args.variable.now c.args.changes.now c.args.tables.now;
+      told = under_nothing (variable_key c.args.variable.now) c.args.readings.now c.args.tables.now;
       work = tests_none c.args.work.now;
     }
 
 pub settle_op-requires : goal.settle_op-requires
 settle_op-requires g c =
+    let step : At × Op = (c.in-Some.at, c.in-Some.op) in
     let so_far = c.loop-next.invariant in
-    (so_far.settled.can, readers_ops c.args.tables.now c.loop-next.tables so_far.settled.readers c.args.variable.now c.in-Some.step.0 ∙ so_far.there c.in-Some.step c.in-Some.is)
+    (so_far.settled.can, so_far.settled.readers.ops c.args.variable.now step.0 ∙ so_far.there step c.in-Some.is)
 
 pub loop-next-preserved : goal.loop-next-preserved
 loop-next-preserved g c =
-    let step : At × Op = c.in-Some.step in
+    let step : At × Op = (c.in-Some.at, c.in-Some.op) in
     let so_far = c.loop-next.invariant in
     let first = c.args.tables.now in
     let before = c.loop-next.tables in
@@ -39,14 +41,14 @@ loop-next-preserved g c =
     let ops : Ops = (kept_on first).ops c.args.variable.now in
     let next = c.next_op-next-in-Some.result in
     let readers = readers_trans first before after so_far.settled.readers c.in_ok-settle_op.ensures.settled.readers in
-    let is_next : IsNext ops (Some step.0) next = subst (λ (o : Ops). IsNext o (Some step.0) next) (λ i q. readers_ops first after readers c.args.variable.now q i) c.next_op-next-in-Some.ensures.next in
+    let is_next : IsNext ops (Some step.0) next = subst (λ (o : Ops). IsNext o (Some step.0) next) (λ i q. readers.ops c.args.variable.now q i) c.next_op-next-in-Some.ensures.next in
     record {
       settled = settled_then c.args.act.now.scene g.acts (IsPassedRead ops (Some step)) (IsReadAt (Some step)) (IsPassedRead ops next) first before after
           (λ q. walk_goes_on ops q step next (so_far.there step c.in-Some.is) is_next)
           (subst (λ passed. AreSettled c.args.act.now.scene g.acts (IsPassedRead ops passed) first before) c.in-Some.is so_far.settled)
           c.in_ok-settle_op.ensures.settled;
       there = next_there ops (Some step.0) next is_next;
-      told = reread_trans c.args.variable.now c.args.changes.now c.loop-next.changes c.settle_op.new.changes first before after (readers_forms first before so_far.settled.readers) so_far.told c.in_ok-settle_op.ensures.told;
+      told = under_trans so_far.settled.readers.forms so_far.told c.in_ok-settle_op.ensures.told;
       work = none_then c.args.work.now c.loop-next.work c.settle_op.new.work so_far.work (few_tests_none c.settle_op.ensures.work);
     }
 

@@ -6,7 +6,8 @@ use Rattle.ft_shelves.specs.Counts.{TestsNone}
 use Rattle.ft_shelves.specs.Shelves.{kept_on}
 use Rattle.ft_kept.specs.inner.Edits.{left_on}
 use Rattle.ft_kept.specs.inner.Readings.{AreSettled}
-use Rattle.ft_kept.specs.inner.Telling.{HasReread}
+use Rattle.ft_kept.specs.Changes.{ChangeUnder}
+use Rattle.ft_kept.specs.inner.Telling.{variable_key}
 use Rattle.ft_kept.proofs.Walks.{IsPassedRead}
 use Rattle.ft_kept.proofs.settle.settle_key.Given as goal
 
@@ -17,7 +18,7 @@ abbrev pub invariant-loop-next : goal.invariant-loop-next
 invariant-loop-next g l = record {
   settled : AreSettled l.act.scene g.acts (IsPassedRead ((kept_on l.fn.tables).ops l.variable) l.next) l.fn.tables l.tables;
   there : (step : At × Op) → l.next ≡ Some step → (kept_on l.fn.tables).ops l.variable step.0 ≡ Some step.1;
-  told : HasReread l.variable l.fn.changes l.changes l.fn.tables l.tables;
+  told : ChangeUnder (variable_key l.variable) l.fn.readings l.readings l.fn.tables l.tables;
   work : TestsNone l.fn.work l.work;
 }
 

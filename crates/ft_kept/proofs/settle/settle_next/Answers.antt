@@ -6,12 +6,13 @@ use Rattle.ft_shelves.specs.Shelves.{kept_on}
 use Rattle.ft_shelves.proofs.Decided.{none_not_some}
 use Rattle.ft_kept.specs.inner.Readings.{AreSettled, IsReadAt}
 use Rattle.ft_kept.proofs.Sources.{none_settled}
-use Rattle.ft_kept.proofs.Told.{reread_nothing}
+use Rattle.ft_kept.proofs.Told.{under_nothing}
+use Rattle.ft_kept.specs.inner.Telling.{variable_key}
 use Rattle.ft_kept.proofs.Walks.{next_there}
 use Rattle.ft_kept.proofs.settle.settle_next.Goals as goal
 
 pub settle_op-requires : goal.settle_op-requires
-settle_op-requires g c = (c.requires, next_there ((kept_on c.args.tables.now).ops c.args.variable.now) (Some c.args.act.now.at) c.next_op.result c.next_op.ensures.next c.in-Some.step c.in-Some.is)
+settle_op-requires g c = (c.requires, next_there ((kept_on c.args.tables.now).ops c.args.variable.now) (Some c.args.act.now.at) c.next_op.result c.next_op.ensures.next (c.in-Some.at, c.in-Some.op) c.in-Some.is)
 
 pub returns-in-Some-clause-settled : goal.returns-in-Some-clause-settled
 returns-in-Some-clause-settled g c = on_ok_weaker c.settle_op.result (λ settled. record {
@@ -28,4 +29,4 @@ returns-in-None-clause-settled g c = record {
 }
 
 pub returns-in-None-clause-told : goal.returns-in-None-clause-told
-returns-in-None-clause-told g c = reread_nothing c.args.variable.now c.args.changes.now c.args.tables.now
+returns-in-None-clause-told g c = under_nothing (variable_key c.args.variable.now) c.args.readings.now c.args.tables.now

@@ -1,6 +1,5 @@
 -- The event of a read is held, and its reading is settled there.
-use Rattle.std.proofs.Common.{◌≡◌, Some, Option, sym, ap, ◌∙◌, unwrap_or}
-use Rattle.std.proofs.lemmas.Bool.{true≢false}
+use Rattle.std.proofs.Common.{◌≡◌, Some, Option, sym, ap, ◌∙◌, unwrap_or, true≢false}
 use Rattle.std.proofs.lemmas.Result.{on_ok_weaker}
 use Rattle.ft_pairs.specs.declared.at.At.{At}
 use Rattle.ft_pairs.specs.declared.at.Op.{Op}
@@ -9,7 +8,8 @@ use Rattle.ft_pairs.specs.declared.at.Op.TheVariants.{Save, Read}
 use Rattle.ft_shelves.specs.Shelves.{kept_on}
 use Rattle.ft_kept.specs.inner.Readings.{IsReadAt}
 use Rattle.ft_kept.proofs.Sources.{none_settled, one_settled, read_acting, read_held, read_is, read_ready}
-use Rattle.ft_kept.proofs.Told.{reread_nothing}
+use Rattle.ft_kept.proofs.Told.{under_nothing}
+use Rattle.ft_kept.specs.inner.Telling.{variable_key}
 use Rattle.ft_kept.proofs.settle.settle_op.Goals as goal
 
 pub settle-requires : goal.settle-requires
@@ -26,20 +26,20 @@ returns-in-Save-clause-settled g c =
     none_settled c.args.act.now.scene g.acts c.args.tables.now c.requires.0 (IsReadAt (Some (operation.at, operation.op))) (λ q. save_no_read operation.at q operation.op c.in-Save.is)
 
 pub returns-in-Save-clause-told : goal.returns-in-Save-clause-told
-returns-in-Save-clause-told g c = reread_nothing c.args.operation.now.variable c.args.changes.now c.args.tables.now
+returns-in-Save-clause-told g c = under_nothing (variable_key c.args.operation.now.variable.now) c.args.readings.now c.args.tables.now
 
 pub returns-in-Some-clause-settled : goal.returns-in-Some-clause-settled
 returns-in-Some-clause-settled g c =
     let operation = c.args.operation.now in
     let scene = c.args.act.now.scene in
     let old = c.args.tables.now in
-    let read : (kept_on old).ops operation.variable operation.at ≡ Some Read = c.requires.1 ∙ ap (λ op. Some op) c.in-Read.is in
+    let read : (kept_on old).ops operation.variable.now operation.at ≡ Some Read = c.requires.1 ∙ ap (λ op. Some op) c.in-Read.is in
     on_ok_weaker c.settle.result (λ settled.
-    one_settled scene g.acts old c.requires.0 c.settle.new.tables _ settled (read_is scene g.acts old c.requires.0 operation.variable operation.at read).1.1
-    (read_acting scene g.acts old c.requires.0 operation.variable operation.at read c.in-Some.event (sym c.in-Some.ensures))
+    one_settled scene g.acts old c.requires.0 c.settle.new.tables _ settled (read_is scene g.acts old c.requires.0 operation.variable.now operation.at read).1.1
+    (read_acting scene g.acts old c.requires.0 operation.variable.now operation.at read c.in-Some.event (sym c.in-Some.ensures))
     (IsReadAt (Some (operation.at, operation.op))) (λ q is. ap (λ (o : Option (At × Op)). (unwrap_or o (q, Read)).0) (sym is))) c.settle.ensures.settled
 
 pub returns-in-None : goal.returns-in-None
 returns-in-None g c =
     let operation = c.args.operation.now in
-    absurd (cc (read_held c.args.act.now.scene g.acts c.args.tables.now c.requires.0 operation.variable operation.at (c.requires.1 ∙ ap (λ op. Some op) c.in-Read.is), c.in-None.ensures))
+    absurd (cc (read_held c.args.act.now.scene g.acts c.args.tables.now c.requires.0 operation.variable.now operation.at (c.requires.1 ∙ ap (λ op. Some op) c.in-Read.is), c.in-None.ensures))

@@ -28,7 +28,7 @@ loop-key-preserved c =
     record {
       put = put_more hist groups c.requires.grouped c.keys-key-items.result.now c.keys-key-items.ensures (λ k spot. None) (hit_in hist groups unread)
           c.loop-key.key-index key c.loop-key-test.true c.key-item.is _ c.loop-key.invariant.put (λ k spot. map.get c.put_key.new.self.hits (record { spot = spot; key = k }))
-          (λ spot. takes.here spot ∙ ap (λ run. map.get (map.from_entries {R = spot_cmp} run) spot) (c.in_ok-run.ensures (unread key) (λ i d within. refl)) ∙ hit_listed hist groups c.requires.grouped unread key spot)
+          (λ spot. takes.here spot ∙ ap (λ run. map.get (map.from_entries {R = spot_cmp} run) spot) (c.in_ok-run.ensures.hits (unread key) (λ i d within. refl)) ∙ hit_listed hist groups c.requires.grouped unread key spot)
           (λ k spot apart. takes.others (record { spot = spot; key = k }) apart);
       size = takes.size ∙ c.loop-key.invariant.size;
       work = record { evals = c.put_key.ensures.evals ∙ c.loop-key.invariant.work.evals; puts = omega (arith, c.loop-key.invariant.work.puts, c.put_key.ensures.puts) };

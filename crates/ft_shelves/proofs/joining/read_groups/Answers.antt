@@ -1,5 +1,5 @@
 -- Each key's reads are put, and then the hits of those that find something; no key comes twice.
-use Rattle.std.proofs.Common.{◌≡◌, ◌+◌, ◌++◌, List, length, sym, ap, subst, ◌∙◌, arith, refl, cond, Option, Some, None}
+use Rattle.std.proofs.Common.{◌≡◌, ◌+◌, List, sym, ap, subst, ◌∙◌, arith, refl, cond, Option, Some, None}
 use Rattle.std.specs.List.{list_any}
 use Rattle.std.specs.FinMap as map
 use Rattle.ft_fields.specs.Orders.{key_cmp_total}
@@ -12,10 +12,10 @@ use Rattle.ft_pairs.specs.declared.at.At.{At}
 use Rattle.ft_pairs.specs.declared.at.Op.TheVariants.{Read}
 use Rattle.ft_table.specs.Spots.{spot_cmp}
 use Rattle.ft_shelves.specs.Joining.{acts_with, hit_in, read_from}
-use Rattle.ft_shelves.specs.inner.Joining.{AreFound, AreReadAt, readings_of, reads_of_run}
+use Rattle.ft_shelves.specs.inner.Joining.{AreReadAt, reads_of_run}
 use Rattle.ft_shelves.proofs.Counted.{tests_none}
 use Rattle.ft_shelves.proofs.Decided.{itself, untied}
-use Rattle.ft_shelves.proofs.Findable.{are_read, find_in, finds_in, found_are, sources_in}
+use Rattle.ft_shelves.proofs.Findable.{are_read, finds_in, sources_in}
 use Rattle.ft_shelves.proofs.KeyByKey.{no_run, put_all, put_free, put_more, put_none}
 use Rattle.ft_shelves.proofs.Listed.{AreGathered, any_read, gathered_all, gathered_more, gathered_none, hit_listed, hits_none}
 use Rattle.ft_shelves.proofs.joining.read_groups.Goals as goal
@@ -45,12 +45,6 @@ put_key-requires c =
     put_free _ groups c.requires.grouped c.keys-key-items.result.now c.keys-key-items.ensures (λ key spot. None) (hit_in c.args.joining.now.trigger.now groups (read_from (sources_in id groups c.args.pairs.now)))
     c.loop-key.key-index c.key-item.result c.loop-key-test.true c.key-item.is _ c.loop-key.invariant.hits
 
-pub gather-requires : goal.gather-requires
-gather-requires c =
-    ap (λ (found : List (Option At)). length found) c.deref-in-loop-key-3.ensures.value
-    ∙ c.in_ok-found.ensures.found.many
-    ∙ ap (λ (reads : List At). length reads) (c.deref.ensures.value ∙ sym c.deref-in-loop-key-2.ensures.value)
-
 pub loop-key-preserved : goal.loop-key-preserved
 loop-key-preserved c =
     let id = c.args.joining.now.id in
@@ -69,8 +63,6 @@ loop-key-preserved c =
     let all = reads_of_run id (run_of groups key) in
     let some : List (Option At) = c.in_ok-found.found.items in
     let reads : c.deref.result.now ≡ all = c.deref.ensures.value ∙ c.in_ok-reads.ensures in
-    let reads' : c.deref-in-loop-key-2.result.now ≡ all = c.deref-in-loop-key-2.ensures.value ∙ c.in_ok-reads.ensures in
-    let found' : c.deref-in-loop-key-3.result.now ≡ some = c.deref-in-loop-key-3.ensures.value in
     let here : (at : At) → ops_of is key at ≡ with_reads all (ops_of was key) at =
     λ at.
     c.in_ok-found.ensures.ok key at
@@ -78,10 +70,8 @@ loop-key-preserved c =
     ∙ (λ i. cond (list_any (same_at at) (reads i)) (Some Read)
     (put_free hist groups c.requires.grouped keys are (ops_of was) (λ k. with_reads (reads_of_run id (run_of groups k)) (ops_of was k)) n key c.loop-key-test.true c.key-item.is (ops_of mid) inv.ops at i)) in
     let finds : FindEach (ops_of is key) all some = subst (λ (rs : List At). FindEach (ops_of is key) rs some) reads c.in_ok-found.ensures.found in
-    let gathered : c.gather.new.readings.items ≡ c.loop-key.readings.items ++ readings_of (find_in id groups was key) all =
-    c.in_ok-gather.ensures (find_in id groups was key)
-    (subst (λ (x : List At × List (Option At)). AreFound (find_in id groups was key) x.0 x.1) (λ i. (sym reads' i, sym found' i)) (found_are id groups was is key here some finds))
-    ∙ ap (λ (rs : List At). c.loop-key.readings.items ++ readings_of (find_in id groups was key) rs) reads' in
+    let found : AreReadAt (Some c.deref-in-loop-key.result.now) (read key) (run_of groups key) =
+    subst (λ (fs : List (Option At)). AreReadAt (Some fs) (read key) (run_of groups key)) (sym c.deref-in-loop-key.ensures.value) (are_read id groups was is key here some finds) in
     record {
       ops = put_more hist groups c.requires.grouped keys are (ops_of was) (λ k. with_reads (reads_of_run id (run_of groups k)) (ops_of was k)) n key c.loop-key-test.true c.key-item.is (ops_of mid) inv.ops (ops_of is) here
           (λ k at apart.
@@ -90,12 +80,11 @@ loop-key-preserved c =
       hits = put_more hist groups c.requires.grouped keys are (λ k spot. None) (hit_in hist groups read) n key c.loop-key-test.true c.key-item.is _ inv.hits (λ k spot. map.get c.put_key.new.self.hits (record { spot = spot; key = k }))
           (λ spot.
           takes.here spot
-          ∙ ap (λ run. map.get (map.from_entries {R = spot_cmp} run) spot) (c.in_ok-run.ensures (read key)
-          (subst (λ (fs : List (Option At)). AreReadAt (Some fs) (read key) (run_of groups key)) (sym c.deref-in-loop-key.ensures.value) (are_read id groups was is key here some finds)))
+          ∙ ap (λ run. map.get (map.from_entries {R = spot_cmp} run) spot) (c.in_ok-run.ensures.hits (read key) found)
           ∙ hit_listed hist groups c.requires.grouped read key spot)
           (λ k spot apart. takes.others (record { spot = spot; key = k }) apart);
-      gathered = λ of. subst (AreGathered (acts_with hist of.events) read keys (n + 1)) (sym gathered)
-          (gathered_more hist groups of keys are id (find_in id groups was) n key c.loop-key-test.true c.key-item.is c.loop-key.readings.items (inv.gathered of));
+      gathered = λ of. subst (AreGathered (acts_with hist of.events) read keys (n + 1)) (sym (c.in_ok-run.ensures.readings (read key) found))
+          (gathered_more hist groups of keys are read n key c.loop-key-test.true c.key-item.is c.loop-key.readings.items (inv.gathered of));
       size = takes.size ∙ inv.size;
       work = record {
         evals = c.put_key.ensures.evals ∙ c.put_reads.ensures.evals ∙ inv.work.evals;

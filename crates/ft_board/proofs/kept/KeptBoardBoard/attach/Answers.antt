@@ -1,19 +1,15 @@
-use Rattle.ft_base.specs.Base.{Base}
-use Rattle.ft_base.specs.OneTrigger.{is_in_family}
-use Rattle.ft_repair.specs.KeptShelves.{AreKeptOf}
-use Rattle.ft_repair.specs.Outside.{AreKeptOutside}
+use Rattle.std.proofs.lemmas.Option.{IfSome_then}
 use Rattle.ft_repair.proofs.Outside.{joins_outside}
-use Rattle.ft_repair.proofs.Repaired.{if_still}
-use Rattle.ft_board.specs.inner.Views.{made_in}
 use Rattle.ft_board.proofs.MadeStays.{joins_await}
+use Rattle.ft_base.specs.Base.{Base}
+use Rattle.ft_board.specs.inner.Views.{made_in}
 use Rattle.ft_board.proofs.kept.KeptBoardBoard.attach.Goals as goal
 
 pub join-kept-requires-clause-shelves : goal.join-kept-requires-clause-shelves
 join-kept-requires-clause-shelves c =
     let old : Base = c.self.inside.content in
     let new : Base = c.attach.new.self in
-    if_still (AreKeptOf old) (AreKeptOutside (is_in_family new.triggers c.in_ok-id.id) new.triggers new.lanes) c.self.inside.views.shelves
-    (λ shelves kept. joins_outside old new c.in_ok-id.id c.args.trigger c.in_ok-id.ensures.joins shelves kept) c.self.invariant.0
+    IfSome_then c.self.inside.views.shelves c.self.invariant.0 (λ shelves kept. joins_outside old new c.in_ok-id.id c.args.trigger c.in_ok-id.ensures.joins shelves kept)
 
 -- the tables of made events are those of before
 pub join-kept-requires-clause-made : goal.join-kept-requires-clause-made

@@ -1,15 +1,15 @@
 use Rattle.std.proofs.Common.{sym, ap, subst, ◌∙◌}
-use Rattle.ft_base.specs.Base.{Triggers}
-use Rattle.ft_answers.specs.Costs.{CostsOf}
-use Rattle.ft_answers.specs.Counting.{MakesNothing}
 use Rattle.ft_answers.specs.Deferral.{IsNoHit}
-use Rattle.ft_answers.specs.Shown.{Shown}
-use Rattle.ft_replay.specs.Merged.{Events, merged}
 use Rattle.ft_repair.proofs.Repaired.{still_there}
 use Rattle.ft_shelves.specs.declared.sign.Sign.TheVariants.{Insert}
 use Rattle.ft_board.specs.inner.Views.{AreOf}
 use Rattle.ft_board.proofs.Changes.{costs_of, inserts}
-use Rattle.ft_board.proofs.MadeReports.{board_reports}
+use Rattle.ft_board.proofs.Reports.{board_reports}
+use Rattle.ft_answers.specs.Costs.{CostsOf}
+use Rattle.ft_answers.specs.Counting.{MakesNothing}
+use Rattle.ft_answers.specs.Shown.{Shown}
+use Rattle.ft_base.specs.Base.{Triggers}
+use Rattle.ft_replay.specs.Merged.{Events, merged}
 use Rattle.ft_board.proofs.kept.KeptBoardBoard.insert.Goals as goal
 
 pub change-requires-clause-held : goal.change-requires-clause-held

@@ -1,16 +1,16 @@
 use Rattle.std.proofs.Common.{rules, ◌≡◌, true, false, not, refl, sym, ap, subst, ◌∙◌, inr, List, Some, Result, Ok}
 use Rattle.std.proofs.lemmas.Result.{err_from_is_err_and}
 use Rattle.std.specs.FinMap as map
-use Rattle.ft_hist.specs.Hist.{Hist}
 use Rattle.ft_kept.specs.Shelves.{Readings}
+use Rattle.ft_base.specs.Roles.{is_reader}
+use Rattle.ft_answers.specs.Answers.{pairs_shown}
+use Rattle.ft_board.proofs.KeptBoardTold.{pairs_by, pairs-unread, pairs-told, unattached}
+use Rattle.ft_answers.specs.Shown.{Shown}
+use Rattle.ft_base.specs.Base.{Base, Triggers}
+use Rattle.ft_base.specs.declared.refused.Refused.{Refused}
+use Rattle.ft_hist.specs.Hist.{Hist}
 use Rattle.ft_replay.specs.Found.{pairs_in}
 use Rattle.ft_replay.specs.declared.pair.Pair.{Pair}
-use Rattle.ft_base.specs.Base.{Base, Triggers}
-use Rattle.ft_base.specs.Roles.{is_reader}
-use Rattle.ft_base.specs.declared.refused.Refused.{Refused}
-use Rattle.ft_answers.specs.Answers.{pairs_shown}
-use Rattle.ft_answers.specs.Shown.{Shown}
-use Rattle.ft_board.proofs.KeptBoardTold.{pairs_by, pairs-unread, pairs-told, unattached}
 use Rattle.ft_board.proofs.kept.KeptBoardBoard.pairs.Goals as goal
 
 pub returns-in_err-trigger-clause-gives : goal.returns-in_err-trigger-clause-gives

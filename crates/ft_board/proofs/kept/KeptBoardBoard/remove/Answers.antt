@@ -1,11 +1,11 @@
 -- A trigger that reads nothing, and that no other reads, bears on no event that is made.
 use Rattle.std.proofs.Common.{sym, subst, ◌∙◌}
 use Rattle.std.proofs.lemmas.Bool.{true≢false}
-use Rattle.ft_base.specs.Base.{Triggers}
+use Rattle.ft_board.proofs.MadeStays.{unread_leaves}
 use Rattle.ft_answers.specs.Deferral.{ReadsNothing}
 use Rattle.ft_answers.specs.Shown.{Shown}
+use Rattle.ft_base.specs.Base.{Triggers}
 use Rattle.ft_board.specs.Makers.{LeavesMakers}
-use Rattle.ft_board.proofs.MadeStays.{unread_leaves}
 use Rattle.ft_board.proofs.kept.KeptBoardBoard.remove.Goals as goal
 
 pub returns-then-bears-clause-now : goal.returns-then-bears-clause-now

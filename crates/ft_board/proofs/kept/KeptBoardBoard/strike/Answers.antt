@@ -1,20 +1,20 @@
 use Rattle.std.proofs.Common.{◌≡◌, ℕ, Some, Ok, refl, sym, ap, subst, ◌∙◌}
 use Rattle.std.proofs.lemmas.Option.{same_Some}
-use Rattle.ft_fields.specs.Traced.{Traced}
-use Rattle.ft_lanes.specs.Held.{Lanes, event_at}
+use Rattle.ft_lanes.specs.Held.{event_at, Lanes}
 use Rattle.ft_base.specs.After.{after_strike}
-use Rattle.ft_base.specs.Base.{Base}
 use Rattle.ft_base.specs.declared.refused.Place.{Place}
 use Rattle.ft_base.proofs.Cases.{strike-place}
-use Rattle.ft_answers.specs.Costs.{CostsOf}
-use Rattle.ft_answers.specs.Counting.{MakesNothing}
 use Rattle.ft_answers.specs.Deferral.{IsPlainHit}
-use Rattle.ft_answers.specs.Shown.{Shown}
-use Rattle.ft_replay.specs.Merged.{merged}
 use Rattle.ft_repair.proofs.Repaired.{still_there}
 use Rattle.ft_shelves.specs.declared.sign.Sign.TheVariants.{Retract}
 use Rattle.ft_board.proofs.Changes.{costs_of, kept_after, strikes}
-use Rattle.ft_board.proofs.MadeReports.{board_reports}
+use Rattle.ft_board.proofs.Reports.{board_reports}
+use Rattle.ft_answers.specs.Costs.{CostsOf}
+use Rattle.ft_answers.specs.Counting.{MakesNothing}
+use Rattle.ft_answers.specs.Shown.{Shown}
+use Rattle.ft_base.specs.Base.{Base}
+use Rattle.ft_fields.specs.Traced.{Traced}
+use Rattle.ft_replay.specs.Merged.{merged}
 use Rattle.ft_board.proofs.kept.KeptBoardBoard.strike.Goals as goal
 
 -- the event that goes is the one that is held there

@@ -1,11 +1,11 @@
 use Rattle.std.proofs.Common.{refl, sym, subst}
-use Rattle.ft_lanes.specs.Held.{Lanes}
-use Rattle.ft_base.specs.Base.{Triggers}
-use Rattle.ft_replay.specs.Merged.{merged}
-use Rattle.ft_made.specs.MadeTables.{IsMadeTable, found_in}
 use Rattle.ft_board.specs.declared.mend.Basis.{Basis}
 use Rattle.ft_board.specs.inner.Mending.{UpdatesBy, events_in, triggers_in}
+use Rattle.ft_base.specs.Base.{Triggers}
 use Rattle.ft_board.specs.inner.Readings.{readings_on}
+use Rattle.ft_lanes.specs.Held.{Lanes}
+use Rattle.ft_made.specs.MadeTables.{found_in, IsMadeTable}
+use Rattle.ft_replay.specs.Merged.{merged}
 use Rattle.ft_board.proofs.mend.Mending.update.Goals as goal
 
 pub made_table-requires : goal.made_table-requires

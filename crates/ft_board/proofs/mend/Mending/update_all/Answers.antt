@@ -2,10 +2,10 @@ use Rattle.std.proofs.Common.{◌≡◌, ℕ, ◌∷◌, sym, ap, subst, ◌∙�
 use Rattle.std.specs.FinMap as map
 use Rattle.std.specs.Map.Iter.{deref_pair}
 use Rattle.std.proofs.lemmas.Map.Iter.{rest_more, rest_all}
-use Rattle.ft_hist.specs.Hist.{Hist}
 use Rattle.ft_replay.proofs.Stepping.{grow_none, grow_more}
 use Rattle.ft_board.specs.inner.Mending.{CanUpdateTo}
-use Rattle.ft_board.proofs.Updating.{first_attached, first_same, updating_all, updating_more, updating_none, updating_skip}
+use Rattle.ft_board.proofs.MadeShelves.{first_attached, first_same, updating_all, updating_more, updating_none}
+use Rattle.ft_hist.specs.Hist.{Hist}
 use Rattle.ft_board.proofs.mend.Mending.update_all.Goals as goal
 
 pub loop-id-init : goal.loop-id-init
@@ -14,29 +14,20 @@ loop-id-init c = record {
   grow = grow_none _;
 }
 
-pub update_kept-requires : goal.update_kept-requires
-update_kept-requires c =
+pub update_counted-requires : goal.update_counted-requires
+update_counted-requires c counts =
     let e : ℕ × Hist = (c.in-Some.id.now, c.in-Some.trigger.now) in
     let more : c.loop-id.id-iterator ≡ e ∷ c.next.new.self = rest_more (deref_pair {K = ℕ} {X = Hist}) _ _ _ _ c.in-Some.is c.next.ensures.steps in
     subst (CanUpdateTo c.args.self.now e.1) (sym (first_same _ _ _ _ _ c.loop-id.invariant.updated e c.next.new.self more))
-    (c.requires e.0 e.1 (first_attached _ _ _ _ _ c.loop-id.invariant.updated e c.next.new.self more) (sym c.counts_made.ensures ∙ c.if-counts_made.true))
-
-pub loop-id-preserved-in-Continue-1 : goal.loop-id-preserved-in-Continue-1
-loop-id-preserved-in-Continue-1 c =
-    let e : ℕ × Hist = (c.in-Some.id.now, c.in-Some.trigger.now) in
-    let more : c.loop-id.id-iterator ≡ e ∷ c.next.new.self = rest_more (deref_pair {K = ℕ} {X = Hist}) _ _ _ _ c.in-Some.is c.next.ensures.steps in
-    record {
-      updated = updating_more _ _ _ _ _ c.loop-id.invariant.updated e c.next.new.self more _ c.in_ok-update_kept.ensures.others (λ _. c.in_ok-update_kept.ensures.updated);
-      grow = grow_more _ _ _ c.loop-id.invariant.grow c.update_kept.ensures.grow;
-    }
+    (c.requires e.0 e.1 (first_attached _ _ _ _ _ c.loop-id.invariant.updated e c.next.new.self more) counts)
 
 pub loop-id-preserved : goal.loop-id-preserved
 loop-id-preserved c =
     let e : ℕ × Hist = (c.in-Some.id.now, c.in-Some.trigger.now) in
     let more : c.loop-id.id-iterator ≡ e ∷ c.next.new.self = rest_more (deref_pair {K = ℕ} {X = Hist}) _ _ _ _ c.in-Some.is c.next.ensures.steps in
     record {
-      updated = updating_skip _ _ _ _ _ c.loop-id.invariant.updated e c.next.new.self more (sym c.counts_made.ensures ∙ c.if-counts_made.false);
-      grow = c.loop-id.invariant.grow;
+      updated = updating_more _ _ _ _ _ c.loop-id.invariant.updated e c.next.new.self more _ c.in_ok-update_counted.ensures.others c.in_ok-update_counted.ensures.updated;
+      grow = grow_more _ _ _ c.loop-id.invariant.grow c.update_counted.ensures.grow;
     }
 
 pub returns-clause-made : goal.returns-clause-made

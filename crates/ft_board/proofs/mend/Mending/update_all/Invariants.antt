@@ -1,8 +1,8 @@
 use Rattle.std.specs.Ordering.{nat_cmp}
 use Rattle.ft_hist.specs.Steps.{StepsGrow}
-use Rattle.ft_maps.specs.Seen.{seen}
 use Rattle.ft_board.specs.inner.Mending.{Updates, triggers_in}
-use Rattle.ft_board.proofs.Updating.{AreUpdating}
+use Rattle.ft_board.proofs.MadeShelves.{AreUpdating}
+use Rattle.ft_maps.specs.Seen.{seen}
 use Rattle.ft_board.proofs.mend.Mending.update_all.Given as goal
 
 -- each table is up to date but those of the triggers that are left, and no count of steps fell

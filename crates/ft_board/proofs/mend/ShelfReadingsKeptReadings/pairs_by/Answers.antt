@@ -2,12 +2,12 @@
 use Rattle.std.proofs.Common.{ap, sym, ◌∙◌, List, Option, map as list_map}
 use Rattle.std.specs.Option.{option_map_or}
 use Rattle.std.specs.FinMap as map
+use Rattle.ft_maps.specs.Entries.{entries-empty}
 use Rattle.ft_fields.specs.Places.{pos_cmp}
 use Rattle.ft_fields.specs.declared.pos.Pos.{Pos}
 use Rattle.ft_kept.specs.Shelves.{Shelved}
-use Rattle.ft_maps.specs.Entries.{entries-empty}
-use Rattle.ft_replay.specs.declared.pair.Pair.{Pair}
 use Rattle.ft_replay.specs.Found.{pairs_in}
+use Rattle.ft_replay.specs.declared.pair.Pair.{Pair}
 use Rattle.ft_board.proofs.mend.ShelfReadingsKeptReadings.pairs_by.Goals as goal
 
 pub returns-in-None : goal.returns-in-None

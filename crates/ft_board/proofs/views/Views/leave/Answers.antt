@@ -1,12 +1,12 @@
 -- a trigger goes that leaves those alone that make events: the tables of the others stay
 use Rattle.std.proofs.Common.{sym, subst}
-use Rattle.ft_base.specs.Base.{Base}
 use Rattle.ft_base.specs.OneTrigger.{base_without}
-use Rattle.ft_replay.specs.Merged.{merged}
+use Rattle.ft_board.proofs.MadeStays.{left_if}
+use Rattle.ft_board.proofs.MadeShelves.{AreRightIf}
+use Rattle.ft_base.specs.Base.{Base}
 use Rattle.ft_board.specs.MadeShelves.{MadeTables}
 use Rattle.ft_board.specs.inner.Views.{made_in}
-use Rattle.ft_board.proofs.MadeStays.{left_if}
-use Rattle.ft_board.proofs.StillMade.{AreRightIf}
+use Rattle.ft_replay.specs.Merged.{merged}
 use Rattle.ft_board.proofs.views.Views.leave.Goals as goal
 
 pub returns-clause-fresh : goal.returns-clause-fresh

@@ -3,15 +3,15 @@ use Rattle.std.specs.Option.{IfSome, is_none}
 use Rattle.std.proofs.lemmas.Bool.{eqb-true}
 use Rattle.std.proofs.lemmas.List.{nil_from_length}
 use Rattle.std.proofs.lemmas.Option.{IfSome_then}
+use Rattle.ft_board.proofs.MadeRows.{made_of_any, still_made}
+use Rattle.ft_board.proofs.MadeShelves.{can_update}
+use Rattle.ft_answers.specs.Counting.{CountNone}
+use Rattle.ft_base.specs.Base.{Triggers}
+use Rattle.ft_board.specs.inner.Readings.{readings_on}
 use Rattle.ft_changes.specs.Findings.{Lead}
 use Rattle.ft_changes.specs.declared.changed.ReadingChange.{ReadingChange}
-use Rattle.ft_base.specs.Base.{Triggers}
-use Rattle.ft_made.specs.Making.{MakeNone}
 use Rattle.ft_made.specs.MadeTables.{found_in}
-use Rattle.ft_answers.specs.Counting.{CountNone}
-use Rattle.ft_board.specs.inner.Readings.{readings_on}
-use Rattle.ft_board.proofs.MadeRows.{made_of_any, still_made}
-use Rattle.ft_board.proofs.StillMade.{can_update}
+use Rattle.ft_made.specs.Making.{MakeNone}
 use Rattle.ft_board.proofs.views.Views.mend.Goals as goal
 
 pub returns-then-not-are_made-clause-made : goal.returns-then-not-are_made-clause-made

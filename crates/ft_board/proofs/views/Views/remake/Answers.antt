@@ -3,14 +3,13 @@ use Rattle.std.specs.Ordering.{nat_cmp}
 use Rattle.std.proofs.lemmas.Bool.{true≢false}
 use Rattle.std.proofs.lemmas.Option.{IfSome_then}
 use Rattle.ft_maps.specs.Seen.{seen-empty}
+use Rattle.ft_board.proofs.MadeShelves.{made_anew, nothing_made}
+use Rattle.ft_answers.specs.Counting.{CountNone}
 use Rattle.ft_base.specs.Base.{Base, Triggers}
+use Rattle.ft_board.specs.MadeShelves.{AreMade}
+use Rattle.ft_made.specs.Making.{MakeNone}
 use Rattle.ft_replay.specs.Found.{saving_found}
 use Rattle.ft_replay.specs.Merged.{merged}
-use Rattle.ft_made.specs.Making.{MakeNone}
-use Rattle.ft_answers.specs.Counting.{CountNone}
-use Rattle.ft_board.specs.MadeShelves.{AreMade}
-use Rattle.ft_board.proofs.MadeShelves.{nothing_made}
-use Rattle.ft_board.proofs.StillMade.{made_anew}
 use Rattle.ft_board.proofs.views.Views.remake.Goals as goal
 
 pub returns-then-not-are_made-clause-fresh : goal.returns-then-not-are_made-clause-fresh

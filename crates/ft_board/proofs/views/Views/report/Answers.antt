@@ -1,11 +1,11 @@
 use Rattle.std.proofs.Common.{rules, ◌≡◌, sym, ap, subst, ◌∙◌, List, Some, Result, Ok, Err}
 use Rattle.std.specs.Option.{IfSome}
 use Rattle.std.specs.Result.{IfOk, result_ok}
+use Rattle.ft_board.specs.inner.Reported.{IsReportBy}
+use Rattle.ft_base.specs.Base.{Triggers}
+use Rattle.ft_kept.specs.Report.{report_of}
 use Rattle.ft_kept.specs.Shelves.{Shelves}
 use Rattle.ft_kept.specs.declared.changes.KeyChange.{KeyChange}
-use Rattle.ft_kept.specs.Report.{report_of}
-use Rattle.ft_base.specs.Base.{Triggers}
-use Rattle.ft_board.specs.inner.Reported.{IsReportBy}
 use Rattle.ft_board.proofs.views.Views.report.Goals as goal
 
 -- what holds of an answer, where it is not refused, holds of what is made of it

@@ -1,8 +1,4 @@
-use Rattle.std.proofs.Common.{◌≡◌, ◌+◌, ◌*◌, Some}
-use Rattle.std.specs.Map.{keys_of}
-use Rattle.std.specs.List.{AllByRecursion}
-use Rattle.std.specs.List.Sorted.{IsStrictlySortedBy}
-use Rattle.std.specs.Ordering.{nat_cmp}
+use Rattle.std.proofs.Common.{◌≡◌, ◌+◌, ◌*◌}
 use Rattle.std.specs.FinMap as map
 use Rattle.ft_hist.specs.Steps.{StepsGrow}
 use Rattle.ft_hist.specs.Tests.{count_on}
@@ -12,7 +8,7 @@ use Rattle.ft_kept.specs.Memory.{AllActPlainly}
 use Rattle.ft_kept.specs.Views.{AreViewsOf, triggers_of, with_some}
 use Rattle.ft_kept.specs.Signs.{table_edit, event_after}
 use Rattle.ft_shelves.specs.Shelves.{FormsStay}
-use Rattle.ft_kept.proofs.Between.{all_but, asked_of}
+use Rattle.ft_kept.proofs.Between.{AreLeft, all_but, asked_of}
 use Rattle.ft_kept.proofs.FewPuts.{Few, LeftStay}
 use Rattle.ft_kept.proofs.Told.{IsToldOf}
 use Rattle.ft_kept.proofs.tables.Tables.apply.Given as goal
@@ -20,11 +16,10 @@ use Rattle.ft_kept.proofs.tables.Tables.apply.Given as goal
 -- at the event's place the triggers that are done act as they will, those that are left as they did
 abbrev pub invariant-loop-id : goal.invariant-loop-id
 invariant-loop-id l = record {
-  sorted : IsStrictlySortedBy nat_cmp (keys_of l.id-iterator);
-  attached : AllByRecursion (λ e. map.get (triggers_of l.scene) e.0 ≡ Some e.1) l.id-iterator;
+  left : AreLeft (triggers_of l.scene) l.id-iterator;
   forms : FormsStay l.fn.self l.self;
   views : AreViewsOf (triggers_of l.scene) l.scene.lanes.now
-      (with_some (triggers_of l.scene) (input_of l.scene.lanes.now l.fn.self) l.delta.pos (event_after l.delta.sign l.delta.event.now) (all_but l.id-iterator)) l.self;
+      (with_some (triggers_of l.scene) (input_of (triggers_of l.scene) l.scene.lanes.now l.fn.self) l.delta.pos (event_after l.delta.sign l.delta.event.now) (all_but l.id-iterator)) l.self;
   told : IsToldOf (map.entries (triggers_of l.scene)) l.id-iterator l.fn.changes l.changes l.fn.self l.self;
   evals : l.work.evals + asked_of l.delta.event.now l.id-iterator ≡ l.fn.work.evals + count_on (triggers_of l.scene) l.delta.event.now;
   savers : LeftStay (all_but l.id-iterator) l.fn.self l.self;

@@ -1,12 +1,10 @@
-use Rattle.std.proofs.Common.{◌≡◌, ℕ, ◌+◌, ◌*◌, ◌≤◌, Some, None, Option, refl, sym, ap, ◌∙◌, inl, inr, arith}
-use Rattle.std.specs.Prelude.{◌⊎◌, option_and_then, option_map, List, [], ◌∷◌}
+use Rattle.std.proofs.Common.{◌≡◌, ℕ, ◌+◌, ◌*◌, ◌≤◌, Some, None, Option, refl, sym, ap, ◌∙◌, inl, inr, arith, ◌⊎◌, option_and_then, option_map, List, []}
 use Rattle.std.proofs.lemmas.Result.{on_ok_weaker}
 use Rattle.ft_fields.specs.Traced.{Traced}
 use Rattle.ft_hist.specs.Hist.{Hist}
 use Rattle.ft_hist.specs.Hit.{hit}
 use Rattle.ft_hist.specs.Tests.{tests_taken}
 use Rattle.ft_fields.specs.declared.key.Part.{Part}
-use Rattle.ft_pairs.specs.declared.at.At.{At}
 use Rattle.ft_pairs.specs.declared.role.Role.TheVariants.{Plain}
 use Rattle.ft_shelves.specs.Shelves.{Shelves, role_on}
 use Rattle.ft_shelves.specs.declared.sign.Sign.{Sign}
@@ -17,9 +15,8 @@ use Rattle.ft_kept.specs.Signs.{NeedsNoMemoryAt, act_after, act_before, event_be
 use Rattle.ft_kept.specs.Views.{act_under, set, triggers_of}
 use Rattle.ft_kept.proofs.FewPuts.{hit_asked}
 use Rattle.ft_kept.proofs.Forms.{forms_refl}
-use Rattle.ft_kept.proofs.Input.{acts_are, tells}
-use Rattle.ft_kept.proofs.Told.{few_nothing}
-use Rattle.ft_kept.proofs.Views.{set_same}
+use Rattle.ft_kept.proofs.Told.{told_nothing}
+use Rattle.ft_kept.proofs.Views.{set_same, views_as}
 use Rattle.ft_kept.proofs.tables.Tables.apply_to.Goals as goal
 
 -- ---- an event that is no hit
@@ -32,14 +29,16 @@ no_act hist event none Retract = (ap (λ (o : Option (List Part)). option_map (�
 pub returns-in_default-clause-forms : goal.returns-in_default-clause-forms
 returns-in_default-clause-forms c = forms_refl c.args.self.now
 
-pub returns-in_default-clause-input : goal.returns-in_default-clause-input
-returns-in_default-clause-input c =
+pub returns-in_default-clause-views : goal.returns-in_default-clause-views
+returns-in_default-clause-views c =
+    let scene = c.args.scene.now in
+    let input = input_of (triggers_of scene) scene.lanes.now c.args.self.now in
     let none = no_act c.args.attached.now.trigger.now c.args.delta.now.event.now (sym c.key_of.ensures.key ∙ c.in_default.is) c.args.delta.now.sign in
-    let at : At = record { pos = c.args.delta.now.pos; trigger = c.args.attached.now.id } in
-    sym (set_same (input_of c.args.scene.now.lanes.now c.args.self.now) at _ (c.requires.before ∙ none.0 ∙ sym none.1))
+    views_as (triggers_of scene) scene.lanes.now input _ c.args.self.now
+    (sym (set_same input (record { pos = c.args.delta.now.pos; trigger = c.args.attached.now.id }) _ (c.requires.before ∙ none.0 ∙ sym none.1))) c.requires.views
 
 pub returns-in_default-clause-told : goal.returns-in_default-clause-told
-returns-in_default-clause-told c = few_nothing ((c.args.attached.now.id, c.args.attached.now.trigger.now) ∷ []) c.args.changes.now c.args.self.now
+returns-in_default-clause-told c = record { keys = []; few = λ whose. omega arith; told = told_nothing c.args.changes.now c.args.self.now }
 
 -- ---- a hit
 
@@ -65,16 +64,14 @@ module _ (hist : Hist) (event : Traced) (key : List Part) (one : hit hist event 
 
 pub change_act-requires : goal.change_act-requires
 change_act-requires c =
-    let one : hit c.args.attached.now.trigger.now c.args.delta.now.event.now ≡ Some c.in-Some.key = sym c.key_of.ensures.key ∙ c.in-Some.is in (
-      record {
-        views = c.requires.views;
-        attached = c.requires.attached;
-        held = c.requires.held;
-        was = c.requires.before ∙ is_before c.args.attached.now.trigger.now c.args.delta.now.event.now c.in-Some.key one c.args.delta.now.sign;
-        role = refl;
-      },
-      one,
-    )
+    let one : hit c.args.attached.now.trigger.now c.args.delta.now.event.now ≡ Some c.in-Some.key = sym c.key_of.ensures.key ∙ c.in-Some.is in
+    record {
+      views = c.requires.views;
+      attached = c.requires.its;
+      held = c.requires.held;
+      counts = one;
+      was = c.requires.before ∙ is_before c.args.attached.now.trigger.now c.args.delta.now.event.now c.in-Some.key one c.args.delta.now.sign;
+    }
 
 pub returns-clause-forms : goal.returns-clause-forms
 returns-clause-forms c = on_ok_weaker c.change_act.result (λ h. h.forms) c.change_act.ensures.changed
@@ -83,14 +80,12 @@ pub returns-clause-savers : goal.returns-clause-savers
 returns-clause-savers c = on_ok_weaker c.change_act.result (λ h. h.savers) c.change_act.ensures.changed
 
 pub returns-clause-views : goal.returns-clause-views
-returns-clause-views c = on_ok_weaker c.change_act.result (λ h. tells (triggers_of c.args.scene.now) c.args.scene.now.lanes.now _ c.change_act.new.tables h.views) c.change_act.ensures.changed
-
-pub returns-clause-input : goal.returns-clause-input
-returns-clause-input c =
-    let at : At = record { pos = c.args.delta.now.pos; trigger = c.args.attached.now.id } in
-    on_ok_weaker c.change_act.result (λ h. acts_are (triggers_of c.args.scene.now) c.args.scene.now.lanes.now _ c.change_act.new.tables h.views
-    ∙ ap (set (input_of c.args.scene.now.lanes.now c.args.self.now) at)
-    (sym (is_after c.args.attached.now.trigger.now c.args.delta.now.event.now c.in-Some.key (sym c.key_of.ensures.key ∙ c.in-Some.is) c.args.delta.now.sign))) c.change_act.ensures.changed
+returns-clause-views c =
+    let scene = c.args.scene.now in
+    let input = input_of (triggers_of scene) scene.lanes.now c.args.self.now in
+    on_ok_weaker c.change_act.result (λ h. views_as (triggers_of scene) scene.lanes.now _ _ c.change_act.new.tables
+    (ap (set input (record { pos = c.args.delta.now.pos; trigger = c.args.attached.now.id }))
+    (sym (is_after c.args.attached.now.trigger.now c.args.delta.now.event.now c.in-Some.key (sym c.key_of.ensures.key ∙ c.in-Some.is) c.args.delta.now.sign))) h.views) c.change_act.ensures.changed
 
 pub returns-clause-puts : goal.returns-clause-puts
 returns-clause-puts c =

@@ -1,6 +1,5 @@
 -- The shelf stands in the finite map, and what it becomes is written back there.
-use Rattle.std.proofs.Common.{◌≡◌, Option, Some, None, sym, ap, refl, ◌∙◌, OnSome, MutBor}
-use Rattle.std.specs.Ordering.{nat_cmp}
+use Rattle.std.proofs.Common.{◌≡◌, Option, Some, None, sym, ap, refl, ◌∙◌, OnSome, MutBor, nat_cmp}
 use Rattle.std.specs.Cmp.{nat_cmp_total}
 use Rattle.std.specs.BTreeMap.{get_by}
 use Rattle.std.specs.FinMap as map

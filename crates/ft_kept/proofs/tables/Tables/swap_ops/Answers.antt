@@ -1,8 +1,6 @@
 -- The saver's shelf has the operations that are given, and gives those that it had.
-use Rattle.std.proofs.Common.{sym, ap, subst, ◌∙◌, Some}
-use Rattle.std.specs.Prelude.{is_some}
+use Rattle.std.proofs.Common.{sym, ap, subst, ◌∙◌, Some, is_some, true≢false}
 use Rattle.std.specs.Option.{option_copied_mut}
-use Rattle.std.proofs.lemmas.Bool.{true≢false}
 use Rattle.ft_pairs.specs.ByKey.{OpsByKey, ops_of}
 use Rattle.ft_shelves.specs.Shelves.{ChangesShelf}
 use Rattle.ft_kept.specs.inner.Joining.{HasOps}

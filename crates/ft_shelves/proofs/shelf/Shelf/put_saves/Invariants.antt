@@ -6,7 +6,7 @@ use Rattle.ft_maps.specs.Seen.{seen}
 use Rattle.ft_pairs.specs.ByKey.{ChangesKey}
 use Rattle.ft_hits.specs.declared.hit.Hit.{Hit}
 use Rattle.ft_shelves.specs.Counts.{TestsNone}
-use Rattle.ft_shelves.proofs.Saving.{with_saves_till, hits_left}
+use Rattle.ft_shelves.proofs.Walking.{with_saves_till, hits_left}
 use Rattle.ft_shelves.proofs.shelf.Shelf.put_saves.Given as goal
 
 abbrev pub invariant-loop-next : goal.invariant-loop-next
