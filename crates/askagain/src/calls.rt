@@ -3,7 +3,7 @@
 use ft_desk::{Board, Desk, Done, Edited, Kept, Latency, Refused, Totals};
 use ft_script::{Command, Numbered};
 
-/// What a call answers that isn't refused.
+/// What a call that isn't refused answers.
 #[derive(Drop)]
 pub(crate) enum Answer {
     /// An edit that gives a number, after the word that it prints.

@@ -1,19 +1,20 @@
-//! `askagain SCRIPT [TRACE]..`: what a desk over the kept board answers where growths of its memory are
-//! refused in the middle of a script. A call that runs out of memory is made once more at once.
+//! `askagain SCRIPT [TRACE]..`: what a desk over the kept board answers if growths of its memory
+//! are refused in the middle of a script. A call that runs out of memory is made once more at once.
 //!
-//! After each call's text stands a line: `-- now`, `-- later` of an accepted edit, else `-- none`; and
-//! then ` deferred` or ` kept`, as the desk is. The text is what the script's run prints, but a refusal
-//! is its number alone, and out of memory is `memory`. Before that line of an accepted insert or
-//! strike stands its report: `-- rows` with ` ID:PART,..` for each row, or `-- no report`.
+//! A line follows each call's text: `-- now` or `-- later` after an accepted edit, else `-- none`;
+//! and then ` deferred` or ` kept`, as the desk is. The text is what the script's run prints,
+//! except that a refusal has only its number, and out of memory is `memory`. The report of an
+//! accepted insert or strike stands before that line: `-- rows` with ` ID:PART,..` for each row, or
+//! `-- no report`.
 //!
-//! One byte goes to standard error before each first call and one after it, so that who refuses
+//! One byte goes to standard error before each first call and one after it, so that whoever refuses
 //! growths, as `tests/program/refuse_growth.c` does, knows which are those of the call.
 //!
-//! `askagain watch-plain SCRIPT [TRACE]..` is another program: `histwatch` over the board that keeps no
-//! tables, and whose edits have no report. And `askagain rows FOLDER..` says whether worked examples
-//! hold.
+//! `askagain watch-plain SCRIPT [TRACE]..` is another program: `histwatch` over the board that
+//! keeps no tables and whose edits have no report. And `askagain rows FOLDER..` reports whether
+//! worked examples hold.
 //!
-//! The exit status is 1 where a worked example doesn't hold, 2 after a fault, which goes to standard
+//! The exit status is 1 if a worked example doesn't hold, 2 after a fault, which goes to standard
 //! error, and else 0.
 #![tactic(auto)]
 
@@ -35,10 +36,10 @@ use std::process::ExitCode;
 use std::rt::{Env, Files};
 use std::{env, fs, io};
 
-/// The first word where rows are checked.
+/// The first argument if rows are checked.
 const ROWS: &str = "rows";
 
-/// The first word where a script is watched.
+/// The first argument if a script is watched.
 const WATCH_PLAIN: &str = "watch-plain";
 
 fn main(rt: HostRuntime) -> ExitCode {
@@ -61,7 +62,7 @@ fn exit_status<P: Eprint>(rt: &P, ended: io::Result<bool>) -> u8
     }
 }
 
-/// Does what the program's words say. False where rows are checked, and some doesn't hold.
+/// Does what the program's arguments say. False if rows are checked, and some row doesn't hold.
 fn run_words<P: Env + Files + Print + Eprint + AllocGlobal>(rt: &P) -> io::Result<bool> {
     let words: Vec<String> = env::args(rt)?.skip(1).collect(rt.alloc())?;
     match words.as_slice().split_first() {
@@ -73,7 +74,7 @@ fn run_words<P: Env + Files + Print + Eprint + AllocGlobal>(rt: &P) -> io::Resul
     }
 }
 
-/// Watches or asks what the program's words say.
+/// Watches or asks what the program's arguments say.
 fn run_files<P: Files + Print + Eprint + AllocGlobal>(rt: &P, words: &[String]) -> io::Result<()> {
     match words.split_first() {
         Some((first, paths)) if first.as_str() == WATCH_PLAIN => watch_files(rt, paths),
@@ -130,7 +131,7 @@ fn read_files<P: Files + AllocGlobal>(rt: &P, paths: &[String]) -> io::Result<Ve
     Ok(files)
 }
 
-/// Makes a call, and once more where it runs out of memory, and prints what each answers.
+/// Makes a call, and makes it once more if it runs out of memory, and prints what each answers.
 fn ask<B: Board, P: Print + Eprint>(
     rt: &P,
     desk: &mut Desk<B>,

@@ -1,12 +1,12 @@
-//! `askagain rows FOLDER..`: whether worked examples hold. Each folder is a row: a `script`, the trace
-//! files `trace1`, `trace2`, .. that it may load, the `expected` output, and a `status`, whose first
-//! byte is `0` where each command is to be accepted, and `1` where some is to be refused.
+//! `askagain rows FOLDER..`: whether worked examples hold. Each folder is a row: a `script`, the
+//! trace files `trace1`, `trace2`, .. that it may load, the `expected` output, and a `status`,
+//! whose first byte is `0` if each command is to be accepted, and `1` if some is to be refused.
 //!
-//! A row holds where `run` and `run_text` give that output and that status over both boards, and
-//! where the script, done line by line over a desk of each board, prints that output, the same over
-//! both, with no line after which a desk is deferred.
+//! A row holds if `run` and `run_text` give that output and that status over both boards, and if
+//! the script, done line by line over a desk of each board, prints that output, the same over both,
+//! with no line after which a desk is deferred.
 //!
-//! For each row that doesn't hold a line `FOLDER: WHAT` is printed, and last how many rows hold.
+//! A line `FOLDER: WHAT` is printed for each row that doesn't hold, and last how many rows hold.
 
 ghost use Rattle.std.specs.Prelude.{◌≡◌, ◌≤◌, ◌↔◌, length, IfOk, IsTrue};
 
@@ -34,8 +34,8 @@ impl Count {
     }
 }
 
-/// Checks the rows in these folders, and prints which don't hold, and how many do. Refused where no
-/// folder is named, or where standard output fails.
+/// Checks the rows in these folders, and prints which don't hold, and how many do. Refused if no
+/// folder is named, or if standard output fails.
 pub(crate) fn check_rows<P: Files + Print + AllocGlobal>(
     rt: &P,
     folders: &[String],

@@ -1,4 +1,4 @@
--- What an answer or an edit says and takes of a board that keeps no tables.
+-- What an answer or an edit of a board that keeps no tables says and costs.
 use Rattle.std.proofs.Common.{◌≡◌, ◌*◌, ℕ, Bool, true, false, refl, subst, Result, Ok, Err}
 use Rattle.std.proofs.Math.Nat.{le-add_right}
 use Rattle.ft_fields.specs.Traced.{Traced}
@@ -15,7 +15,7 @@ use Rattle.ft_answers.specs.Shown.{Shown}
 abbrev pub plain_shown : Base → Steps → Shown
 plain_shown base steps = record { base = base; deferred = false; keeps = false; steps = steps }
 
--- replaying takes steps, but of a board that keeps no tables
+-- replaying takes steps, which an answer of a board that keeps no tables may cost
 pub replayed_steps : (base : Base) (work more : Steps) (shown : Shown) → plain_shown base work ≡ shown → StepsGrow work more → AnswerCosts shown (plain_shown base more)
 replayed_steps base work more shown is grow = subst (λ (s : Shown). AnswerCosts s (plain_shown base more)) is (record {
   keeps = refl;

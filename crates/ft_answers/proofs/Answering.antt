@@ -54,11 +54,11 @@ counter_tally first triggers events counters id counter is there =
 -- ---- what a table shows
 
 module _ (triggers : Triggers) (events : Events) (id : ℕ) (hist : Hist) where
-  -- made events, where the trigger counts these
+  -- made events, if the trigger counts these
   pub shown-made : counts_made hist ≡ true → tally_shown triggers events id hist ≡ tally_made triggers events id
   shown-made is = ap (λ (b : Bool). if b then tally_made triggers events id else tally_at triggers events id) is
 
-  -- held events, where it doesn't
+  -- held events, if it doesn't
   pub shown-held : counts_made hist ≡ false → tally_shown triggers events id hist ≡ tally_at triggers events id
   shown-held is = ap (λ (b : Bool). if b then tally_made triggers events id else tally_at triggers events id) is
 
@@ -69,7 +69,7 @@ module _ {T : Type 0} (triggers : Triggers) (id : ℕ) where
   pub of_attached-some : (answer : Hist → Result T Refused) (hist : Hist) → map.get triggers id ≡ Some hist → of_attached triggers id answer ≡ answer hist
   of_attached-some answer hist is = ap (λ o. option_map_or answer o (Err NoTrigger)) is
 
--- by its table: what a table answers is told by the tally alone
+-- by its table: what a table answers depends only on the tally
 pub answered : {T : Type 0} (triggers : Triggers) (events : Events) (id : ℕ) (hist : Hist) → map.get triggers id ≡ Some hist
     → (counted table : Tabled) → table ≡ counted → (pairs : List Pair) × (tally_of counted pairs ≡ tally_shown triggers events id hist)
     → (view : Hist → Tally → T) (answer : T) → ((pairs : List Pair) → answer ≡ view hist (tally_of table pairs))
@@ -96,7 +96,7 @@ abbrev pub measured : Result (List Pair) Refused → Result (List Latency) Refus
 measured (Ok pairs) = Ok (list_map latency_of pairs)
 measured (Err refused) = Err refused
 
--- what readings measured is told by what they found
+-- what readings measured follows from what they found
 pub latencies-measured : (base : Base) (id : ℕ) → latencies base id ≡ measured (pairs_shown base id)
 unfolding latencies pairs_shown
 latencies-measured base id = by (map.get base.triggers id) where

@@ -5,7 +5,7 @@ use Rattle.std.specs.Map.{keys_of}
 use Rattle.ft_maps.specs.Mapped.{entries_by}
 
 module _ {X : Type 0} where
-  -- where each passes, all are left
+  -- if each passes, all are left
   pub all_left : (fits : X → Bool) (xs : List X) → ((x : X) → fits x ≡ true) → filter fits xs ≡ xs
   all_left fits [] all = refl
   all_left fits (x ∷ xs) all =

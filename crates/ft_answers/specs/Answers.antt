@@ -35,7 +35,7 @@ tally_made triggers events id = unwrap_or (map.get (replay_making triggers event
 abbrev pub tally_shown : Triggers → Events → ℕ → Hist → Tally
 tally_shown triggers events id hist = if counts_made hist then tally_made triggers events id else tally_at triggers events id
 
--- an answer about an attached trigger; none is attached: refused
+-- an answer about the attached trigger with an id; refused if no trigger has the id
 abbrev pub of_attached : {T : Type 0} → Triggers → ℕ → (Hist → Result T Refused) → Result T Refused
 of_attached triggers id answer = option_map_or answer (map.get triggers id) (Err NoTrigger)
 
@@ -55,7 +55,7 @@ tally_row_texts hist tally = list_map (keyed_text hist) (rows_in hist.sort tally
 unfoldable pub tally_rows : Hist → Tally → List Counted
 tally_rows hist tally = rows_in hist.sort tally
 
--- the text of a key's row of a trigger with a tally, without the line break; none where the key isn't in the table (kernel: histogram.rst, the `hist` file)
+-- the text of a key's row of a trigger with a tally, without the line break; none if the key isn't in the table (kernel: histogram.rst, the `hist` file)
 unfoldable pub tally_row_text : Hist → Tally → List Part → Option (List ℕ)
 tally_row_text hist tally key = option_map (row_text hist) (map.get tally.table key)
 
@@ -83,7 +83,7 @@ line_at at = record { cpu = at.cpu; line = at.line }
 abbrev pub latency_of : Pair → Latency
 latency_of pair = record { saved = line_at pair.saved; read = line_at pair.read; micros = pair.read.stamp - pair.saved.stamp }
 
--- the latencies of a trigger with a variable: one that saves, or has none, has no latencies
+-- the latencies of a trigger, by its variable; refused if the trigger reads none
 abbrev pub latencies_as : Option Var → Tally → Result (List Latency) Refused
 latencies_as (Some (vars.Reads own source)) tally = Ok (list_map latency_of tally.pairs)
 latencies_as variable tally = Err NotReading
@@ -92,7 +92,7 @@ latencies_as variable tally = Err NotReading
 abbrev pub latencies_from : Triggers → Events → ℕ → Result (List Latency) Refused
 latencies_from triggers events id = of_attached triggers id (λ hist. latencies_as hist.variable (tally_at triggers events id))
 
--- what the readings of a trigger with a variable found: one that saves, or has none, reads nothing (kernel: histogram.rst, inter-event hist triggers)
+-- what the readings of a trigger found, by its variable; refused if the trigger reads none (kernel: histogram.rst, inter-event hist triggers)
 abbrev pub pairs_as : Option Var → Tally → Result (List Pair) Refused
 pairs_as (Some (vars.Reads own source)) tally = Ok tally.pairs
 pairs_as variable tally = Err NotReading

@@ -13,7 +13,7 @@ use Rattle.ft_hist.specs.Triggers.{Triggers}
 use Rattle.ft_base.specs.Roles.{is_reader}
 use Rattle.ft_answers.specs.Shown.{Shown}
 
--- a board whose tables lack no edit before lacks none afterwards
+-- if a board's tables lack no edit before, they lack none afterwards
 abbrev pub PutsNothingOff : Shown → Shown → Type 0
 PutsNothingOff old new = old.deferred ≡ false → new.deferred ≡ false
 
@@ -21,7 +21,7 @@ PutsNothingOff old new = old.deferred ≡ false → new.deferred ≡ false
 abbrev pub IsPlainHit : Triggers → Traced → Type 0
 IsPlainHit triggers event = (id : ℕ) (hist : Hist) → map.get triggers id ≡ Some hist → (key : List Part) → hit hist event ≡ Some key → hist.variable ≡ None
 
--- each event of a CPU's lane is a hit of triggers without a variable alone (kernel: histogram.rst, inter-event hist triggers)
+-- each event of a CPU's lane is a hit only of triggers without a variable (kernel: histogram.rst, inter-event hist triggers)
 abbrev pub IsPlainLane : Triggers → Lanes → ℕ → Type 0
 IsPlainLane triggers lanes cpu = (line : ℕ) (event : Traced) → event_at lanes cpu line ≡ Some event → IsPlainHit triggers event
 
@@ -29,6 +29,6 @@ IsPlainLane triggers lanes cpu = (line : ℕ) (event : Traced) → event_at lane
 abbrev pub ReadsNothing : Triggers → ℕ → Type 0
 ReadsNothing triggers id = (hist : Hist) → map.get triggers id ≡ Some hist → is_reader hist.variable ≡ false
 
--- an answer that needs no memory of its own: over a board that keeps tables it runs out of memory only where these lack an edit, and then they lack it still
+-- an answer that needs no memory of its own: on a board that keeps tables, it runs out of memory only if these lack an edit, and then they still lack one
 abbrev pub WantsForTables : {S : Type 0} → Shown → Shown → Result S Refused → Type 0
 WantsForTables old new answer = old.keeps ≡ true → answer ≡ Err Memory → (old.deferred ≡ true) × (new.deferred ≡ true)

@@ -9,7 +9,7 @@ pub use Rattle.ft_base.specs.Answers.{AnswerIs}
 use Rattle.ft_base.specs.Base.{Base}
 use Rattle.ft_answers.specs.Shown.{Shown}
 
--- `Later` just where the tables are deferred
+-- `Later` if and only if the tables are deferred
 abbrev pub kept_of : Bool → Kept
 kept_of true = Later
 kept_of false = Now

@@ -16,7 +16,7 @@ use Rattle.ft_replay.specs.Merged.{merged, place_of}
 abbrev pub places : Lanes → List Pos
 places lanes = map.keys (merged lanes)
 
--- the places of a lane's events from a line on, by line: none where the CPU has no lane
+-- the places of a lane's events from a line on, by line; none if the CPU has no lane
 abbrev pub lane_places : Lanes → ℕ → ℕ → List Pos
 lane_places lanes cpu line =
     option_map_or (λ lane. list_map (place_of cpu) (filter (λ entry. nat_le line entry.0) (map.entries lane.events))) (map.get lanes cpu) []

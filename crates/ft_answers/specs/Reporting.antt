@@ -31,7 +31,7 @@ made_row_in base id key = map.get (tally_made base.triggers (merged base.lanes) 
 unfoldable pub readers_in : Triggers → ℕ → ℕ
 readers_in triggers saver = length (filter (λ attached. reads_from saver (role_at triggers attached.0)) (map.entries triggers))
 
--- a report of the rows that an edit may have changed: none twice, each of an attached trigger that counts held events, all that differ of these, and few of each: 2 of one that reads nothing, 4 of a reader and 2 more for each trigger that reads the same
+-- a report of the rows that an edit may have changed: none twice, each of an attached trigger that counts held events, all rows of these triggers that differ, and few of each trigger: at most 2 of one that reads nothing, and at most 4 of a reader and 2 more for each trigger that reads the same
 pub record IsReport (old new : Base) (report : List Changed) : Type 0 where
   pub once : IsDistinct same_row report
   pub held : (id : ℕ) (key : List Part) → is_reported report id key ≡ true → (hist : Hist) × ((map.get old.triggers id ≡ Some hist) × (counts_made hist ≡ false))
@@ -39,17 +39,17 @@ pub record IsReport (old new : Base) (report : List Changed) : Type 0 where
   pub two : (id : ℕ) → ((saver : ℕ) → role_at old.triggers id ≡ Reads saver → ⊥) → reported_of report id ≤ 2
   pub reader : (id saver : ℕ) → role_at old.triggers id ≡ Reads saver → reported_of report id ≤ 4 + 2 * readers_in old.triggers saver
 
--- the same of made events: none twice, each of an attached trigger that counts them, and all that differ of these
+-- the same of made events: no row twice, each of an attached trigger that counts them, and all rows of these triggers that differ
 pub record IsMadeReport (old new : Base) (report : List Changed) : Type 0 where
   pub once : IsDistinct same_row report
   pub made : (id : ℕ) (key : List Part) → is_reported report id key ≡ true → (hist : Hist) × ((map.get old.triggers id ≡ Some hist) × (counts_made hist ≡ true))
   pub all : (id : ℕ) (hist : Hist) → map.get old.triggers id ≡ Some hist → counts_made hist ≡ true → (key : List Part) → is_reported report id key ≡ false → made_row_in new id key ≡ made_row_in old id key
 
--- the rows of made events that an accepted edit names, where it does, are a report of the base before it and after it; a board whose tables lack the edit names none, nor does one that keeps no tables
+-- if an accepted edit names rows of made events, they are a report of the base before it and after it; a board whose tables lack the edit names none, nor does one that keeps no tables
 abbrev pub ReportsMade : Shown → Shown → Done Edited → Type 0
 ReportsMade old new done = IfSome done.value.made (λ rows. IsMadeReport old.base new.base rows.items) × ((new.deferred ≡ true → done.value.made ≡ None) × (new.keeps ≡ false → done.value.made ≡ None))
 
--- an accepted edit's report, where it has one, is of the base before it and after it; a board whose tables lack the edit has none, and so has one that keeps no tables; and so with the rows of made events
+-- if an accepted edit has a report, it is of the base before it and after it; a board whose tables lack the edit has none, nor has one that keeps no tables; the same holds of the rows of made events
 abbrev pub Reports : Shown → Shown → Result (Done Edited) Refused → Type 0
 Reports old new (Ok done) = (IfSome done.value.report (λ rows. IsReport old.base new.base rows.items) × (new.deferred ≡ true → done.value.report ≡ None) × (new.keeps ≡ false → done.value.report ≡ None)) × ReportsMade old new done
 Reports old new (Err refused) = ⊤

@@ -1,3 +1,3 @@
--- Words of private functions: what a trigger counts, and what replaying leaves of readings.
+-- Definitions for private functions: what a trigger counts, and what replaying leaves of readings.
 pub mod Counts
 pub mod Readings

@@ -15,7 +15,7 @@ use ft_replay::Pair;
 use ft_table::{Row, TableRow, Totals};
 use std::alloc::Global;
 
-/// The text of the table of the trigger with an id. Refused where no trigger has the id, or for
+/// The text of the table of the trigger with an id. Refused if no trigger has the id, or for
 /// memory.
 pub(crate) fn hist_from(
     alloc: Global,
@@ -33,7 +33,7 @@ pub(crate) fn hist_from(
     Ok(table_text(alloc, trigger, counted.table())?)
 }
 
-/// The rows of the table of the trigger with an id. Refused where no trigger has the id, or for
+/// The rows of the table of the trigger with an id. Refused if no trigger has the id, or for
 /// memory.
 pub(crate) fn row_texts_from(
     alloc: Global,
@@ -51,7 +51,7 @@ pub(crate) fn row_texts_from(
     Ok(table_row_texts(alloc, trigger, counted.table())?)
 }
 
-/// The text of a key's row of the table of the trigger with an id. Refused where no trigger has the
+/// The text of a key's row of the table of the trigger with an id. Refused if no trigger has the
 /// id, or for memory.
 pub(crate) fn row_text_from(
     alloc: Global,
@@ -70,8 +70,8 @@ pub(crate) fn row_text_from(
     Ok(table_row_text(alloc, trigger, counted.table(), key)?)
 }
 
-/// The rows of the table of the trigger with an id, in numbers. Refused where no trigger has the
-/// id, or for memory.
+/// The rows of the table of the trigger with an id, in numbers. Refused if no trigger has the id,
+/// or for memory.
 pub(crate) fn rows_from(
     alloc: Global,
     lanes: &Lanes,
@@ -88,7 +88,7 @@ pub(crate) fn rows_from(
     Ok(table_rows(trigger, counted.table())?)
 }
 
-/// The totals of the trigger with an id. Refused where no trigger has the id, or for memory.
+/// The totals of the trigger with an id. Refused if no trigger has the id, or for memory.
 pub(crate) fn totals_from(
     alloc: Global,
     lanes: &Lanes,
@@ -105,8 +105,8 @@ pub(crate) fn totals_from(
     Ok(counted.table().totals())
 }
 
-/// What the readings of the trigger with an id found. Refused where no trigger has the id, where it
-/// reads no variable, or for memory.
+/// What the readings of the trigger with an id found. Refused if no trigger has the id, if the
+/// trigger reads no variable, or for memory.
 pub(crate) fn pairs_from(
     alloc: Global,
     lanes: &Lanes,

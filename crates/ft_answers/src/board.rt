@@ -13,11 +13,11 @@ use ft_table::{Row, TableRow, Totals};
 
 /// Lanes of events and attached triggers, with the answers that replaying the events gives.
 ///
-/// A board that keeps tables repairs them as one event comes or goes, by few steps that contracts
-/// count where no made event is counted, and answers from them without a step.
+/// A board that keeps tables repairs them when one event comes or goes, in few steps, and answers
+/// from them without a step. Contracts count the steps of a repair if no made event is counted.
 ///
-/// A refused edit changes nothing, and drops what was handed in. `strike`, `unload` and `remove`
-/// never run out of memory.
+/// A refused edit changes nothing, and drops its arguments. `strike`, `unload` and `remove` never
+/// run out of memory.
 pub trait Board: Drop {
     ghost use Rattle.std.specs.Prelude.{◌≡◌, ◌≢◌, true, false, Some, Err, option_map};
     ghost use Rattle.std.specs.List.{All};
@@ -41,9 +41,9 @@ pub trait Board: Drop {
     /// What is held and attached, whether tables are kept and lack an edit, and the steps taken.
     ghost shown: { Self → Shown };
 
-    /// Loads events in file order, a lane for each of their CPUs: how many were loaded. No event
-    /// that triggers make is among them. Refused where a lane is held, where too many events would
-    /// be, or for memory.
+    /// Loads events in file order, into a lane for each of their CPUs. Returns how many were
+    /// loaded. They must not be events that triggers make. Refused if one of these lanes is held
+    /// already, if too many events would be held, or for memory.
     fn load(&mut self, events: Vec<Event>) -> Result<Done<u64>, Refused>
         requires { All (λ event. is_made event.body ≡ false) events.items }
         ensures gives { EditGives (λ count. count) (after_load (shown self.old).base events.items)
@@ -51,8 +51,8 @@ pub trait Board: Drop {
         ensures counts { EditCounts (shown self.old) (shown self.new) result }
         ensures repairs { LoadCosts events.items (shown self.old) (shown self.new) };
 
-    /// The same for events that are in a store already, which the board takes over: that spares a
-    /// copy of them.
+    /// Like `load`, for events that are in a store already. The board takes the store over, which
+    /// spares a copy of the events.
     fn load_store(&mut self, events: Store) -> Result<Done<u64>, Refused>
         requires { All (λ event. is_made event.body ≡ false) events }
         ensures gives { EditGives (λ count. count) (after_load (shown self.old).base events)
@@ -60,7 +60,7 @@ pub trait Board: Drop {
         ensures counts { EditCounts (shown self.old) (shown self.new) result }
         ensures repairs { LoadCosts events (shown self.old) (shown self.new) };
 
-    /// Takes the lane of a CPU away: how many events it had. Refused where the lane is not held.
+    /// Removes the lane of a CPU. Returns how many events it had. Refused if the lane is not held.
     fn unload(&mut self, cpu: u32) -> Result<Done<u64>, Refused>
         ensures gives { EditGives (λ count. count) (after_unload (shown self.old).base cpu)
             (shown self.old) (shown self.new) result }
@@ -71,9 +71,11 @@ pub trait Board: Drop {
             → IsPlainLane (shown self.old).base.triggers (shown self.old).base.lanes cpu
             → PutsNothingOff (shown self.old) (shown self.new) };
 
-    /// Adds an event, none that triggers make, at the next line of its CPU's lane: the event's
-    /// place, and which rows of triggers that count held events may have changed, if the board has
-    /// a report. The lane is made where there is none. Refused where too many events would be or
+    /// Adds an event, which must not be one that triggers make, at the next line of its CPU's lane.
+    /// The lane is made if there is none. Returns the event's place and, if the board reports them,
+    /// which rows may have changed: `report` has those of triggers that count held events, and
+    /// `made` has those of triggers that count made events. Both are `None` if the board is
+    /// deferred after the edit, or keeps no tables. Refused if too many events would be held, if
     /// the lane's line numbers are used up, or for memory.
     fn insert(&mut self, event: Event) -> Result<Done<Edited>, Refused>
         requires { is_made event.body ≡ false }
@@ -85,9 +87,9 @@ pub trait Board: Drop {
             → PutsNothingOff (shown self.old) (shown self.new) }
         ensures reports { Reports (shown self.old) (shown self.new) result };
 
-    /// Takes the event of a CPU's line away: its place, and which rows of triggers that count held
-    /// events may have changed, if the board has a report. The number is not given again while the
-    /// lane is held. Refused where the lane is not held, or has no such line.
+    /// Removes the event of a CPU's line. Returns its place and, if the board reports them, which
+    /// rows may have changed, in `report` and `made` as for `insert`. The line number is not given
+    /// again while the lane is held. Refused if the lane is not held, or has no such line.
     fn strike(&mut self, cpu: u32, line: u32) -> Result<Done<Edited>, Refused>
         ensures gives { EditGives (λ edited. edited.place) (after_strike (shown self.old).base cpu line)
             (shown self.old) (shown self.new) result }
@@ -102,18 +104,18 @@ pub trait Board: Drop {
             → PutsNothingOff (shown self.old) (shown self.new) }
         ensures reports { Reports (shown self.old) (shown self.new) result };
 
-    /// Attaches a trigger: its id. Refused where 64 are attached or the ids are used up, where its
-    /// variable's name is saved already, where nobody saves what it reads (at the event that its
-    /// onmatch part names, if it has one), where its keys don't match its saver's, or for memory.
+    /// Attaches a trigger. Returns its id. Refused if 64 are attached or the ids are used up, if
+    /// its variable's name is saved already, if nobody saves what it reads (at the event that its
+    /// onmatch part names, if it has one), if its keys don't match its saver's, or for memory.
     fn attach(&mut self, trigger: Trigger) -> Result<Done<u32>, Refused>
         requires { trigger.event ≢ Name.Other }
         ensures gives { EditGives (λ id. id) (after_attach (shown self.old).base trigger)
             (shown self.old) (shown self.new) result }
         ensures counts { EditCounts (shown self.old) (shown self.new) result };
 
-    /// Gives a trigger another filter, or none: its id. The filter is for the trigger's event, and
-    /// holds for the events held before as for those to come. Refused where no trigger has the id,
-    /// or for memory.
+    /// Gives a trigger another filter, or none. Returns its id. The filter must be for the
+    /// trigger's event, and applies to the events held before as to those to come. Refused if no
+    /// trigger has the id, or for memory.
     fn refilter(&mut self, id: u32, filter: Option<Filter>) -> Result<Done<u32>, Refused>
         requires { (hist : Hist) → map.get (shown self.old).base.triggers id ≡ Some hist
             → ForSome filter (λ f. f.event ≡ hist.event) }
@@ -123,8 +125,8 @@ pub trait Board: Drop {
         ensures counts { EditCounts (shown self.old) (shown self.new) result }
         ensures costs { FilterCosts id (shown self.old) (shown self.new) };
 
-    /// Takes a trigger away: its id, which is not given again. Refused where no trigger has the
-    /// id, or where it saves what another reads.
+    /// Removes a trigger. Returns its id, which is not given again. Refused if no trigger has the
+    /// id, or if it saves what another one reads.
     fn remove(&mut self, id: u32) -> Result<Done<u32>, Refused>
         ensures gives { EditGives (λ id. id) (after_remove (shown self.old).base id)
             (shown self.old) (shown self.new) result }
@@ -142,63 +144,62 @@ pub trait Board: Drop {
         ensures { result
             ≡ option_map (λ hist. hist.event) (map.get (shown self.now).base.triggers id) };
 
-    /// The text of a trigger's table. Refused where no trigger has the id, or for memory.
+    /// The text of a trigger's table. Refused if no trigger has the id, or for memory.
     fn hist(&mut self, id: u32) -> Result<Vec<u8>, Refused>
         ensures gives { AnswersFrom (λ text. text.items) (hist_text (shown self.old).base id)
             (shown self.old) (shown self.new) result }
         ensures steps { AnswerCosts (shown self.old) (shown self.new) };
 
-    /// The rows of a trigger's table in the order of its text, each with its key, and with its text
-    /// as `hist` gives it, without the line break. Refused where no trigger has the id, or for
-    /// memory.
+    /// The rows of a trigger's table in the order of its text: the key of each, and its text as
+    /// `hist` gives it, without the line break. Refused if no trigger has the id, or for memory.
     fn row_texts(&mut self, id: u32) -> Result<Vec<TableRow>, Refused>
         ensures gives { AnswersFrom (λ rows. rows.items) (row_texts_shown (shown self.old).base id)
             (shown self.old) (shown self.new) result }
         ensures steps { AnswerCosts (shown self.old) (shown self.new) };
 
-    /// The rows of a trigger's table in numbers, in the order of its text. Refused where no trigger
+    /// The rows of a trigger's table in numbers, in the order of its text. Refused if no trigger
     /// has the id, or for memory.
     fn rows(&mut self, id: u32) -> Result<Vec<Row>, Refused>
         ensures gives { AnswersFrom (λ rows. rows.items) (rows_shown (shown self.old).base id)
             (shown self.old) (shown self.new) result }
         ensures steps { AnswerCosts (shown self.old) (shown self.new) };
 
-    /// The text of a key's row of a trigger's table as `hist` gives it, without the line break; none
-    /// where the key isn't in the table. Refused where no trigger has the id, or for memory.
+    /// The text of a key's row of a trigger's table as `hist` gives it, without the line break;
+    /// none if the key isn't in the table. Refused if no trigger has the id, or for memory.
     fn row_text(&mut self, id: u32, key: &Key) -> Result<Option<Vec<u8>>, Refused>
         ensures gives { AnswersFrom (option_map (λ text. text.items))
             (row_text_shown (shown self.old).base id key.now) (shown self.old) (shown self.new) result }
         ensures steps { AnswerCosts (shown self.old) (shown self.new) };
 
     /// What a trigger has counted: its hits, the keys in its table, and the hits that found no
-    /// room. Refused where no trigger has the id, or for memory.
+    /// room. Refused if no trigger has the id, or for memory.
     fn totals(&mut self, id: u32) -> Result<Totals, Refused>
         ensures gives { AnswersFrom (λ totals. totals) (totals (shown self.old).base id)
             (shown self.old) (shown self.new) result }
         ensures steps { AnswerCosts (shown self.old) (shown self.new) }
         ensures memory { WantsForTables (shown self.old) (shown self.new) result };
 
-    /// What a reading trigger measured, in merged order of the reading, dropped hits too. Refused
-    /// where no trigger has the id, where it reads no variable, or for memory.
+    /// What a reading trigger measured, in merged order of the reading, dropped hits included.
+    /// Refused if no trigger has the id, if the trigger reads no variable, or for memory.
     fn latencies(&mut self, id: u32) -> Result<Vec<Latency>, Refused>
         ensures gives { AnswersFrom (λ latencies. latencies.items)
             (latencies (shown self.old).base id) (shown self.old) (shown self.new) result }
         ensures steps { AnswerCosts (shown self.old) (shown self.new) };
 
-    /// The pairs of events that `latencies` measures, in its order: of each the place, with its stamp
-    /// in microseconds, of the event that saved and of the one that read. Refused where no trigger has
-    /// the id, where it reads no variable, or for memory.
+    /// The pairs of events that `latencies` measures, in its order. A pair has the place of the
+    /// event that saved and of the one that read, each with its stamp in microseconds. Refused if
+    /// no trigger has the id, if the trigger reads no variable, or for memory.
     fn pairs(&mut self, id: u32) -> Result<Vec<Pair>, Refused>
         ensures gives { AnswersFrom (λ pairs. pairs.items)
             (pairs_shown (shown self.old).base id) (shown self.old) (shown self.new) result }
         ensures steps { AnswerCosts (shown self.old) (shown self.new) };
 
-    /// The text of a CPU's lane. It needs no tables. Refused where the lane is not held, or for
+    /// The text of a CPU's lane. It needs no tables. Refused if the lane is not held, or for
     /// memory.
     fn list(&self, cpu: u32) -> Result<Vec<u8>, Refused>
         ensures { AnswerIs (λ text. text.items) (list_text (shown self.now).base cpu) result };
 
-    /// Whether the kept tables are deferred: then the next answer that reads them rebuilds them.
+    /// Whether the kept tables are deferred. If so, the next answer that reads them rebuilds them.
     fn is_deferred(&self) -> bool
         ensures { result ≡ (shown self.now).deferred };
 }

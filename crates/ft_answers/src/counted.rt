@@ -30,7 +30,7 @@ pub(crate) enum Counted {
 }
 
 impl Counted {
-    /// The table of it.
+    /// Its table.
     pub(crate) fn table(&self) -> &Table
         ensures { result.now ≡ counted_table self.now }
     {

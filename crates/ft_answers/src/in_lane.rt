@@ -8,7 +8,7 @@ use ft_fields::Pos;
 use ft_lanes::{Lanes, Lines};
 use std::alloc::{AllocError, Global};
 
-/// The places of the events of a CPU's lane from a line on, by line; none where it has no lane.
+/// The places of the events of a CPU's lane from a line on, by line; none if the CPU has no lane.
 /// Refused for memory.
 pub fn lane_places(
     alloc: Global,

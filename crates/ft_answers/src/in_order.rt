@@ -45,7 +45,7 @@ pub fn matching_places(
     passing(alloc, &events, filter)
 }
 
-/// The name that a filter is for, alone.
+/// Only the name that a filter is for.
 fn name_of(filter: &Filter) -> Names
     ensures { (name : Name) → has_name result name ≡ same_name filter.now.event name }
 {

@@ -20,7 +20,7 @@ pub struct Latency {
     pub micros: u64,
 }
 
-/// What readings found as latencies, in the same order. Refused for memory.
+/// What readings found, as latencies, in the same order. Refused for memory.
 pub fn latencies_of(alloc: Global, pairs: &[Pair]) -> Result<Vec<Latency>, AllocError>
     ensures { IfOk result (λ latencies. latencies.items ≡ list_map latency_of pairs.now) }
 {

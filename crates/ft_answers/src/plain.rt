@@ -178,13 +178,13 @@ impl Board for PlainBoard {
     }
 
     fn is_deferred(&self) -> bool {
-        // A look at a field, by which a proof sees what the board shows.
+        // This look at a field lets a proof see what the board shows.
         let _ = &self.work;
         false
     }
 }
 
-/// An accepted edit of one event: its place, and no report.
+/// An accepted edit of one event: the event's place, and no report of rows.
 fn unreported(place: Place) -> Done<Edited>
     ensures place { result.value.place ≡ place }
     ensures report { result.value.report ≡ None }
@@ -206,6 +206,6 @@ pub fn plain_board_keeps_none(board: &PlainBoard)
     ensures keeps { board.now.keeps ≡ false }
     ensures deferred { board.now.deferred ≡ false }
 {
-    // A look at a field, by which a proof sees what the board shows.
+    // This look at a field lets a proof see what the board shows.
     let _ = &board.work;
 }

@@ -6,7 +6,8 @@ use ft_replay::{Counter, Pair};
 use std::alloc::{AllocError, Global};
 use std::collections::BTreeMap;
 
-/// The counters of a whole replay: what is kept of the readings of a trigger are its counter's pairs.
+/// The counters of a whole replay: what is kept of the readings of a trigger are its counter's
+/// pairs.
 #[derive(Drop)]
 pub(crate) struct ReplayedReadings {
     /// Where copies of pairs are made.

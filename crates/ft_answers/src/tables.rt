@@ -44,7 +44,7 @@ pub fn table_rows(trigger: &Trigger, table: &Table) -> Result<Vec<Row>, AllocErr
     table.rows(trigger.sort())
 }
 
-/// The text of a key's row of a trigger with this table; none where the key isn't in it. Refused for
+/// The text of a key's row of a trigger with this table; none if the key isn't in it. Refused for
 /// memory.
 pub fn table_row_text(
     alloc: Global,
@@ -59,9 +59,9 @@ pub fn table_row_text(
     table.text_of_row(alloc, trigger, key)
 }
 
-/// A law: the text of a trigger's table is the lines above its rows, the texts of its rows, each with
-/// a line break, and its totals. The text of a key's row is the one that it has among all rows, and
-/// there is none for a key without a row there.
+/// A law: the text of a trigger's table is the lines above its rows, the texts of its rows, each
+/// with a line break, and its totals. The text of a key's row is the one that it has among all
+/// rows, and there is none for a key without a row there.
 pub fn rows_make_the_text()
     ensures text { RowsMakeText }
     ensures row { RowIsAmong }

@@ -17,7 +17,7 @@ use Rattle.ft_base.specs.Reachable.{IsReachable}
 use Rattle.ft_base.proofs.Reachable.{load-IsReachable}
 use Rattle.ft_base.proofs.Attaching.{attach-IsReachable}
 
--- a clause on failure, where a call failed
+-- a clause on failure, if a call failed
 pub at_err : {T E P : Type 0} (r : Result T E) → true ≡ is_err r → OnErr r P → P
 at_err (Ok x) e h = cc
 at_err (Err y) e h = h
@@ -62,7 +62,7 @@ load-reachable base es new count is at answer =
       ] refl
     ] refl (sym (after_load-cases base es) ∙ answer)
 
--- what a load gives, where no event's lane was held
+-- if a load is not refused, no event's lane was held, and this is the base that it gives
 pub load-gives : (base : Base) (es : List Traced) (new : Base) (count : ℕ) → after_load base es ≡ Ok (new, count) → (first_held base.lanes es ≡ None) × (record base { lanes = with_lanes base.lanes es } ≡ new)
 load-gives base es new count answer =
     elim (first_held base.lanes es) as (λ o. loaded base es o (is_full base es) ≡ Ok (new, count) → (o ≡ None) × (record base { lanes = with_lanes base.lanes es } ≡ new)) [

@@ -80,7 +80,7 @@ name-free triggers hist (Some (vars.Saves label)) name free saves =
     ap (saver_of triggers) (sym (same_text label name (sym saves)))
     ∙ elim (saver_of triggers label) as (λ o. option_map NameTaken o ≡ None → o ≡ None) [ None ↦ λ _. refl | Some id ↦ λ taken. cc ] free
 
--- a test that passes, where the refusal after it does not stand
+-- a test passes if no refusal comes of it
 passed : (b : Bool) (refused : Refused) → cond b None (Some refused) ≡ None → b ≡ true
 passed true refused none = refl
 passed false refused none = cc

@@ -38,7 +38,7 @@ twice : {X : Type 0} (b : Bool) (x y z : X) → cond b x (cond b y z) ≡ cond b
 twice true x y z = refl
 twice false x y z = refl
 
--- where a key gets a value, what it had doesn't matter
+-- when a key gets a value, what it had doesn't matter
 insert-removed : {X : Type 0} (m : FinMap nat_cmp X) (k : ℕ) (v : X) → map.insert (map.remove m k) k v ≡ map.insert m k v
 insert-removed m k v =
     same_map nat_cmp_total nat_cmp-IsAntisymmetric _ _ (λ q.

@@ -35,7 +35,7 @@ room-next m e es h q is =
     (λ ne. subst P (sym (get-insert_other nat_cmp_total nat_cmp-IsAntisymmetric m e.cpu _ q ne)) (omega arith))
     (cases_eq q e.cpu)
 
--- ---- where no event's lane is held
+-- ---- if no event's lane is held
 
 -- what was held stays as it was
 pub held-stays : (lanes : Lanes) (es : List Traced) → first_held lanes es ≡ None → (q : ℕ) (b : Bool) → map.contains_key lanes q ≡ b → cond b (map.get (with_lanes lanes es) q) None ≡ map.get lanes q

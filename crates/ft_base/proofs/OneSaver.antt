@@ -33,6 +33,6 @@ module _ (triggers : Triggers) (one : HasOneSaver triggers) (name : List ℕ) (i
   unfolding saver_of
   saver-is = first_saver (map.entries triggers) (entries_found nat_cmp nat_cmp_total triggers) (sym (get-entries triggers id) ∙ attached)
 
--- where no two triggers save one name, the trigger that saves it is its saver
+-- if no two triggers save one name, the trigger that saves it is its saver
 pub one_saver : (triggers : Triggers) → HasOneSaver triggers → (name : List ℕ) (id : ℕ) (hist : Hist) → map.get triggers id ≡ Some hist → saves_name name hist.variable ≡ true → saver_of triggers name ≡ Some id
 one_saver triggers one name id hist attached saves = saver-is triggers one name id hist attached saves

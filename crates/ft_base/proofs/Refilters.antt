@@ -32,7 +32,7 @@ refilter-there base id filter there is =
       | Some hist ↦ λ at _. (refilter-ok base id filter hist at, refilter-IsReachable base id hist filter is at)
     ] refl there
 
--- no trigger is where none has the id
+-- no trigger is found by an id that none has
 pub none_there : (base : Base) (id : ℕ) → map.contains_key base.triggers id ≡ false → map.get base.triggers id ≡ None
 none_there base id missing =
     elim (map.get base.triggers id) as (λ (o : Option Hist). is_some o ≡ false → o ≡ None) [

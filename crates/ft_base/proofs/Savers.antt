@@ -41,7 +41,7 @@ reader_of-among triggers name = refl
 
 -- ---- who is not found
 
--- where no variable among some triggers passes a test, the one at an id doesn't
+-- if no variable among some triggers passes a test, the one at an id doesn't
 pub none-among : (test : Option Var → Bool) (es : List (ℕ × Hist)) (id : ℕ) (hist : Hist) → option_map (λ (e : ℕ × Hist). e.0) (find (λ e. test e.1.variable) es) ≡ None → entries.find nat_cmp id es ≡ Some hist → test hist.variable ≡ false
 none-among test [] id hist none found = cc
 none-among test (e ∷ es) id hist none found =

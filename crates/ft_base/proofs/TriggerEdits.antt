@@ -119,7 +119,7 @@ refilter-IsReachable base id hist filter is attached =
 
 -- ---- one less
 
--- where nobody reads what a trigger saves, nobody reads a name that it saves
+-- if nobody reads what a trigger saves, nobody reads a name that it saves
 reader-none : (triggers : Triggers) (variable : Option Var) (name : List ℕ) → reader_on triggers variable ≡ None → saves_name name variable ≡ true → reader_of triggers name ≡ None
 reader-none triggers None name none saves = cc
 reader-none triggers (Some (vars.Reads own source)) name none saves = cc

@@ -82,7 +82,7 @@ module _ (triggers : Triggers) (id : ℕ) (one : HasOneSaver triggers) (savers :
         | Some hist ↦ λ there same. no_reader reader hist there same
       ] refl is
 
-  -- where what the others read is saved without it, it is unread
+  -- if what the others read is saved without it, it is unread
   is_unread : IsUnread triggers id
   is_unread = record {
     unread = none_reads;

@@ -19,25 +19,25 @@ use Rattle.ft_base.specs.Roles.{saver_of, reader_of, saves_for}
 
 -- ---- lanes
 
--- loading events in file order: a lane for each CPU, unless one is held or they are too many
+-- loading events in file order: a lane for each of their CPUs, unless one of these lanes is held or the events would be too many
 unfoldable pub after_load : Base → List Traced → Result (Base × ℕ) Refused
 after_load base events =
     option_map_or (λ cpu. Err (LaneHeld cpu)) (first_held base.lanes events)
     (if nat_lt event_limit (held_in base.lanes + length events) then Err Full else Ok (record base { lanes = with_lanes base.lanes events }, length events))
 
--- unloading the lane of a CPU, where it is held: how many events it had
+-- unloading the lane of a CPU, if it is held: how many events it had
 unfoldable pub after_unload : Base → ℕ → Result (Base × ℕ) Refused
 after_unload base cpu =
     option_map_or (λ lane. Ok (record base { lanes = map.remove base.lanes cpu }, map.len lane.events)) (map.get base.lanes cpu) (Err (NoLane cpu))
 
--- inserting an event at the next line of its CPU's lane, which is made where there is none, unless the events or the lane's line numbers are used up: the event's place
+-- inserting an event at the next line of its CPU's lane, which is made if there is none, unless the events or the lane's line numbers are used up: the event's place
 unfoldable pub after_insert : Base → Traced → Result (Base × Place) Refused
 after_insert base event =
     let line = (lane_or_new base.lanes event.cpu).next in
     if nat_le event_limit (held_in base.lanes) || nat_lt number_limit line then Err Full
     else Ok (record base { lanes = lanes_with base.lanes event }, record { cpu = event.cpu; line = line })
 
--- striking the event of a CPU's line, where it is held: its place; no other line changes its number, and this one is not given again while the lane is held
+-- striking the event of a CPU's line, if it is held: its place; no other line changes its number, and this one is not given again while the lane is held
 unfoldable pub after_strike : Base → ℕ → ℕ → Result (Base × Place) Refused
 after_strike base cpu line =
     option_map_or (λ lane.
@@ -47,7 +47,7 @@ after_strike base cpu line =
 
 -- ---- triggers
 
--- what stands between a reader and a saver: that it saves at another event, or under keys that don't match (kernel: histogram.rst, inter-event hist triggers; in this order is our own choice)
+-- what stands between a reader and a saver: the saver saves at another event, or under keys that don't match (kernel: histogram.rst, inter-event hist triggers; the order is our own choice)
 abbrev pub saver_refusal : Hist → Hist → Option Refused
 saver_refusal reader saver =
     if saves_for reader saver then (if keys_match reader.keys saver.keys then None else Some KeyMismatch) else Some NoVariable
@@ -57,13 +57,13 @@ unfoldable pub reader_refusal : Triggers → Hist → List ℕ → Option Refuse
 reader_refusal triggers reader source =
     option_map_or (saver_refusal reader) (option_and_then (map.get triggers) (saver_of triggers source)) (Some NoVariable)
 
--- why a trigger with this variable can't be attached: its name is saved already, or nothing that it could read is (kernel: histogram.rst, inter-event hist triggers; one saver a name is our own choice)
+-- why a trigger with this variable can't be attached: its name is saved already, or there is no saver that it could read from (kernel: histogram.rst, inter-event hist triggers; one saver a name is our own choice)
 abbrev pub variable_refusal : Triggers → Hist → Option Var → Option Refused
 variable_refusal triggers hist None = None
 variable_refusal triggers hist (Some (vars.Saves label)) = option_map NameTaken (saver_of triggers label)
 variable_refusal triggers hist (Some (vars.Reads own source)) = reader_refusal triggers hist source
 
--- attaching a trigger: at the next id, unless the triggers or the ids are used up, or its variable stands against it
+-- attaching a trigger: at the next id, unless the triggers or the ids are used up, or the trigger can't be attached because of its variable
 unfoldable pub after_attach : Base → Hist → Result (Base × ℕ) Refused
 after_attach base hist =
     if nat_le trigger_limit (map.len base.triggers) || nat_lt id_limit base.next_id then Err TooManyTriggers

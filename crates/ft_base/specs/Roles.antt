@@ -31,7 +31,7 @@ reads_name name variable = false
 unfoldable pub reader_of : Triggers → List ℕ → Option ℕ
 reader_of triggers name = option_map (λ attached. attached.0) (find (λ attached. reads_name name attached.1.variable) (map.entries triggers))
 
--- what a trigger does with its variable; where nobody saves what it reads, it reads that of 0, who is nobody
+-- what a trigger does with its variable; if nobody saves what it reads, it reads that of 0, which is no trigger's id
 abbrev pub role_of : Triggers → Option Var → Role
 role_of triggers None = Plain
 role_of triggers (Some (vars.Saves label)) = Saves
@@ -41,6 +41,6 @@ role_of triggers (Some (vars.Reads own source)) = Reads (unwrap_or (saver_of tri
 unfoldable pub role_at : Triggers → ℕ → Role
 role_at triggers id = option_map_or (λ hist. role_of triggers hist.variable) (map.get triggers id) Plain
 
--- a saver is on the event that a reader's onmatch part names, where it has one (kernel: histogram.rst, the `onmatch` handler)
+-- a saver is on the event that a reader's onmatch part names, if it has one (kernel: histogram.rst, the `onmatch` handler)
 abbrev pub saves_for : Hist → Hist → Bool
 saves_for reader saver = option_map_or (λ onmatch. same_name onmatch.event saver.event) reader.onmatch true

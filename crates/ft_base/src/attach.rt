@@ -32,8 +32,8 @@ fn reader_refusal(triggers: &Triggers, reader: &Trigger, source: &[u8]) -> Optio
     }
 }
 
-/// Why a reader can't read from a saver: the saver is on another event than the reader's onmatch part
-/// names, or the keys don't match.
+/// Why a reader can't read from a saver: the saver is on another event than the reader's onmatch
+/// part names, or the keys don't match.
 fn saver_refusal(reader: &Trigger, saver: &Trigger) -> Option<Refused>
     ensures { result ≡ saver_refusal reader.now saver.now }
 {

@@ -105,7 +105,8 @@ impl Content {
         &self.triggers
     }
 
-    /// Loads events in file order, into a lane for each of their CPUs. Returns how many were loaded.
+    /// Loads events in file order, into a lane for each of their CPUs. Returns how many were
+    /// loaded.
     pub fn load(&mut self, events: Store) -> Result<u64, Refused>
         ensures { BaseGives (after_load self.old events) self.old self.new result }
     {
@@ -233,8 +234,8 @@ impl Content {
         Ok(id)
     }
 
-    /// Whether a trigger can be removed. Refused if no trigger has the id, or if it saves what another
-    /// one reads.
+    /// Whether a trigger can be removed. Refused if no trigger has the id, or if it saves what
+    /// another one reads.
     pub fn removable(&self, id: u32) -> Result<(), Refused>
         ensures gives { FindsToRemove self.now id result }
         ensures unread { IfOk result (λ _. IsUnread self.now.triggers id) }
@@ -272,7 +273,8 @@ impl Content {
         attached_in(alloc, &self.triggers)
     }
 
-    /// The canonical text of the trigger with an id. Refused if no trigger has the id, or for memory.
+    /// The canonical text of the trigger with an id. Refused if no trigger has the id, or for
+    /// memory.
     #[tactic(auto, unfolding(crate::specs::Answers::trigger_text))]
     pub fn trigger_text(&self, alloc: Global, id: u32) -> Result<Vec<u8>, Refused>
         ensures { AnswerIs (λ text. text.items) (trigger_text self.now id) result }

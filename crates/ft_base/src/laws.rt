@@ -40,8 +40,8 @@ pub fn reachable_bases()
         → IsReachable base → after_remove base id ≡ Ok (new, same) → IsReachable new }
 {}
 
-/// A law: where no two attached triggers save one name, the saver of a name is the trigger that
-/// saves it, and those who read the name read that trigger's variables.
+/// A law: if no two attached triggers save one name, the saver of a name is the trigger that saves
+/// it, and those who read the name read that trigger's variables.
 pub fn one_saver()
     ensures saver { (triggers : Triggers) → HasOneSaver triggers
         → (name : List ℕ) (id : ℕ) (hist : Hist)
@@ -53,8 +53,9 @@ pub fn one_saver()
         → (own : List ℕ) → role_of triggers (Some (vars.Reads own name)) ≡ Reads id }
 {}
 
-/// A law of the last numbers: the greatest line number of a lane is still given to an event, and the
-/// greatest id to a trigger; after each, the next event of the lane and the next trigger are refused.
+/// A law of the last numbers: the greatest line number of a lane is still given to an event, and
+/// the greatest id to a trigger; after each, the next event of the lane and the next trigger are
+/// refused.
 pub fn last_numbers()
     ensures last_line { (base : Base) (event : Traced) (lane : Lane)
         → map.get base.lanes event.cpu ≡ Some lane → lane.next ≡ number_limit

@@ -26,9 +26,9 @@
 //!   `after_remove` make of the one before (`specs/After.antt`), or the refusal is theirs and
 //!   nothing has changed (`BaseGives`). `load`, `insert` and `attach` let through: running out of
 //!   memory at any time.
-//! - `Content::list`, `name_of`, `attached_triggers`, `trigger_text`, and `find_trigger`, `role_of`,
-//!   `is_reader`, `Refused::number`: exact. `list`, `attached_triggers` and `trigger_text` let
-//!   through: running out of memory at any time.
+//! - `Content::list`, `name_of`, `attached_triggers`, `trigger_text`, and `find_trigger`,
+//!   `role_of`, `is_reader`, `Refused::number`: exact. `list`, `attached_triggers` and
+//!   `trigger_text` let through: running out of memory at any time.
 //! - Law `reachable_bases`: `IsReachable` (`specs/Reachable.antt`: limits, line numbers below the
 //!   lane's next one, one saver of a name, a saver with matching keys for each reader) holds of the
 //!   empty base, and each edit keeps it. Both boards have it as their invariant.

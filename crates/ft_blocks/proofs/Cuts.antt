@@ -55,7 +55,7 @@ module _ {K X : Type 0} {R : K → K → Ordering} (total : IsTotalOrder R) wher
       (total.trans x.0 e.0 k (above_at R x.0 es i e up.0 (omega arith) is) less, below_through es k i e up.1 (omega arith) is less)
 
 module _ {K : Type 0} {R : K → K → Ordering} (total : IsTotalOrder R) where
-  -- one that is below a key is passed by a look for it
+  -- a search for a key passes one that is below it
   pub key_after : (x k : K) → R x k ≡ Less → R k x ≡ Greater
   key_after x k less = total.antisymm k x ∙ ap ordering_reverse less
 

@@ -1,4 +1,4 @@
--- Entries in order as a finite map, as which contracts above see them, and edits of both.
+-- Entries in order, the finite map that contracts above see them as, and edits of both.
 use Rattle.std.specs.Prelude.{◌≡◌, Bool, true, false, Option, List, [], ◌∷◌, Some, None, not}
 use Rattle.std.specs.declared.cmp.Ordering.{Ordering}
 use Rattle.std.specs.declared.cmp.Ordering.TheVariants.{Less}
@@ -35,7 +35,7 @@ module _ {K X : Type 0} (R : K → K → Ordering) where
   apart k e es true none f = absurd (none-some e.1 (sym none))
   apart k e es false none f = ap (λ (l : List (K × X)). e ∷ l) (f none)
 
-  -- a key that has nothing leaves all entries
+  -- taking out a key that has nothing leaves all entries
   pub without-none : (k : K) (es : List (K × X)) → find R k es ≡ None → without R k es ≡ es
   without-none k [] none = refl
   without-none k (e ∷ es) none = apart k e es (eq_by_cmp R k e.0) none (without-none k es)

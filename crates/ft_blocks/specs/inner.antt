@@ -1,2 +1,2 @@
--- Words of private functions: what stands around an entry that moves.
+-- Definitions for private functions: what stands around an entry that moves.
 pub mod Moves

@@ -18,10 +18,11 @@ use std::marker::Model;
 /// A sorted map: entries in blocks, and the last ones in a block of their own, so that few entries
 /// are one vector and entries that come in order are pushed.
 ///
-/// A key is found in steps by the logarithm of the number of entries. A block of 256 entries is cut
-/// into halves if one more comes, and goes with its last entry; each time the list of the blocks
-/// behind it moves. Blocks are never joined, so a map that has lost most of its entries may keep a
-/// block for each of the others.
+/// The steps that it takes to find a key grow with the logarithm of the number of entries. A block
+/// of 256 entries is cut into halves if one more comes, and goes with its last entry; each time the
+/// list of the blocks behind it moves. The last block stays, and if it is full, a new one begins
+/// behind it. Blocks are never joined, so a map that has lost most of its entries may keep a block
+/// for each of the others.
 ///
 /// Contracts see the entries in the order of their keys.
 #[derive(Drop)]
@@ -76,7 +77,7 @@ impl<K: Ord, V> Blocks<K, V> {
         entries_between(&self.blocks, &self.last, key)
     }
 
-    /// The value of a key, in steps by the logarithm of the number of entries.
+    /// The value of a key. The steps grow with the logarithm of the number of entries.
     pub fn get(&self, key: &K) -> Option<&V>
         ensures { option_copied result ≡ find K.cmp key.now self.now }
     {
@@ -103,7 +104,7 @@ impl<K: Ord + Copy, V: Copy> Blocks<K, V> {
         Ok(Blocks { blocks, last })
     }
 
-    /// The last entry below a key, in steps by the logarithm of the number of entries.
+    /// The last entry below a key. The steps grow with the logarithm of the number of entries.
     pub fn before(&self, key: &K) -> Option<(K, V)>
         ensures before { result ≡ last_below K.cmp key.now self.now }
         ensures ordered { Ascend K.cmp self.now }
@@ -111,7 +112,7 @@ impl<K: Ord + Copy, V: Copy> Blocks<K, V> {
         before_between(&self.blocks, &self.last, key)
     }
 
-    /// The first entry above a key, in steps by the logarithm of the number of entries.
+    /// The first entry above a key. The steps grow with the logarithm of the number of entries.
     pub fn after(&self, key: &K) -> Option<(K, V)>
         ensures after { result ≡ first_above K.cmp key.now self.now }
         ensures ordered { Ascend K.cmp self.now }
@@ -132,8 +133,9 @@ impl<K: Ord + Copy + Drop, V: Copy + Drop> Blocks<K, V> {
     /// Puts a value at a key, in place of what the key had. Refused for memory, and then all is as it
     /// was.
     ///
-    /// The block for the key is found in steps by the logarithm of the number of entries, and at most
-    /// 256 entries move. Memory is taken for a block or for the list of them, if the block is full.
+    /// The steps that it takes to find the block for the key grow with the logarithm of the number
+    /// of entries, and at most 256 entries move. Memory is taken for a block or for the list of
+    /// them, if the block is full.
     pub fn insert(&mut self, alloc: Global, key: K, value: V) -> Result<(), AllocError>
         ensures ok { OnOk result (self.new ≡ put K.cmp key value self.old) }
         ensures err { OnErr result (self.new ≡ self.old) }
@@ -161,8 +163,8 @@ impl<K: Ord + Copy + Drop, V: Copy + Drop> Blocks<K, V> {
 impl<K: Ord + Drop, V: Drop> Blocks<K, V> {
     /// Takes what a key has. It needs no memory.
     ///
-    /// The block of the key is found in steps by the logarithm of the number of entries, and at most
-    /// 256 entries move.
+    /// The steps that it takes to find the block of the key grow with the logarithm of the number
+    /// of entries, and at most 256 entries move.
     pub fn remove(&mut self, key: &K) -> Option<V>
         ensures left { self.new ≡ without K.cmp key.now self.old }
         ensures value { result ≡ find K.cmp key.now self.old }

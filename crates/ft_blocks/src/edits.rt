@@ -55,7 +55,7 @@ pub(crate) fn take_at<K: Ord + Drop, V: Drop>(
     value
 }
 
-/// Takes out a block that is empty.
+/// Takes a block out if it is empty.
 fn drop_empty<E: Drop>(blocks: &mut Vec<Vec<E>>, at: usize)
     requires inside { at < vec_len blocks.old }
     requires others { AreFilled (remove blocks.old.items at) }
@@ -124,8 +124,8 @@ pub(crate) fn begin_last<E: Drop>(
     Ok(())
 }
 
-/// Blocks of some entries in their order, without the last ones: how many those blocks have, too.
-/// Refused for memory.
+/// Blocks of some entries in their order, without the last ones, and how many entries those blocks
+/// have. Refused for memory.
 pub(crate) fn cut_up<E: Copy>(
     alloc: Global,
     entries: &[E],

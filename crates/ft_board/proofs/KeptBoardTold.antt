@@ -41,7 +41,7 @@ abbrev pub shown_by : {T : Type 0} → (Hist → Tally → T) → Base → ℕ �
 shown_by tell base id hist = Ok (tell hist (tally_shown base.triggers (merged base.lanes) id hist))
 
 module _ {S T : Type 0} (view : S → T) (old new : Shown) (id : ℕ) where
-  -- where no trigger is attached, the refusal is the answer, and all stays
+  -- if no trigger is attached, the refusal is the answer, and all stays
   pub unattached : (answers : Hist → Result T Refused) (refused : Refused) → (refused ≡ NoTrigger) × ((map.get old.base.triggers id ≡ None) × (new ≡ old)) → (answer : Result S Refused) → answer ≡ Err refused
       → AnswersFrom view (of_attached old.base.triggers id answers) old new answer
   unattached answers refused (none, (gone, stay)) answer is = subst (λ (x : Result S Refused × Shown). AnswersFrom view (of_attached old.base.triggers id answers) old x.1 x.0)
@@ -69,14 +69,14 @@ module _ (triggers : Triggers) (events : Events) (id : ℕ) where
   pub tally-first : HeldAreCounted → (tally : Tally) → map.get (replay triggers events).tallies id ≡ Some tally → tally_at triggers events id ≡ tally
   tally-first first tally is = ap (λ (s : State). unwrap_or (map.get s.tallies id) empty_tally) (first triggers events) ∙ ap (λ (o : Option Tally). unwrap_or o empty_tally) is
 
-  -- that of made events, where their table is kept
+  -- that of made events, if their table is kept
   pub made-shown : TablesAreTallied → (hist : Hist) (made : MadeTables) → map.get triggers id ≡ Some hist → counts_made hist ≡ true
       → AreMadeBy triggers events (saving_found triggers events) made → tally_shown triggers events id hist ≡ tally_of (made_on made id hist) []
   made-shown tallied hist made there counts are =
       ap (λ (b : Bool). if b then tally_made triggers events id else tally_at triggers events id) counts
       ∙ ap (λ (o : Option Tally). unwrap_or o empty_tally) (tallied triggers events (saving_found triggers events) (λ _ _ _ _. refl) id hist there (made_on made id hist) (are id hist there counts))
 
--- what holds where there are tables
+-- what holds if there are tables
 pub if_there : {P : Type 0} (kept : Option Shelves) → IsSome kept → IfSome kept (λ _. P) → P
 if_there None some holds = let both : ◌≡◌ {A = Bool} false true = some in absurd cc
 if_there (Some shelves) some holds = holds

@@ -37,11 +37,11 @@ one_table triggers events found hist a b was is = λ i. record {
 }
 
 module _ (triggers : Triggers) (events : Events) (made : MadeTables) where
-  -- where no reading changed, the tables are those of what readings find
+  -- if no reading changed, the tables are those of what readings find
   pub still_made : (found now : Findings) → Lead [] found now → AreMadeBy triggers events found made → AreMadeBy triggers events now made
   still_made found now same are = subst (λ (f : Findings). AreMadeBy triggers events f made) (λ i id pos. sym (same id pos) i) are
 
-  -- and where no event is made, or none is counted, they are those of any findings
+  -- and if no event is made, or none is counted, they are those of any findings
   pub made_of_any : (found now : Findings) → MakeNone triggers ⊎ CountNone triggers → AreMadeBy triggers events found made → AreMadeBy triggers events now made
   made_of_any found now (inl none) are id hist there counts =
       table_stays triggers triggers events events found now (λ spot. none_makes triggers events spot none (now spot.maker spot.pos) ∙ sym (none_makes triggers events spot none (found spot.maker spot.pos))) hist (made_on made id hist) (are id hist there counts)
@@ -56,7 +56,7 @@ module _ (triggers : Triggers) (events : Events) (made : MadeTables) where
     all = λ id hist there counts after is key _. ap (λ (t : Tabled). row_at t key) (one_table triggers events now hist _ after (are id hist there counts) is);
   }
 
--- what is named only on a condition is named where that holds
+-- if something is named that is named only on a condition, the condition holds
 cond_holds : (named : List (List Part)) (key : List Part) (b : Bool) → is_of (if b then named else []) key ≡ true → b ≡ true
 cond_holds named key true is = refl
 cond_holds named key false is = absurd (true≢false (sym is))

@@ -1,4 +1,4 @@
--- Tables of made events: one by one, where no event is made, as events come or go, as they are brought up to date, and that they are those of what the shelves keep of readings.
+-- Tables of made events: one by one, if no event is made, as events come or go, as they are brought up to date, and that they are those of what the shelves keep of readings.
 use Rattle.std.proofs.Common.{◌≡◌, ℕ, Bool, true, false, cond, List, [], ◌∷◌, refl, sym, ap, subst, ◌∙◌, Option, Some, None, ◌⊎◌, inl, inr}
 use Rattle.std.specs.Prelude.{unwrap_or, option_map, option_and_then, ◌++◌}
 use Rattle.std.specs.List.{AllByRecursion}
@@ -56,7 +56,7 @@ module _ (old new : MadeTables) (id : ℕ) (table : Tabled) (put : new ≡ map.i
   pub others_put : OtherTablesStay id old new
   others_put other apart = ap (λ (made : MadeTables). map.get made other) put ∙ get-insert nat_cmp_total old id table other ∙ ap (λ (b : Bool). cond b (Some table) (map.get old other)) apart
 
--- ---- where no event is made
+-- ---- if no event is made
 
 module _ (triggers : Triggers) (events : Events) (found : Findings) (none : MakeNone triggers) where
   pub nothing_made : AreMadeBy triggers events found map.empty
@@ -67,7 +67,7 @@ module _ (triggers : Triggers) (events : Events) (found : Findings) (none : Make
         hits = λ mark. get-empty _ mark ∙ sym (ap (values_of_made hist mark) (none_makes triggers events mark.spot none (found mark.spot.maker mark.spot.pos)));
       })
 
--- where no trigger is attached, none counts any
+-- if no trigger is attached, none counts any
 pub none_counts : (made : MadeTables) → AreMade empty_base made
 none_counts made id hist there counts = let both : ◌≡◌ {A = Option Hist} None (Some hist) = sym (get-empty {X = Hist} nat_cmp id) ∙ there in absurd cc
 
@@ -95,7 +95,7 @@ no_saving : (triggers : Triggers) (events : Events) (id : ℕ) (at : Pos) → ma
 unfolding saving_found hit_at
 no_saving triggers events id at none = nothing_at (λ (found : TriggerHit). found.saved) (hit_at triggers events id at) (nothing_at _ (map.get events at) none)
 
--- what a trigger makes of an event, where its reading found this
+-- what a trigger makes of an event, by what its reading found
 abbrev pub made_here : Findings → Spot → Traced → Option Hist → Option Traced
 made_here found spot event hist = option_and_then (λ (h : Hist). option_and_then (made_of h spot.pos event) (found spot.maker spot.pos)) hist
 
@@ -141,7 +141,7 @@ kept_found shelves = λ i id at. by at (map.get shelves id) i where
 
 -- ---- an edit
 
--- the tables of made events are those of some events, where shelves are kept
+-- if there are shelves, they and the tables of made events are those of some events
 abbrev pub AreRightIf : Triggers → Events → Option Shelves → MadeTables → Type 0
 AreRightIf triggers events kept made = IfSome kept (AreKept triggers events) × IfSome kept (λ _. AreMadeBy triggers events (saving_found triggers events) made)
 
@@ -165,7 +165,7 @@ module _ (readings : ReadingsAre) (triggers : Triggers) (events more : Events) (
     leads : {changes : List ReadingChange} → reread.readings ≡ changes → Lead changes (found_in (readings_on old)) (found_in (readings_on later))
     leads all = subst (λ (x : List ReadingChange × (Findings × Findings)). Lead x.0 x.1.0 x.1.1) (λ i. (all i, (kept_found old i, kept_found later i))) reread.lead
 
-  -- tables that are mended are right where the shelves are left
+  -- tables that are mended are right if the shelves are left
   pub mended_if : (later new : Option Shelves) (made : MadeTables) → (new ≡ later) ⊎ (new ≡ None) → IfSome later (AreKept triggers events)
       → IfSome new (λ shelves. AreMadeBy triggers more (found_in (readings_on shelves)) made) → AreRightIf triggers events new made
   mended_if later None made left kept are = (tt, tt)
@@ -176,7 +176,7 @@ module _ (readings : ReadingsAre) (triggers : Triggers) (events more : Events) (
 
 -- ---- tables that are brought up to date
 
--- the table of each trigger can be, where what was told leads to what shelves keep
+-- the table of each trigger can be, if what was told leads to what shelves keep
 pub can_update : (triggers : Triggers) (events : Events) (changes : List ReadingChange) (made : MadeTables) (kept : Option Shelves) (told : Option (List ReadingChange)) → is_none kept ≡ false → told ≡ Some changes
     → IfSome kept (λ shelves. CanMendTo triggers events told (found_in (readings_on shelves)) made) → OfEachCounted triggers (λ id hist. CanUpdate triggers events changes hist (made_on made id hist))
 can_update triggers events changes made None told up is can = let both : ◌≡◌ {A = Bool} true false = up in absurd cc

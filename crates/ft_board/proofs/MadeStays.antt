@@ -1,4 +1,4 @@
--- Events that triggers make stay as others come, go or get another filter, where those that make them stay with all who save or read what they read.
+-- Events that triggers make stay as others come, go or get another filter, if those that make them stay with all who save or read what they read.
 use Rattle.std.proofs.Common.{◌≡◌, ◌⊎◌, inl, inr, ⊎_elim, ℕ, Bool, true, false, List, refl, sym, ap, subst, ◌∙◌, Option, Some, None, is_some, unwrap_or, eq-eqb}
 use Rattle.std.specs.Prelude.{◌==◌, ◌&&◌, option_and_then, option_map}
 use Rattle.std.specs.Option.{IfSome, option_map_or}
@@ -51,7 +51,7 @@ use Rattle.ft_replay.specs.Merged.{Events, merged}
 use Rattle.ft_table.specs.Tabled.{Tabled}
 use Rattle.ft_board.proofs.Makers.{filter_same, makes_none}
 
--- a reader keeps its readings, where its saver stays and those that read it stay
+-- a reader keeps its readings if its saver stays and those that read it stay
 abbrev pub ReadersStay : Type 0
 ReadersStay = (triggers others : Triggers) (events : Events) (old new : Shelves) → AreKept triggers events old → AreKept others events new → (saver : ℕ) → IsReadAlike triggers others saver
     → (id : ℕ) → role_at triggers id ≡ Reads saver → ReadsAsBefore id old new
@@ -83,7 +83,7 @@ not_read saver role apart = false_from_ne_true (reads_from saver role) (λ reads
 
 module _ (triggers : Triggers) (id : ℕ) (leaves : LeavesMakers triggers id) (maker : ℕ) (hist : Hist) (there : map.get triggers maker ≡ Some hist) (making : makes hist ≡ true) where
   module _ (saver : ℕ) (reads : role_at triggers maker ≡ Reads saver) where
-    -- what one that makes events reads, a trigger that leaves those neither saves nor reads
+    -- a trigger that leaves alone those that make events neither saves nor reads what one of them reads
     outside : is_in_family triggers saver id ≡ false
     outside =
         sym (ap (shares_read triggers id) (sym (role_there triggers maker hist there) ∙ reads))
@@ -109,7 +109,7 @@ module _ (triggers : Triggers) (id : ℕ) (leaves : LeavesMakers triggers id) (m
 -- ---- one that goes
 
 module _ (triggers : Triggers) (id : ℕ) where
-  -- one that reads nothing, and is not read, leaves those that make events
+  -- one that reads nothing, and is not read, leaves alone those that make events
   pub unread_leaves : IsUnread triggers id → ((hist : Hist) → map.get triggers id ≡ Some hist → is_reader hist.variable ≡ false) → LeavesMakers triggers id
   unread_leaves unread quiet maker hist there = ap (λ (b : Bool). is_some hist.onmatch && b) (no_kin (role_of triggers hist.variable) (role_there triggers maker hist there)) ∙ and-false (is_some hist.onmatch)
     where
@@ -120,7 +120,7 @@ module _ (triggers : Triggers) (id : ℕ) where
           (ne_eqb id saver (λ same. unread.unread maker (is ∙ ap (λ (k : ℕ). Reads k) (sym same))))
           (not_read saver (role_at triggers id) (nothing_read triggers id quiet saver))
 
-  -- those that make events stay without one that leaves them
+  -- those that make events stay when one that leaves them alone goes
   pub left_stay : IsUnread triggers id → LeavesMakers triggers id → MakersStay triggers (map.remove triggers id)
   left_stay unread leaves = record {
     stay = λ maker hist there making. rest_same triggers id maker (apart_maker triggers id leaves maker hist there making) ∙ there;
@@ -138,7 +138,7 @@ module _ (triggers : Triggers) (id : ℕ) where
 
 -- ---- one that gets another filter
 
--- they stay as one gets another filter that leaves them, where it made events just if it does
+-- they stay when one that leaves them alone gets another filter, if that doesn't change whether it makes events
 pub filter_stay : (id : ℕ) (old new : Base) (gets : GetsFilter id old new) → makes gets.hist ≡ makes gets.was → LeavesMakers new.triggers id → MakersStay old.triggers new.triggers
 filter_stay id old new gets alike leaves = record {
   stay = stay;
@@ -153,7 +153,7 @@ filter_stay id old new gets alike leaves = record {
         let was : gets.was ≡ hist = same_Some _ _ (sym gets.attached_before ∙ ap (map.get old.triggers) (sym same) ∙ there) in
         apart_maker new.triggers id leaves id gets.hist gets.attached (alike ∙ ap makes was ∙ making) refl) ∙ there
 
--- ---- what a trigger finds that makes no events
+-- ---- what a trigger that makes no events finds
 
 no_reading : (ops : Variable → Ops) (at : At) (role : Role) (act : Option (List Part × Traced)) (read : Option Pos) → IsReading ops at role act read → ((saver : ℕ) → role ≡ Reads saver → ⊥) → read ≡ None
 no_reading ops at role None read is apart = is
@@ -177,7 +177,7 @@ module _ (triggers : Triggers) (events : Events) where
         nothing_at (made_of hist at event) _ (unread_found id (λ own attached. subst (λ (h : Hist). is_reader h.variable ≡ false) (same_Some _ _ (sym there ∙ attached)) quiet) at)
   ] refl
 
-  -- where an event is made, a trigger is attached that makes such
+  -- if an event is made, a trigger is attached that makes such
   by_maker : (spot : Spot) (event : Traced) → (made_here (saving_found triggers events) spot event (map.get triggers spot.maker) ≡ None) ⊎ ((hist : Hist) × ((map.get triggers spot.maker ≡ Some hist) × (makes hist ≡ true)))
   by_maker spot event = by (map.get triggers spot.maker) refl
     where
@@ -221,7 +221,7 @@ module _ (readings : ReadingsAre) (reread : ReadersStay) (triggers others : Trig
 
 -- ---- tables that are kept
 
--- where the same events are made, a trigger has the same table of them
+-- if the same events are made, a trigger has the same table of them
 same_table : (triggers others : Triggers) (events : Events) → ((spot : Spot) → made_at others events spot ≡ made_at triggers events spot)
     → (hist : Hist) (table : Tabled) → IsMadeTable triggers events (saving_found triggers events) hist table → IsMadeTable others events (saving_found others events) hist table
 unfolding made_at
@@ -284,7 +284,7 @@ one_right base id old new stay but its other hist there counts = ⊎_elim
     (but other hist there counts apart))
     (cases_eq other id)
 
--- so all are where there are shelves, if the trigger leaves those alone that make events
+-- so all are right if there are shelves and the trigger leaves alone those that make events
 pub refitted : (base : Base) (id : ℕ) (old new : MadeTables) (shelves : Shelves) (kept : Option Shelves) → Some shelves ≡ kept → LeavesMakers base.triggers id → IfSome kept (AreKeptOf base)
     → IfSome kept (λ _. LeavesMakers base.triggers id → (has : Shelves) → AreKeptOf base has → AreMadeBut id base old) → OtherTablesStay id old new
     → ((hist : Hist) → map.get base.triggers id ≡ Some hist → counts_made hist ≡ true → IsMadeTable base.triggers (merged base.lanes) (saving_found base.triggers (merged base.lanes)) hist (made_on new id hist))

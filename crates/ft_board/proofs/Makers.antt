@@ -40,11 +40,11 @@ makers_read event variable (Some part) suits is = (and_parts (is_reader variable
 -- ---- whether some attached trigger is such
 
 module _ (test : Hist → Bool) (triggers : Triggers) where
-  -- where none is, the one with an id isn't
+  -- if none is, the one with an id isn't
   pub none_attached : list_any (λ e. test e.1) (map.entries triggers) ≡ false → (id : ℕ) (hist : Hist) → map.get triggers id ≡ Some hist → test hist ≡ false
   none_attached none id hist there = (unasked (λ (e : ℕ × Hist). test e.1) (map.entries triggers) id hist none (sym (get-entries triggers id) ∙ there)).1
 
-  -- where no attached one is, none is
+  -- if no attached one is, none is
   pub all_but : ((id : ℕ) (hist : Hist) → map.get triggers id ≡ Some hist → test hist ≡ false) → list_any (λ e. test e.1) (map.entries triggers) ≡ false
   all_but each = list_any_none (λ (e : ℕ × Hist). test e.1) (map.entries triggers) (All-from_recursion (λ (e : ℕ × Hist). test e.1 ≡ false) (map.entries triggers)
       (all_map (λ (e : ℕ × Hist). map.get triggers e.0 ≡ Some e.1) (λ (e : ℕ × Hist). test e.1 ≡ false) (λ e there. each e.0 e.1 there) (map.entries triggers) (entries_found nat_cmp nat_cmp_total triggers)))
@@ -84,7 +84,7 @@ module _ (id : ℕ) (old new : Base) (gets : GetsFilter id old new) where
   pub filter_same : (other : ℕ) → (other ≡ id → ⊥) → map.get new.triggers other ≡ map.get old.triggers other
   filter_same other apart = sym (rest_same new.triggers id other apart) ∙ ap (λ (t : Triggers). map.get t other) gets.others ∙ rest_same old.triggers id other apart
 
-  -- what holds of each trigger still does, where the one that got another filter keeps it
+  -- what holds of each trigger still does, if the one that got another filter keeps it
   each_filtered : (P : Hist → Type 0) → (P gets.was → P gets.hist) → ((other : ℕ) (hist : Hist) → map.get old.triggers other ≡ Some hist → P hist) → (other : ℕ) (hist : Hist) → map.get new.triggers other ≡ Some hist → P hist
   each_filtered P keeps each other hist there = ⊎_elim
       (λ same. subst P (same_Some _ _ (sym gets.attached ∙ ap (map.get new.triggers) (sym same) ∙ there)) (keeps (each id gets.was gets.attached_before)))

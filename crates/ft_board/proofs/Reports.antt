@@ -140,7 +140,7 @@ module _ (tallied : TablesAreTallied) where
           ∙ sym (made_row base before was id hist there counts key);
     }
 
-    -- and so where shelves are kept all along; else none are told
+    -- and so they are if shelves are kept all along; otherwise none are told
     pub told_made : {V : Type 0} (rows : Option V) (items : V → List Changed) (old mended : Option Shelves) (before after : MadeTables) → IfSome old (λ _. AreMade base before) → (old ≡ None → mended ≡ None)
         → IfSome mended (λ _. AreMade new after) → IfSome mended (λ shelves. AreMadeBy mid.triggers (merged mid.lanes) (found_in (readings_on shelves)) after)
         → IfSome mended (λ shelves. IfSome rows (λ r. AreUpdatedRows mid.triggers (merged mid.lanes) (found_in (readings_on shelves)) before (items r)))

@@ -16,7 +16,7 @@ use Rattle.ft_hist.specs.Made.{counts_made}
 abbrev pub MadeTables : Type 0
 MadeTables = FinMap nat_cmp Tabled
 
--- a trigger's table of made events: where none is kept, one without hits
+-- a trigger's table of made events; if none is kept, one without hits
 abbrev pub made_on : MadeTables → ℕ → Hist → Tabled
 made_on made id hist = unwrap_or (map.get made id) (record { hits = map.empty; size = hist.size })
 
@@ -24,7 +24,7 @@ made_on made id hist = unwrap_or (map.get made id) (record { hits = map.empty; s
 abbrev pub OfEachCounted : Triggers → (ℕ → Hist → Type 0) → Type 0
 OfEachCounted triggers Holds = (id : ℕ) (hist : Hist) → map.get triggers id ≡ Some hist → counts_made hist ≡ true → Holds id hist
 
--- each of them has the table of those that these readings make (kernel: histogram.rst, synthetic events)
+-- each of them has the table of the events that these readings make (kernel: histogram.rst, synthetic events)
 abbrev pub AreMadeBy : Triggers → Events → Findings → MadeTables → Type 0
 AreMadeBy triggers events found made = OfEachCounted triggers (λ id hist. IsMadeTable triggers events found hist (made_on made id hist))
 

@@ -43,15 +43,15 @@ pub record MakersStay (triggers others : Triggers) : Type 0 where
   pub come : (id : ℕ) (hist : Hist) → map.get others id ≡ Some hist → makes hist ≡ true → map.get triggers id ≡ Some hist
   pub alike : (id : ℕ) (hist : Hist) → map.get triggers id ≡ Some hist → makes hist ≡ true → (saver : ℕ) → role_at triggers id ≡ Reads saver → IsReadAlike triggers others saver
 
--- where they stay, the same events are made, as shelves are kept of the triggers before and after
+-- if they stay, and shelves are kept of the triggers before and after, the same events are made
 abbrev pub MadeStay : Type 0
 MadeStay = (triggers others : Triggers) (events : Events) (old new : Shelves) → AreKept triggers events old → AreKept others events new → MakersStay triggers others
     → (spot : Spot) → made_at others events spot ≡ made_at triggers events spot
 
--- they stay as a trigger goes that leaves them alone and that no other reads
+-- they stay when a trigger goes that leaves them alone and that no other reads
 abbrev pub StayWithout : Type 0
 StayWithout = (triggers : Triggers) (id : ℕ) → IsUnread triggers id → LeavesMakers triggers id → MakersStay triggers (map.remove triggers id)
 
--- and as one gets another filter that leaves them alone, and made events before just if it does
+-- they stay when one that leaves them alone gets another filter, if that doesn't change whether it makes events
 abbrev pub StayByFilter : Type 0
 StayByFilter = (id : ℕ) (old new : Base) (gets : GetsFilter id old new) → makes gets.hist ≡ makes gets.was → LeavesMakers new.triggers id → MakersStay old.triggers new.triggers

@@ -6,10 +6,10 @@ pub use crate::kept::kept_board_keeps;
 pub use ft_repair::laws::{kept_shelves, others_stay, readers_stay};
 
 /// A law: the events that triggers make stay as they are, whatever other triggers come, go or get
-/// another filter, where each trigger that makes any stays with its saver, and the same triggers
-/// read that. So they stay as one comes or goes, or gets another filter, that makes none and neither
-/// saves nor reads what one reads that does. Since a reading unsets its variable, one that only
-/// reads it beside the other does bear on what is made.
+/// another filter, if each trigger that makes any stays with its saver, and the same triggers read
+/// that. So they stay if a trigger comes, goes or gets another filter, as long as it makes none and
+/// neither saves nor reads what a trigger that makes some reads. Since a reading unsets its
+/// variable, a trigger that only reads the same variable does bear on what is made.
 pub fn made_events_stay()
     ensures events { MadeStay }
     ensures without { StayWithout }

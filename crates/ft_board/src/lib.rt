@@ -10,7 +10,7 @@
 //! // Which rows may have changed, as far as memory was found: all others are as they were, except
 //! // those of triggers that count made events, which `edited.made` names.
 //! let rows = edited.report;
-//! // Read off the tables: no event is tested, where they have the edit.
+//! // Read off the tables: no event is tested, if they have the edit.
 //! let totals = board.totals(id)?;
 //! assert!(rt; !board.is_deferred());
 //! ```
@@ -21,19 +21,20 @@
 //!   is not deferred, the shelves are those of the base's triggers and hold what their acts at all
 //!   held events say (`AreKeptOf`, of `ft_repair`), and beside them each trigger on
 //!   `wakeup_latency` has the table of the events that all readings make (`AreMade`,
-//!   `specs/MadeShelves.antt`). Lets through: deferring without need at a hit that comes, at one of
-//!   a saver or reader that goes, and at the other edits; leaving a report out. No clause says that
-//!   only running out of memory does it. The source shows it, and a test that refuses each growth
-//!   of memory in turn.
+//!   `specs/MadeShelves.antt`). Lets through: deferring without need when a hit comes, when a hit
+//!   of a saver or reader goes, and at the other edits; leaving a report out. No clause says that
+//!   this happens only if memory runs out. The source shows it, and so does a test that refuses
+//!   each growth of memory in turn.
 //! - Law `made_events_stay` (`specs/Makers.antt`): which triggers may come, go or get another filter
 //!   while the same events are made. Tables of made events take no step then, by clauses of the
 //!   private `join`, `leave` and `refit`.
 //! - The laws `kept_shelves`, `others_stay` and `readers_stay` of `ft_repair` are reached here too.
 //!
-//! Which tables an edit touches is how the source does it. If no made event is counted, the clause
-//! `costs` of `Board` excludes that `refilter` of a trigger that reads nothing builds all anew, and
-//! `repairs` that `unload` of a smaller lane does, or `load` of fewer events than are held. No clause
-//! bounds the steps of tables of made events that are mended or made anew.
+//! Which tables an edit touches is up to the source. If no made event is counted, the clause
+//! `costs` of `Board` rules out that `refilter` of a trigger that reads nothing builds all anew,
+//! and the clause `repairs` rules it out for `unload` of a smaller lane and for `load` of fewer
+//! events than are held. No clause bounds the steps of tables of made events that are mended or
+//! made anew.
 #![tactic(auto)]
 
 mod edits;

@@ -1,4 +1,4 @@
-//! The rows of triggers that count made events that may differ as their tables are mended.
+//! Which rows of triggers that count made events may differ when their tables are mended.
 
 ghost use Rattle.std.specs.Prelude.{◌≡◌, ◌++◌, IfSome, OnOk};
 ghost use Rattle.std.specs.Ordering.{nat_cmp};
@@ -22,8 +22,8 @@ use ft_table::Table;
 use std::alloc::{AllocError, Global};
 use std::collections::BTreeMap;
 
-/// The rows of triggers that count made events that may differ once their tables are mended by what
-/// a repair reported of readings. `None` if that was not reported, or memory runs out. If no made
+/// The rows that may differ once the tables of triggers that count made events are mended by what a
+/// repair reported of readings. `None` if that was not reported, or memory runs out. If no made
 /// event is counted, it takes neither memory nor steps.
 #[tactic(auto, unfolding(crate::specs::inner::MadeRows::updated_rows))]
 pub(crate) fn made_rows(
@@ -71,9 +71,9 @@ struct Rereading<'a> {
 }
 
 impl Rereading<'_> {
-    /// Adds the rows of a trigger that may differ to others, if it counts made events: those of the
-    /// keys of what the readings made and make, and of the rivals of these in the trigger's table.
-    /// Refused for memory.
+    /// Adds to a list the rows of a trigger that may differ, if it counts made events: those of the
+    /// keys of what the readings made and make, and of the rivals of these keys in the trigger's
+    /// table. Refused for memory.
     fn put_rows(
         &self,
         rows: &mut Vec<Changed>,

@@ -22,7 +22,7 @@ pub(crate) fn are_made(triggers: &Triggers) -> bool
         && triggers.iter().any(|(_, trigger)| trigger.counts_made())
 }
 
-/// Whether a trigger makes events of its readings: then it reads.
+/// Whether a trigger makes events of its readings. If it does, it is a reader.
 #[tactic(auto, using(crate::proofs::Makers::makers_read))]
 fn makes(trigger: &Trigger) -> bool
     ensures makes { result ≡ is_some trigger.now.onmatch }
@@ -31,8 +31,8 @@ fn makes(trigger: &Trigger) -> bool
     trigger.onmatch().is_some()
 }
 
-/// Whether the trigger with an id makes events, saves what one reads that does, or reads that too:
-/// since a reading unsets its variable, what one reader finds another may miss.
+/// Whether the trigger with an id makes events, or saves or reads what a trigger that makes events
+/// reads: since a reading unsets its variable, what one reader finds, another may miss.
 pub(crate) fn bears_on_makers(triggers: &Triggers, id: u32) -> bool
     ensures none { result ≡ false → LeavesMakers triggers.now id }
     ensures some { LeavesMakers triggers.now id → result ≡ false }

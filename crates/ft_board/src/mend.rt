@@ -31,7 +31,7 @@ use ft_table::Table;
 use std::alloc::{AllocError, Global};
 use std::collections::BTreeMap;
 
-/// What tells how tables of made events are brought up to date.
+/// What the tables of made events are brought up to date from.
 #[derive(Clone, Copy)]
 pub(crate) enum Basis<'a> {
     /// How readings changed since the tables were made.
@@ -40,7 +40,7 @@ pub(crate) enum Basis<'a> {
     Shelves(&'a Tables),
 }
 
-/// What tables of made events are brought up to date by.
+/// What it takes to bring the tables of made events up to date.
 #[derive(Clone, Copy)]
 pub(crate) struct Mending<'a, 'b> {
     pub(crate) alloc: Global,

@@ -11,7 +11,7 @@ Calls old new code does = MatchOption old ((code ≡ closed) × (new ≡ None)) 
 abbrev pub CallsWriting : {T : Type 0} → Option Held → Option Held → ℕ → T → T → (Held → Held → Type 0) → Type 0
 CallsWriting old new code before after does = MatchOption old ((code ≡ closed) × (new ≡ None) × (after ≡ before)) (λ held. IsSomeAnd new (does held))
 
--- nothing happened, and nothing is written, but for the code
+-- nothing happened, and nothing is written, except the code
 abbrev pub StaysClosed : {T : Type 0} → Option Held → Option Held → Option Held → Option Held → ℕ → T → T → Type 0
 StaysClosed old other new other_now code before after = (code ≡ closed) × (new ≡ old) × (other_now ≡ other) × (after ≡ before)
 

@@ -9,7 +9,7 @@ use Rattle.std.specs.Global.{Global}
 use Rattle.std.specs.contracts.impls.GlobalAllocator.TheImpl.{ghosts}
 use Rattle.ft_session.specs.contracts.Session.{the_row}
 
--- a session as contracts see it: here and in the import of `the_row` alone is it named
+-- a session as contracts see it: it is named only here and in the import of `the_row`
 abbrev pub Held : Type 0
 Held = the_row.Denot
 

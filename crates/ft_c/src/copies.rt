@@ -108,7 +108,7 @@ pub extern "C" fn histdesk_places_copy(
 }
 
 /// Copies the events that are now held at the places, each on its CPU's line and with its stamp, or
-/// that none is: how many.
+/// that there is none: how many.
 #[unsafe(no_mangle)]
 pub extern "C" fn histdesk_events_copy(
     alloc: Global,

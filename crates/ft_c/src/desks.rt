@@ -1,4 +1,4 @@
-//! Desks come and go, and what they tell of themselves.
+//! How desks come and go, and what they tell of themselves.
 
 ghost use Rattle.std.specs.Prelude.{◌≡◌, ◌⊎◌, false, None, IsSomeAnd};
 ghost use Rattle.std.specs.Option.{MatchOption};
@@ -14,7 +14,7 @@ use ft_layout::{RefusalLayout, ReportLayout};
 use ft_session::Session;
 use std::alloc::Global;
 
-/// Puts a desk that holds nothing in the handle, and drops the one that was there: 0; or 1 where
+/// Puts a desk that holds nothing in the handle, and drops the one that was there: 0; or 1 if
 /// memory ran out.
 #[unsafe(no_mangle)]
 pub extern "C" fn histdesk_new(alloc: Global, desk: &mut Handle) -> u32
@@ -38,7 +38,7 @@ pub extern "C" fn histdesk_free(alloc: Global, desk: &mut Handle)
     drop(desk.take(alloc));
 }
 
-/// Whether the kept tables lack an edit; false where there is no desk.
+/// Whether the kept tables lack an edit; false if there is no desk.
 #[unsafe(no_mangle)]
 pub extern "C" fn histdesk_is_deferred(alloc: Global, desk: &mut Handle) -> bool
     ensures value { MatchOption desk.old.held (result ≡ false)
@@ -67,7 +67,7 @@ pub extern "C" fn histdesk_forget(alloc: Global, desk: &mut Handle)
     }
 }
 
-/// How many rows the last accepted insert or strike may have changed, where that is told: 0.
+/// How many rows the last accepted insert or strike may have changed, if that is told: 0.
 #[unsafe(no_mangle)]
 pub extern "C" fn histdesk_report_of(
     alloc: Global,

@@ -8,7 +8,7 @@ ghost use Rattle.ft_c.specs.Copies.{IsCopied, AreWordsCopied};
 use ft_layout::{RefusalLayout, copy_bytes, refusal_text, refusal_words};
 use std::alloc::Global;
 
-/// Copies what a script's run prints of a refusal, without its line break: how many bytes; 0 where the
+/// Copies what a script's run prints of a refusal, without its line break: how many bytes; 0 if the
 /// numbers are of no refusal, or memory ran out.
 #[unsafe(no_mangle)]
 pub extern "C" fn histdesk_refusal_text(
@@ -25,7 +25,7 @@ pub extern "C" fn histdesk_refusal_text(
     }
 }
 
-/// Copies what a refusal means, in words: how many bytes; 0 where the numbers are of no refusal, or
+/// Copies what a refusal means, in words: how many bytes; 0 if the numbers are of no refusal, or
 /// memory ran out.
 #[unsafe(no_mangle)]
 pub extern "C" fn histdesk_refusal_words(

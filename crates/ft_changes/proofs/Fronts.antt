@@ -82,7 +82,7 @@ module _ {X : Type 0} (out : X → Bool) where
           ∙ none_in_end t (many - (s - n)) (drop (s - n) (take s (left xs))) none
     ]
 
-    -- what isn't at the last places of those left, as many as are out, is among the first of all just where it is among the first of those
+    -- what isn't at the last places of those left, as many as are out, is among the first of all if and only if it is among the first of those
     pub first_of_left : list_any t (take s xs) ≡ list_any t (take s (left xs))
     first_of_left =
         sym (any-filter_same t (λ x. not (out x)) true (λ x is. not_from_false (out x) (stays x is)) (take s xs))

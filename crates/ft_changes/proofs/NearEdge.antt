@@ -31,7 +31,7 @@ shared xs ys apart_xs apart_ys =
       turned false true = refl
       turned false false = refl
 
--- what is read of the marks from a place on, where those of the keys that stand before it are counted
+-- the marks from a place on give the rivals, if the keys that stand before it are counted
 pub near_edge : (table : Tabled) (keys : List (List Part)) → IsDistinct same_key keys → (marks : List Mark) → marks ≡ order_of table.hits
     → (few start passed : ℕ) → few ≡ min (length keys) table.size → start ≡ min (table.size - few) (length marks) → passed ≡ length (filter (is_of (inside (order_of table.hits) start)) keys)
     → list_map key_of (take few (drop passed (others_of keys (take (length marks - start) (drop start marks))))) ≡ rivals table keys

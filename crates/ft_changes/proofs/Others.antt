@@ -1,4 +1,4 @@
--- The order of the keys but some: what is left of the order of all keys.
+-- The order of the keys, except some: what is left of the order of all keys.
 use Rattle.std.proofs.Common.{◌≡◌, ◌-◌, Bool, true, false, cond, List, [], ◌∷◌, length, take, drop, map as list_map, refl, sym, ap, ◌∙◌, None, Option}
 use Rattle.std.specs.Prelude.{ℤ, not}
 use Rattle.std.specs.List.{filter}
@@ -56,7 +56,7 @@ first_hits-but hits keys = same_map mark_cmp_total mark_same _ _ (λ q.
 order-but : (hits : Hits) (keys : List (List Part)) → order_of (hits_but hits keys) ≡ filter (other keys) (order_of hits)
 order-but hits keys = ap map.keys (first_hits-but hits keys) ∙ keys-retained mark_cmp_total mark_same (first_hits hits) (other keys)
 
--- ---- the same of keys alone
+-- ---- the same of only the keys
 
 -- all keys of hits, in order of their first hits
 abbrev pub keys_of : Hits → List (List Part)

@@ -62,7 +62,7 @@ rivals_differ table keys =
 
 -- ---- what they leave alone
 
--- who is none of them is in just where it is among the first of the others
+-- a key that is none of some keys and none of their rivals is in the table if and only if it is among the first of the others
 in_others : (table : Tabled) (keys : List (List Part)) (q : List Part) → is_of keys q ≡ false → is_of (rivals table keys) q ≡ false → is_in table q ≡ is_of (take table.size (left (is_of keys) (keys_of table.hits))) q
 in_others table keys q apart none =
     ap (list_any (same_key q)) (sym (take-map key_of table.size (order_of table.hits)))

@@ -1,4 +1,4 @@
--- Rivals: as hits of some keys come and go, the other keys that may come in or go out.
+-- Rivals: the other keys that may come in or go out as hits of some keys come and go.
 use Rattle.std.specs.Prelude.{◌≡◌, ◌-◌, ◌≤◌, ◌++◌, ℤ, not, Bool, true, false, List, [], ◌∷◌, length, drop}
 use Rattle.std.specs.List.{list_any, IsDistinct}
 use Rattle.std.specs.FinMap as map
@@ -15,20 +15,20 @@ use Rattle.ft_table.specs.Tabled.{Tabled, keys_in, is_in}
 abbrev pub is_of : List (List Part) → List Part → Bool
 is_of keys key = list_any (same_key key) keys
 
--- the hits of all keys but some
+-- the hits of all keys, except some
 abbrev pub hits_but : Hits → List (List Part) → Hits
 hits_but hits keys = map.retain_keys hits (λ m. not (is_of keys m.key))
 
--- the rivals of some keys: who stands at the table's last places, as many as the keys are, as long as the keys themselves have no hits
+-- the rivals of some keys: those that stand at the table's last places, as many places as there are keys, if the keys themselves have no hits
 unfoldable pub rivals : Tabled → List (List Part) → List (List Part)
 rivals table keys = drop (table.size - length keys) (keys_in (record table { hits = hits_but table.hits keys }))
 
--- two tables have one size, and the same hits of all keys but some
+-- two tables have one size, and the same hits of all keys, except some
 pub record AreTablesButFor (keys : List (List Part)) (a b : Tabled) : Type 0 where
   pub size : b.size ≡ a.size
   pub hits : (m : Mark) → is_of keys m.key ≡ false → map.get b.hits m ≡ map.get a.hits m
 
--- the size and the hits of the other keys tell the rivals
+-- the rivals depend only on the size and the hits of the other keys
 abbrev pub RivalsStay : Type 0
 RivalsStay = (a b : Tabled) (keys : List (List Part)) → AreTablesButFor keys a b → rivals b keys ≡ rivals a keys
 

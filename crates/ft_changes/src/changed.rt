@@ -11,8 +11,8 @@ pub struct Changed {
     pub key: Key,
 }
 
-/// What a reading had found and what it finds: one saving, or none, and maybe the same as before.
-/// One that comes had found none, and one that goes finds none.
+/// What a reading had found and what it finds: one saving, or none, and maybe the same as before. A
+/// reading that comes had found none, and one that goes finds none.
 #[derive(Clone, Copy, Debug, PartialEq, Eq)]
 pub struct ReadingChange {
     /// The id of the trigger that reads.

@@ -12,7 +12,7 @@ use ft_table::{Mark, Table};
 use std::alloc::{AllocError, Global};
 
 /// The rivals of some keys, no two of which are the same: all other keys that may come in or go out
-/// as hits of these come and go, at most as many. Refused for memory.
+/// as hits of these come and go, at most as many as these. Refused for memory.
 pub fn rivals(alloc: Global, table: &Table, keys: &[Key]) -> Result<Vec<Key>, AllocError>
     requires { IsDistinct same_key keys.now }
     ensures { IfOk result (λ found. found.items ≡ rivals table.now keys.now) }
@@ -22,7 +22,8 @@ pub fn rivals(alloc: Global, table: &Table, keys: &[Key]) -> Result<Vec<Key>, Al
         // The table has room, so that no key is near its edge.
         None => Ok(Vec::new(alloc)),
         Some(start) => {
-            // Without those of the keys that stand in front of the last places, as many others move up.
+            // Without those of the keys that stand in front of the last places, as many others move
+            // up.
             let passed = count_before(table, keys, &start);
             other_keys(alloc, table.marks_from(&start), keys, passed, few)
         }

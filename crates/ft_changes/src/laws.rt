@@ -4,9 +4,9 @@ ghost use Rattle.ft_changes.specs.Rivals.{RivalsStay, FewRivals, RivalsAreOthers
 ghost use Rattle.ft_changes.specs.Rivals.{RivalsAlone, RowsStayBut, ButForNothing, ButForOneHit};
 ghost use Rattle.ft_changes.specs.Rivals.{ButForBack, ButForMore, ButForAmong};
 
-/// A law: whatever happens to the hits of some keys, all rows stay but theirs and those of their
-/// rivals. The rivals are told by the other keys' hits and the size, so that they are the same
-/// before and after; they are other keys, none twice, and at most as many as the keys.
+/// A law: whatever happens to the hits of some keys, all rows stay, except theirs and those of
+/// their rivals. Which keys are rivals depends only on the other keys' hits and the size, so they
+/// are the same before and after; they are other keys, none twice, and at most as many as the keys.
 ///
 /// A hit that comes or goes is a change at its key; changes one after another are changes at the
 /// keys of all of them, in whatever order.

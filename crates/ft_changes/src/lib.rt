@@ -1,14 +1,14 @@
 //! Changes: what an edit of a trace changes of what is kept, and which rows of a table differ then.
 //!
-//! A change of a reading tells which saving it had found and which it finds, maybe the same. Of
-//! many changes one after the other, each begins where the one before it ended, so that they lead
-//! from what all readings found to what they find.
+//! A change of a reading says which saving it had found and which it finds, maybe the same. Of many
+//! changes one after the other, each begins where the one before it ended, so that they lead from
+//! what all readings found to what they find.
 //!
-//! A table has the first so many keys in order of their first hits. So where it is full, a key that
-//! comes in sends another out, and one that goes out lets another in. Whatever happens to the hits
-//! of some keys, in whatever order, these others are always among the same few, the keys' rivals:
-//! at most as many as the keys, and told by the size and the other keys' hits alone. All rows stay
-//! but those of the keys and of their rivals.
+//! A table has only so many keys: the first ones, in order of their first hits. So if it is full, a
+//! key that comes in sends another out, and one that goes out lets another in. Whatever happens to
+//! the hits of some keys, in whatever order, these others are always among the same few, the keys'
+//! rivals. There are at most as many rivals as keys, and which they are depends only on the size
+//! and on the other keys' hits. All rows stay, except those of the keys and of their rivals.
 //!
 //! ```ignore
 //! let keys = [key];
@@ -20,14 +20,14 @@
 //! # Contracts
 //!
 //! - `Changed`: a row of a report (`specs/Reports.antt`). `ReadingChange`: changes *lead* from what
-//!   readings found to what they find where each had found what its change says, and what all of
-//!   them made of it is what is found then (`specs/Findings.antt`).
-//! - Law `some_rivals`: take two tables of one size that differ in the hits of some keys alone.
-//!   They have the same rows, except those of these keys and of their *rivals*
-//!   (`specs/Rivals.antt`). Rivals are other keys, none twice, at most as many as the keys. They
-//!   depend on the size and on the other keys' hits alone, so they are the same before and after.
-//!   One hit that comes or goes is such a change at its key; several changes together are one at
-//!   all their keys, in any order, and so is a change that is undone.
+//!   readings found to what they find if each had found what its change says, and what all of them
+//!   made of it is what is found then (`specs/Findings.antt`).
+//! - Law `some_rivals`: take two tables of one size that differ only in the hits of some keys. They
+//!   have the same rows, except those of these keys and of their *rivals* (`specs/Rivals.antt`).
+//!   Rivals are other keys, none twice, at most as many as the keys. They depend only on the size
+//!   and on the other keys' hits, so they are the same before and after. One hit that comes or goes
+//!   is such a change at its key; several changes together are one at all their keys, in any order,
+//!   and so is a change that is undone.
 //! - `rivals`: the rivals of keys of which no two are the same, in order of their first hits;
 //!   exact. Lets through: running out of memory at any time; how far from the table's edge it
 //!   looks.

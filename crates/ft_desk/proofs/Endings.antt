@@ -137,13 +137,13 @@ module _ (means : Meaning) where
     line_fails faults.Read later held is gives = absurd gives
     line_fails faults.Write later held is gives = no_write later is gives
 
--- how often the reader was asked, where a taking failed
+-- how often the reader was asked, if a taking failed
 pub asked_failing : (fault : RunFault) (asked : Counts) → asked.failed ≡ read_failures {T = Unit {0}} (Err fault) → AsksReader (Err fault) asked
 asked_failing faults.Memory asked failed = failed
 asked_failing faults.Read asked failed = inl failed
 asked_failing faults.Write asked failed = failed
 
--- and where a line failed
+-- and if a line failed
 pub asked_well : (means : Meaning) (base held : Base) (piece : List ℕ) (fault : RunFault) (after later : Option (List ℕ))
     → LineGives (means base (asked_by piece)) held after later (Err fault) → (asked : Counts) → asked.failed ≡ 0 → AsksReader (Err fault) asked
 asked_well means base held piece faults.Memory after later gives asked well = well

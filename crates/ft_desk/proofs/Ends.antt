@@ -53,7 +53,7 @@ module _ (told : List ℕ → FileAt) where
   fails_at paths i d files of_file.Unreadable within so_far = (texts_at (take i paths), texts_at (drop (i + 1) paths), files, texts-around paths i d within, so_far)
 
 module _ (means : List (List ℕ) → Meaning) (told : List ℕ → FileAt) where
-  -- words that cannot be read end the program
+  -- arguments that cannot be read end the program
   pub words_end : (named : Option Named) (fault : WordsFault) → WordsGive named (Err fault) → ProgramEnds means told named (Err (told_of_words fault))
   words_end named of_words.Memory gives = tt
   words_end named of_words.Refused gives = gives
@@ -68,7 +68,7 @@ module _ (means : List (List ℕ) → Meaning) (told : List ℕ → FileAt) wher
       let later = option_map_or (λ (path : List ℕ). path ∷ []) words.script [] in
       (words, refl, (fails.0, fails.1 ++ later, fails.2, ap (λ all. all ++ later) fails.3 ∙ append_assoc fails.0 (path.now ∷ fails.1) later, fails.4))
 
-  -- so does its fault where it is passed on
+  -- so does its fault if it is passed on
   pub fault_ends : (words : Named) (fault : Fault) (result : Result Status Fault) → IsErr result → IsErrAnd result (λ passed. passed ≡ fault) → FilesGive told words.traces (Err fault)
       → ProgramEnds means told (Some words) result
   fault_ends words fault (Ok status) err passed gives = absurd passed
@@ -91,7 +91,7 @@ module _ (means : List (List ℕ) → Meaning) (told : List ℕ → FileAt) wher
   run_of words files (Err Words) tells ran = absurd ran
   run_of words files (Err (File path)) tells ran = absurd ran
 
-  -- so does the run of a script that is told by what the words name
+  -- so does the run of a script that is told by what the arguments name
   pub run_ends : (words : Named) (script : Option (List ℕ)) (files : List (List ℕ)) (result : Result Status Fault) → words.script ≡ script → TellsFiles told words.traces files
       → RunTells (means files) (told_of_script told script) result → ProgramEnds means told (Some words) result
   run_ends words script files result named tells ran =

@@ -52,7 +52,7 @@ asked_by-long : (line : List ℕ) → line_limit < length line → asked_by line
 unfolding asked_by
 asked_by-long line more = rw (lt-ltb line_limit (length line) more) refl
 
--- the kept beginning of a line ask for what the line asks for
+-- the kept beginning of a line asks for what the line asks for
 pub asked_by-kept : (line : List ℕ) → asked_by (take (line_limit + 1) line) ≡ asked_by line
 asked_by-kept line =
     ⊎_elim

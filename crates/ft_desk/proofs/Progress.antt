@@ -25,11 +25,11 @@ take-take-append n xs ys =
     (λ all. ap (λ l. take n (l ++ ys)) (take_all n xs all))
     (cases_lt n (length xs))
 
--- a kept piece isn't empty where the line isn't
+-- a line isn't empty if its kept piece isn't
 pub kept-some : (line piece : List ℕ) → piece ≡ take (line_limit + 1) line → piece ≢ [] → line ≢ []
 kept-some line piece kept some = λ none. some (kept ∙ ap (take (line_limit + 1)) none ∙ take_all (line_limit + 1) [] (omega arith))
 
--- and is empty where it is
+-- and it is empty if the piece is
 pub kept-none : (line piece : List ℕ) → piece ≡ take (line_limit + 1) line → piece ≡ [] → line ≡ []
 kept-none [] piece kept none = refl
 kept-none (byte ∷ bytes) piece kept none = absurd (omega (arith, ap length (sym kept ∙ none), length-take (line_limit + 1) (byte ∷ bytes)))
@@ -57,7 +57,7 @@ last_lines read some =
     one [] plain some = absurd (some refl)
     one (byte ∷ bytes) plain some = lines_of-plain byte bytes plain
 
--- and where it has one
+-- and of one whose last line has an end
 pub whole_lines : (read : List ℕ) → last_piece read ≡ [] → lines_of read ≡ ended_lines read
 whole_lines read none =
     ap lines_of (sym (append-nil read)) ∙ lines_of-split read [] ∙ ap (λ l. ended_lines read ++ lines_of (l ++ [])) none ∙ append-nil (ended_lines read)
@@ -139,7 +139,7 @@ module _ (means : Meaning) where
           told = ap (λ t. refused || t) gives.0 ∙ ap (λ o. refused || o.refused) same ∙ ap (λ r. r || does.refused) p.told ∙ sym pushed.2 ∙ ap (λ l. (output_of_lines means l).refused) (sym ended.0);
         }
 
-  -- what a line left, where it is the piece
+  -- what a line left, if it is the piece
   pub line_of_piece : (base held : Base) (line piece : List ℕ) (after later : Option (List ℕ)) (result : Result Bool RunFault) → line ≡ piece
       → LineGives (means base (asked_by line)) held after later result → LineGives (means base (asked_by piece)) held after later result
   line_of_piece base held line piece after later result same gives = subst (λ l. LineGives (means base (asked_by l)) held after later result) same gives

@@ -16,6 +16,6 @@ abbrev pub failures_of : {T E : Type 0} → Result T E → ℕ
 failures_of (Ok done) = 0
 failures_of (Err error) = 1
 
--- one call more was made, which failed where its answer is an error
+-- one call more was made, which failed exactly if its answer is an error
 abbrev pub CountsCall : {T E : Type 0} → Counts → Counts → Result T E → Type 0
 CountsCall old new result = (new.made ≡ old.made + 1) × (new.failed ≡ old.failed + failures_of result)

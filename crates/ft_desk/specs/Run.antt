@@ -23,7 +23,7 @@ status_of false = AllAccepted
 abbrev pub ReadsBytes : Option (List ℕ) → Option (List ℕ) → List ℕ → Type 0
 ReadsBytes reader rest read = Consumes reader rest read × (length (ended_lines read) ≤ asking_limit)
 
--- this script was read to its end: the reader's, or some script where the reader tells nothing
+-- this script was read to its end: the reader's, or some script if the reader tells nothing
 abbrev pub ReadsToEnd : Option (List ℕ) → Option (List ℕ) → List ℕ → Type 0
 ReadsToEnd reader rest script = ReadsBytes reader rest script × IfSome reader (λ _. IsAtEnd rest)
 
@@ -31,7 +31,7 @@ ReadsToEnd reader rest script = ReadsBytes reader rest script × IfSome reader (
 abbrev pub ReadsFront : Option (List ℕ) → Option (List ℕ) → List ℕ → Type 0
 ReadsFront reader rest read = ReadsBytes reader rest read × IfSome reader (λ _. IsAtEnd rest → ⊥)
 
--- these lines were read, then this one, and nothing after it: a byte 10 ended it, or the script's end
+-- these lines were read, then this one, and nothing after it: a byte 10 or the script's end ended it
 abbrev pub ReadsTo : Option (List ℕ) → Option (List ℕ) → List (List ℕ) → List ℕ → Type 0
 ReadsTo reader rest lines last = (read : List ℕ) × ((ReadsBytes reader rest (read ++ 10 ∷ []) × (ended_lines (read ++ 10 ∷ []) ≡ lines ++ last ∷ [])) ⊎ (ReadsToEnd reader rest read × (lines_of read ≡ lines ++ last ∷ [])))
 
@@ -47,7 +47,7 @@ EndsWhole means status reader rest before after = (script : List ℕ) × ReadsTo
 abbrev pub EndsAtCommand : Meaning → Option (List ℕ) → Option (List ℕ) → Option (List ℕ) → Option (List ℕ) → Type 0
 EndsAtCommand means reader rest before after = (lines : List (List ℕ)) × (last : List ℕ) × ReadsTo reader rest lines last × Appends before after (output_of_lines means lines).text
 
--- no memory for bytes that are left: the whole output of the lines that had ended is written
+-- there was no memory for bytes that are left: the whole output of the lines that had ended is written
 abbrev pub EndsInLine : Meaning → Option (List ℕ) → Option (List ℕ) → Option (List ℕ) → Option (List ℕ) → Type 0
 EndsInLine means reader rest before after = (read : List ℕ) × ReadsFront reader rest read × Appends before after (output_of_lines means (ended_lines read)).text
 

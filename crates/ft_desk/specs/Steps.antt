@@ -25,7 +25,7 @@ TakingGives (Err faults.Read) left rest before after = Keeps left rest
 TakingGives (Err faults.Memory) left rest before after = Keeps left rest × IfSome left (λ bytes. bytes ≢ [])
 TakingGives (Err faults.Write) left rest before after = ⊥
 
--- what a line left: its base, and its text written whole; nothing written where it found no memory; or not all of its text
+-- what a line left: its base, and its text written whole; nothing written if it found no memory; or not all of its text
 abbrev pub LineGives : Outcome → Base → Option (List ℕ) → Option (List ℕ) → Result Bool RunFault → Type 0
 LineGives line base before after (Ok refused) = (refused ≡ line.refused) × (base ≡ line.base) × Appends before after line.text
 LineGives line base before after (Err faults.Memory) = Keeps before after
@@ -39,14 +39,14 @@ read_failures (Err faults.Read) = 1
 read_failures (Err faults.Memory) = 0
 read_failures (Err faults.Write) = 0
 
--- and how many of the writer
+-- how many failures of the writer an answer tells of
 abbrev pub write_failures : {T : Type 0} → Result T RunFault → ℕ
 write_failures (Ok done) = 0
 write_failures (Err faults.Write) = 1
 write_failures (Err faults.Memory) = 0
 write_failures (Err faults.Read) = 0
 
--- how often the reader was asked, by how a run ended: it failed once where the answer is `Read`, or had given no end in as many turns as it has; else it never failed
+-- how often the reader was asked, by how a run ended: if the answer is `Read`, it failed once, or had given no end in as many turns as it has; else it never failed
 abbrev pub AsksReader : Result Status RunFault → Counts → Type 0
 AsksReader (Ok status) asked = asked.failed ≡ 0
 AsksReader (Err faults.Read) asked = (asked.failed ≡ 1) ⊎ ((asked.failed ≡ 0) × (asked.made ≡ asking_limit))
@@ -61,7 +61,7 @@ FailsInWrite written flushed = (written.failed ≡ 1) × (flushed.made ≡ 0)
 abbrev pub FlushesOnce : Counts → Counts → Type 0
 FlushesOnce written flushed = (written.failed ≡ 0) × (flushed.made ≡ 1)
 
--- the calls of the writer, by how a run ended: `Write` is answered where a write failed, in the text of the last line that was read, or where the flush after the whole output failed
+-- the calls of the writer, by how a run ended: `Write` is answered if a write failed, in the text of the last line that was read, or if the flush after the whole output failed
 abbrev pub CallsWriter : Meaning → Result Status RunFault → Counts → Counts → Option (List ℕ) → Option (List ℕ) → Option (List ℕ) → Option (List ℕ) → Type 0
 CallsWriter means (Ok status) written flushed reader rest before after = FlushesOnce written flushed × (flushed.failed ≡ 0)
 CallsWriter means (Err faults.Memory) written flushed reader rest before after = FlushesOnce written flushed
@@ -76,7 +76,7 @@ LinesEnd means (Err faults.Memory) reader rest before after = EndsAtCommand mean
 LinesEnd means (Err faults.Read) reader rest before after = EndsAtReader means reader rest before after
 LinesEnd means (Err faults.Write) reader rest before after = EndsAtWriter means reader rest before after
 
--- what the flush makes of an answer: there is one, but none after a failed write, and where it fails it spoils an `Ok` alone
+-- what the flush makes of an answer: there is one flush, but none after a failed write, and if it fails, it spoils only an `Ok`
 abbrev pub FlushGives : Result Status RunFault → Result Status RunFault → Counts → Type 0
 FlushGives (Ok status) result flushed = (flushed.made ≡ 1) × (((result ≡ Ok status) × (flushed.failed ≡ 0)) ⊎ ((result ≡ Err faults.Write) × (flushed.failed ≡ 1)))
 FlushGives (Err faults.Memory) result flushed = (flushed.made ≡ 1) × (result ≡ Err faults.Memory)

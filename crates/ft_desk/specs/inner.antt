@@ -1,4 +1,4 @@
--- Words of private functions, which no public clause says.
+-- Definitions for private functions, which no public clause uses.
 pub mod Asking
 pub mod Printed
 pub mod Ends

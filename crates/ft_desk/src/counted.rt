@@ -1,5 +1,5 @@
-//! A reader and a writer whose calls are counted, by counts that contracts alone see. What is
-//! counted stands in private fields: who has such a value cannot call its reader or its writer
+//! A reader and a writer whose calls are counted, by counts that only contracts see. What is
+//! counted stands in private fields: whoever has such a value cannot call its reader or its writer
 //! without a count, and cannot change a count without a call.
 
 ghost use Rattle.std.specs.Prelude.{◌≡◌, ◌+◌, ◌<◌, ◌≤◌, length, take, vec_len, IfOk, OnErr};
@@ -79,8 +79,8 @@ impl<'a, R: BufRead> CountedReader<'a, R> {
         }
     }
 
-    /// Asks the reader for bytes, which is counted, and adds the part of a line that they begin with
-    /// to its piece. Fails where the reader does, and is not to be called after that.
+    /// Asks the reader for bytes, which is counted, and adds the part of a line that they begin
+    /// with to the line's piece. Fails if the reader does, and is not to be called after that.
     pub(crate) fn ask(&mut self, piece: &mut Vec<u8>) -> io::Result<Result<Part, AllocError>>
         requires room { vec_len piece.old ≤ line_limit + 1 }
         requires well { self.old.asked.failed ≡ 0 }
@@ -144,8 +144,8 @@ impl<'a, W: Write> CountedWriter<'a, W> {
         }
     }
 
-    /// Writes a beginning of a text that is not empty, which is counted: how many bytes that are, at
-    /// least one. Fails where the writer does or takes nothing, and is not to be called after that.
+    /// Writes a beginning of a text that is not empty, which is counted: how many bytes those are,
+    /// at least one. Fails if the writer does or takes nothing, and is not to be called after that.
     pub(crate) fn write(&mut self, text: &[u8]) -> io::Result<usize>
         requires some { 0 < length text.now }
         requires well { self.old.written.failed ≡ 0 }
@@ -168,7 +168,7 @@ impl<'a, W: Write> CountedWriter<'a, W> {
         taken
     }
 
-    /// Flushes the writer, which is counted. Fails where the writer does.
+    /// Flushes the writer, which is counted. Fails if the writer does.
     pub(crate) fn flush(&mut self) -> io::Result<()>
         ensures kept { Keeps (W.contents self.old.writer.now) (W.contents self.new.writer.now) }
         ensures flushed { CountsCall self.old.flushed self.new.flushed result }

@@ -22,7 +22,7 @@ pub struct Ran {
 }
 
 /// Runs a script in memory over a board on which nothing is held or attached: all that its commands
-/// print, and its status. The Nth file is what `load @N` loads. Fails for memory alone, and then
+/// print, and its status. The Nth file is what `load @N` loads. Fails only for memory, and then
 /// gives no output at all.
 pub fn run_text<B: Board>(
     alloc: Global,

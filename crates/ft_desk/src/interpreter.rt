@@ -1,4 +1,4 @@
-//! What does the commands of a script.
+//! Whatever does the commands of a script.
 
 ghost use Rattle.ft_desk.specs.Output.{outcome};
 
@@ -7,7 +7,7 @@ use ft_answers::Board;
 use ft_desk_core::Desk;
 use std::alloc::{AllocError, Global};
 
-/// What does the commands of a script: a desk, or something over a desk that prints more.
+/// Something that does the commands of a script: a desk, or something over a desk that prints more.
 pub trait Interpreter: Drop {
     ghost use Rattle.std.specs.Prelude.{◌≡◌, ℕ, List, map, IfOk};
     ghost use Rattle.ft_answers.specs.Base.{Base};
@@ -26,7 +26,7 @@ pub trait Interpreter: Drop {
     /// Does what a line of a script asks for. The line has no line break, and the Nth file is what
     /// `load @N` loads.
     ///
-    /// What a refused line changes is told by `means`: of a desk, nothing that is held. Fails for
+    /// What a refused line changes is told by `means`: for a desk, nothing that is held. Fails for
     /// memory only, which has no line of its own; then the edit may have been made, and no clause
     /// says what is held.
     fn perform(&mut self, files: &[Vec<u8>], line: &[u8]) -> Result<Performed, AllocError>

@@ -1,8 +1,8 @@
-//! Scripts over a desk, a command each line, with what each command prints; and the program, all but
-//! its `main`. What a script prints is a function of the script and its trace files: `run_text`
-//! answers it, and `run` writes it, where reader and writer tell their bytes. All is over any board.
-//! The desk itself stands below, in `ft_desk_core`; it, and what else a caller names of the crates
-//! below, is passed on.
+//! Scripts over a desk, one command on each line, with what each command prints; and the program,
+//! except its `main`. What a script prints is a function of the script and its trace files:
+//! `run_text` answers it, and `run` writes it, if the reader and the writer tell their bytes. All
+//! of this is over any board. The desk itself stands below, in `ft_desk_core`; this crate passes it
+//! on, and also what else a caller names of the crates below.
 //!
 //! ```ignore
 //! let script = b"attach sched_waking hist:keys=pid\ntotals 1\nhist 2\n";
@@ -20,7 +20,7 @@
 //! - `perform`: what one script line prints, whether it is refused, and the base after it:
 //!   `outcome` (`specs/Output.antt`). Lets through: running out of memory at any time, and then
 //!   holding anything; any number of steps; putting the tables off.
-//! - `print_refusal`: the line of a refusal, exact; it fails where the refusal is that memory ran out.
+//! - `print_refusal`: the line of a refusal, exact; it fails if the refusal is that memory ran out.
 //!   Lets through: running out of memory at any time.
 //! - `run_text`, over every board: what a script in memory prints is the text of `output` of files
 //!   and script, and its status is that of `output`. Lets through: running out of memory at any
@@ -30,27 +30,27 @@
 //!   - Well: the script was read to its end, and what was written is its whole output; the status
 //!     is that of the output.
 //!   - For memory: the whole output of the lines before the last one that was read was written, or
-//!     of all that had ended, where a part of the next found no memory.
+//!     of all that had ended, if a part of the next found no memory.
 //!   - For reading: the whole output of the lines which byte 10 had ended was written.
 //!   - For writing: the whole output of the lines before the last one that was read was written
 //!     and, of that one's, a beginning with something left; or the script was read to its end and
 //!     its whole output written, and the flush failed.
 //!   - So a body that holds output back or reads ahead is refused. However it ends, at most
 //!     1,073,741,824 lines that byte 10 ended were read.
-//!   - Lets through: where the reader tells nothing, each case speaks of some script, and where the
-//!     writer tells nothing, of no bytes: so it is with the system's streams.
-//! - `run_counted`, over every `Interpreter`, reader and writer, which `run` and both programs call: it
-//!   takes the two as a `CountedReader` and a `CountedWriter`, whose private fields leave no way to
-//!   them but calls that count. `RunEnds` of what commands mean to the interpreter. The reader is asked
-//!   1,073,741,824 times at most. It fails at most once, and then the answer is `Read`, which is
-//!   answered else only where it was asked so often (`AsksReader`, `specs/Steps.antt`). An answer
-//!   `Write` comes with the one failed write and no flush, in the text of the last line that was
-//!   read, or with the one flush, which failed after the whole output; every other answer comes
-//!   with one flush and no failed write, and with `Ok` the flush didn't fail (`CallsWriter`). A
-//!   failing flush makes `Write` of `Ok`, and changes no other answer. Lets through: what the
-//!   methods `ask`, `consume`, `write` and `flush` of the two types do beside their count, which
-//!   their few lines show. The private `ask` requires that the reader has not failed, `write` that
-//!   no write has, so that neither is called again after that.
+//!   - Lets through: if the reader tells nothing, each case speaks of some script, and if the
+//!     writer tells nothing, it speaks of no bytes; this is so with the system's streams.
+//! - `run_counted`, over every `Interpreter`, reader and writer, which `run` and both programs
+//!   call: it takes the two as a `CountedReader` and a `CountedWriter`, whose private fields leave
+//!   no way to them except calls that count. `RunEnds` of what commands mean to the interpreter.
+//!   The reader is asked 1,073,741,824 times at most. It fails at most once, and then the answer is
+//!   `Read`; otherwise the answer is `Read` only if the reader was asked that often (`AsksReader`,
+//!   `specs/Steps.antt`). An answer `Write` comes with the one failed write and no flush, in the
+//!   text of the last line that was read, or with the one flush, which failed after the whole
+//!   output; every other answer comes with one flush and no failed write, and with `Ok` the flush
+//!   didn't fail (`CallsWriter`). A failing flush makes `Write` of `Ok`, and changes no other
+//!   answer. Lets through: what the methods `ask`, `consume`, `write` and `flush` of the two types
+//!   do beside their count, which their few lines show. The private `ask` requires that the reader
+//!   has not failed, `write` that no write has, so that neither is called again after that.
 //! - Trait `Interpreter`, met by `Desk`: what a line prints, whether it is refused and what is held
 //!   then is what commands mean to the interpreter (`means`, a `Meaning` of `specs/Output.antt`); to a
 //!   desk that is `outcome`. Lets through: what `perform` does.
@@ -58,15 +58,16 @@
 //!   of a script is a beginning of the whole script's; however a run ends, what it wrote is a
 //!   beginning of the output of the lines that it read, and of the whole script's.
 //! - `histdesk`, `run_program`: the exit status is at most 2; which one, by how the run ended, is a
-//!   clause of the private `exit_status`. Lets through: words that are no text; what goes to
-//!   standard error; and, of the system's files and standard input, of which nothing is told, all
-//!   that `run_words` says of told ones. The tests of the built program show these.
+//!   clause of the private `exit_status`. Lets through: arguments that are no text; what goes to
+//!   standard error; and, since nothing is told of the system's files and standard input, all that
+//!   `run_words` says of those of which something is told. The tests of the built program show
+//!   these.
 //! - `read_traces`, `run_words` and `run_script`, which are private, over all that opens paths and
-//!   every interpreter: `ProgramEnds` (`specs/inner/Ends.antt`). Words that name nothing are refused as
-//!   such, and only they. Else a path is told that cannot be read while all traces before it can,
-//!   the script's last. Else the script that the words name is run with the files at the paths that
-//!   they name, in order, and the status is that of `output`. Lets through: running out of memory
-//!   at any time; a path that is there and yet cannot be read.
+//!   every interpreter: `ProgramEnds` (`specs/inner/Ends.antt`). Arguments that name nothing are
+//!   refused as such, and only they are. Else a path is reported that cannot be read while all
+//!   paths before it can; the script's path is the last. Else the script that the arguments name is
+//!   run with the files at the paths that they name, in order, and the status is that of `output`.
+//!   Lets through: running out of memory at any time; a path that is there and yet cannot be read.
 #![tactic(auto)]
 
 mod counted;

@@ -16,7 +16,7 @@ use std::io::BufRead;
 /// is seen to be one.
 const KEPT: usize = LINE_LIMIT + 1;
 
-/// What was taken of a script, as its reader was asked once.
+/// What was taken of a script when its reader was asked once.
 #[derive(Clone, Copy, Debug, PartialEq, Eq)]
 pub(crate) enum Taken {
     /// A part of a line.
@@ -36,10 +36,9 @@ pub(crate) struct Part {
     amount: usize,
 }
 
-/// Reads what the reader shows, up to and with a line's end, and adds the line's part to its piece: a
-/// part without an end isn't empty.
-/// Memory and the reader can fail; an interrupted read is an error too. The reader is asked once, and
-/// not after it failed.
+/// Reads what the reader shows, up to and including a line's end, and adds the line's part to its
+/// piece: a part without an end isn't empty. Memory and the reader can fail; an interrupted read is
+/// an error too. The reader is asked once, and not after it failed.
 pub(crate) fn take_part<R: BufRead>(
     script: &mut CountedReader<'_, R>,
     piece: &mut Vec<u8>,
@@ -61,8 +60,8 @@ pub(crate) fn take_part<R: BufRead>(
     Ok(part.taken)
 }
 
-/// Adds the part of a line that the bytes shown begin with to its piece. They are none at the end of
-/// the script.
+/// Adds the part of a line that the shown bytes begin with to the line's piece. At the end of the
+/// script no bytes are shown.
 pub(crate) fn add_shown(piece: &mut Vec<u8>, shown: &[u8]) -> Result<Part, AllocError>
     requires { vec_len piece.old ≤ line_limit + 1 }
     ensures { PartGives result shown.now piece.old.items piece.new.items }

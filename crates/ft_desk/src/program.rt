@@ -1,4 +1,4 @@
-//! The program: its words, its files, the run of its script, and its exit status.
+//! The program: its arguments, its files, the run of its script, and its exit status.
 
 ghost use Rattle.std.specs.Prelude.{◌≡◌, ◌≤◌, map, string_bytes};
 ghost use Rattle.std.specs.Result.{result_map_both};
@@ -30,7 +30,7 @@ const BUFFER: usize = 65_536;
 /// Why the program ended before its script did.
 #[derive(Debug, Drop, Error)]
 pub enum Fault<'a> {
-    /// A word looks like an option.
+    /// An argument looks like an option.
     #[error("bad words")]
     Words,
     /// A trace file cannot be read whole, or the script cannot be opened.
@@ -39,7 +39,7 @@ pub enum Fault<'a> {
     /// Memory ran out.
     #[error("out of memory")]
     Memory,
-    /// The script opened, but reading it failed; or the words are no text.
+    /// The script opened, but reading it failed; or the arguments are no text.
     #[error("read failed")]
     Read,
     /// Standard output failed.
@@ -87,7 +87,7 @@ impl<'a> From<RunFault> for Fault<'a> {
 }
 
 impl<'a> Fault<'a> {
-    /// The fault of words that cannot be had, as where one is no text.
+    /// The fault of arguments that cannot be read, for example because one is no text.
     pub fn of_arguments(error: &io::Error) -> Fault<'a> {
         match error.kind() {
             ErrorKind::OutOfMemory => Fault::Memory,
@@ -106,9 +106,8 @@ impl<'a> Fault<'a> {
     }
 }
 
-/// The whole program, over a board that holds nothing: its exit status, 0 where each command of the
-/// script was accepted, 1 where some was refused, and 2 after a fault, which goes to standard
-/// error.
+/// The whole program, over a board that holds nothing: its exit status, 0 if each command of the
+/// script was accepted, 1 if some was refused, and 2 after a fault, which goes to standard error.
 pub fn histdesk<P, B>(rt: &P, board: B) -> u8
 where
     P: Env + Files + Input + Print + Eprint + AllocGlobal,
@@ -119,8 +118,8 @@ where
     run_program(rt, NAME, Desk::new(rt.alloc(), board))
 }
 
-/// A program of a name that runs the script of its words, over what answers its lines and holds
-/// nothing yet: its exit status, as that of `histdesk`.
+/// A program of a name that runs the script that its arguments name, over anything that answers the
+/// script's lines and holds nothing yet: its exit status, as that of `histdesk`.
 pub fn run_program<P, S>(rt: &P, name: &str, interpreter: S) -> u8
 where
     P: Env + Files + Input + Print + Eprint + AllocGlobal,
@@ -135,7 +134,7 @@ where
     exit_status(rt, name, run_words(rt, interpreter, args.as_slice()))
 }
 
-/// The program's words, its own name first.
+/// The program's arguments, its own name first.
 fn arguments<P: Env + AllocGlobal>(rt: &P) -> io::Result<Vec<String>> {
     Ok(env::args(rt)?.collect(rt.alloc())?)
 }
@@ -154,7 +153,8 @@ fn exit_status<P: Eprint>(rt: &P, name: &str, ended: Result<Status, Fault<'_>>) 
     }
 }
 
-/// Reads the words, then the trace files in order, then runs the script: the first fault decides.
+/// Reads the arguments, then the trace files in order, then runs the script: the first fault
+/// decides.
 fn run_words<'a, P, S>(rt: &P, interpreter: S, args: &'a [String]) -> Result<Status, Fault<'a>>
 where
     P: Paths + Input + Print + AllocGlobal,
@@ -210,12 +210,12 @@ where
 {
     let alloc = rt.alloc();
     let mut script = BufReader::with_capacity(alloc, BUFFER, script).map_err(|_| Fault::Memory)?;
-    // A command's output is written at once, so that who types a script sees it.
+    // A command's output is written at once, so that whoever types a script sees it.
     let mut out = io::writer(rt);
     let mut script = CountedReader::new(&mut script);
     let mut out = CountedWriter::new(&mut out);
     let ended = run_counted(&mut interpreter, traces, &mut script, &mut out);
-    // The process ends next, and with it goes all that is held at once.
+    // The process ends next, and all that is held goes with it at once.
     mem::forget(interpreter);
     Ok(ended?)
 }

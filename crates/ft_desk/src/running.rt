@@ -45,7 +45,7 @@ pub enum RunFault {
     #[error("read failed")]
     Read,
     /// The writer failed or took nothing. The output of the lines before the last that was read is
-    /// written whole, and a beginning of that one's; or all output, where the flush failed.
+    /// written whole, and a beginning of that one's; or all output is written, if the flush failed.
     #[error("write failed")]
     Write,
 }
@@ -54,8 +54,8 @@ pub enum RunFault {
 /// print, each command's text when the command is done. The Nth file is what `load @N` loads. A
 /// script that is in memory is run by `run_text`.
 ///
-/// Fails for memory, where the reader fails or shows no end though it was asked `ASKING_LIMIT` times,
-/// and where the writer or the flush at the end fails; an interrupted read or write is a failure. The
+/// Fails for memory, if the reader fails or shows no end though it was asked `ASKING_LIMIT` times,
+/// and if the writer or the flush at the end fails; an interrupted read or write is a failure. The
 /// writer is flushed once, but not after a failed write.
 pub fn run<B: Board, R: BufRead, W: Write>(
     alloc: Global,
@@ -182,7 +182,7 @@ pub(crate) fn status_from(refused: bool) -> Status
     }
 }
 
-/// Flushes the writer once, but not after a failed write. A failing flush spoils a status alone.
+/// Flushes the writer once, but not after a failed write. A failing flush spoils only a status.
 fn flush_after<W: Write>(
     answer: Result<Status, RunFault>,
     out: &mut CountedWriter<'_, W>,

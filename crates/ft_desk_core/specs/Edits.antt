@@ -24,7 +24,7 @@ use Rattle.ft_base.specs.declared.refused.Refused.{Refused}
 use Rattle.ft_base.specs.declared.refused.Refused.TheVariants.{Memory, BadLine, NoEvent, BadTrigger, BadFilter, NoTrigger, BadCommand}
 use Rattle.ft_text.specs.Lines.{lines_of}
 
--- a line's event in front of those of the lines after it; a line that cannot be read is the fault of all
+-- a line's event in front of those of the lines after it; if the line cannot be read, all are refused for its fault
 abbrev pub line_in_front : ℕ → Result Line LineFault → Result (List Traced) Refused → Result (List Traced) Refused
 line_in_front number (Err fault) rest = Err (BadLine number fault)
 line_in_front number (Ok lines.Skip) rest = rest

@@ -81,8 +81,8 @@ impl<B: Board> Desk<B> {
     }
 
     /// Loads a trace text, a lane for each of its CPUs: how many events were loaded. Refused at the
-    /// first line that cannot be read, where a lane is held, where too many events would be, or for
-    /// memory.
+    /// first line that cannot be read, if one of these lanes is held, if too many events would be
+    /// held, or for memory.
     pub fn load(&mut self, text: &[u8]) -> Result<Done<u64>, Refused>
         ensures gives { EditGives (λ count. count) (after_load_text self.old.base text.now)
             self.old self.new result }
@@ -95,7 +95,7 @@ impl<B: Board> Desk<B> {
         self.board.load_store(events)
     }
 
-    /// Takes the lane of a CPU away: how many events it had. Refused where the lane is not held.
+    /// Takes the lane of a CPU away: how many events it had. Refused if the lane is not held.
     pub fn unload(&mut self, cpu: u32) -> Result<Done<u64>, Refused>
         ensures gives { EditGives (λ count. count) (after_unload self.old.base cpu)
             self.old self.new result }
@@ -110,9 +110,11 @@ impl<B: Board> Desk<B> {
     }
 
     /// Adds the event of a trace line, which has no line break, at the next line of its CPU's lane:
-    /// the event's place, and which rows of triggers that count held events may have changed, if
-    /// the board has a report. Refused where the line cannot be read or holds no event, where too
-    /// many events would be or the lane's line numbers are used up, or for memory.
+    /// in `place` the event's place, and in `report` which rows of triggers that count held events
+    /// may have changed, if the board has a report. `made` gives which rows of triggers that count
+    /// made events may have changed, if the board names them. Refused if the line cannot be read or
+    /// holds no event, if too many events would be held or the lane's line numbers are used up, or
+    /// for memory.
     pub fn insert(&mut self, line: &[u8]) -> Result<Done<Edited>, Refused>
         ensures gives { EditGives (λ edited. edited.place) (after_insert_text self.old.base line.now)
             self.old self.new result }
@@ -128,9 +130,10 @@ impl<B: Board> Desk<B> {
         self.board.insert(event)
     }
 
-    /// Takes the event of a CPU's line away: its place, and which rows of triggers that count held
-    /// events may have changed, if the board has a report. Refused where the lane is not held, or
-    /// has no such line.
+    /// Takes the event of a CPU's line away: in `place` its place, and in `report` which rows of
+    /// triggers that count held events may have changed, if the board has a report. `made` gives
+    /// which rows of triggers that count made events may have changed, if the board names them.
+    /// Refused if the lane is not held, or has no such line.
     pub fn strike(&mut self, cpu: u32, line: u32) -> Result<Done<Edited>, Refused>
         ensures gives { EditGives (λ edited. edited.place) (after_strike self.old.base cpu line)
             self.old self.new result }
@@ -145,11 +148,11 @@ impl<B: Board> Desk<B> {
         self.board.strike(cpu, line)
     }
 
-    /// Attaches a trigger's text to an event: the trigger's id. Refused for another event than
-    /// the four named ones and the one that triggers make, where the text cannot be read, where 64
-    /// triggers are attached or the ids are used up, where its variable's name is saved already,
-    /// where nobody saves what it reads (at the event that its onmatch part names, if it has one),
-    /// where its keys don't match its saver's, or for memory.
+    /// Attaches a trigger's text to an event: the trigger's id. Refused for any event other than
+    /// the four named ones and the one that triggers make, if the text cannot be read, if 64
+    /// triggers are attached or the ids are used up, if its variable's name is saved already, if
+    /// nobody saves what it reads (at the event that its onmatch part names, if it has one), if its
+    /// keys don't match its saver's, or for memory.
     pub fn attach(&mut self, event: Name, text: &[u8]) -> Result<Done<u32>, Refused>
         ensures gives { EditGives (λ id. id) (after_attach_text self.old.base event text.now)
             self.old self.new result }
@@ -159,8 +162,8 @@ impl<B: Board> Desk<B> {
         self.board.attach(trigger)
     }
 
-    /// Gives a trigger the filter of a text, or none, for the events held and for those to come: the
-    /// trigger's id. Refused where no trigger has the id, where the text cannot be read, or for
+    /// Gives a trigger the filter of a text, or none, for the events held and for those to come:
+    /// the trigger's id. Refused if no trigger has the id, if the text cannot be read, or for
     /// memory.
     pub fn refilter(&mut self, id: u32, text: Option<&[u8]>) -> Result<Done<u32>, Refused>
         ensures gives { EditGives (λ id. id)
@@ -174,8 +177,8 @@ impl<B: Board> Desk<B> {
         self.board.refilter(id, filter)
     }
 
-    /// Takes a trigger away: its id. Refused where no trigger has the id, or where it saves what
-    /// another reads.
+    /// Takes a trigger away: its id. Refused if no trigger has the id, or if it saves what another
+    /// reads.
     pub fn remove(&mut self, id: u32) -> Result<Done<u32>, Refused>
         ensures gives { EditGives (λ id. id) (after_remove self.old.base id)
             self.old self.new result }
@@ -187,7 +190,7 @@ impl<B: Board> Desk<B> {
         self.board.remove(id)
     }
 
-    /// The text of a trigger's table. Refused where no trigger has the id, or for memory.
+    /// The text of a trigger's table. Refused if no trigger has the id, or for memory.
     pub fn hist(&mut self, id: u32) -> Result<Vec<u8>, Refused>
         ensures gives { AnswersFrom (λ text. text.items) (hist_text self.old.base id)
             self.old self.new result }
@@ -197,8 +200,7 @@ impl<B: Board> Desk<B> {
     }
 
     /// The rows of a trigger's table in the order of its text, each with its key, and with its text
-    /// as `hist` gives it, without the line break. Refused where no trigger has the id, or for
-    /// memory.
+    /// as `hist` gives it, without the line break. Refused if no trigger has the id, or for memory.
     pub fn row_texts(&mut self, id: u32) -> Result<Vec<TableRow>, Refused>
         ensures gives { AnswersFrom (λ rows. rows.items) (row_texts_shown self.old.base id)
             self.old self.new result }
@@ -207,7 +209,7 @@ impl<B: Board> Desk<B> {
         self.board.row_texts(id)
     }
 
-    /// The rows of a trigger's table in numbers, in the order of its text. Refused where no trigger
+    /// The rows of a trigger's table in numbers, in the order of its text. Refused if no trigger
     /// has the id, or for memory.
     pub fn rows(&mut self, id: u32) -> Result<Vec<Row>, Refused>
         ensures gives { AnswersFrom (λ rows. rows.items) (rows_shown self.old.base id)
@@ -217,8 +219,8 @@ impl<B: Board> Desk<B> {
         self.board.rows(id)
     }
 
-    /// The text of a key's row of a trigger's table as `hist` gives it, without the line break; none
-    /// where the key isn't in the table. Refused where no trigger has the id, or for memory.
+    /// The text of a key's row of a trigger's table as `hist` gives it, without the line break;
+    /// none if the key isn't in the table. Refused if no trigger has the id, or for memory.
     pub fn row_text(&mut self, id: u32, key: &Key) -> Result<Option<Vec<u8>>, Refused>
         ensures gives { AnswersFrom (option_map (λ text. text.items))
             (row_text_shown self.old.base id key.now) self.old self.new result }
@@ -228,7 +230,7 @@ impl<B: Board> Desk<B> {
     }
 
     /// What a trigger has counted: its hits, the keys in its table, and the hits that found no
-    /// room. Refused where no trigger has the id, or for memory.
+    /// room. Refused if no trigger has the id, or for memory.
     pub fn totals(&mut self, id: u32) -> Result<Totals, Refused>
         ensures gives { AnswersFrom (λ totals. totals) (totals self.old.base id)
             self.old self.new result }
@@ -238,8 +240,8 @@ impl<B: Board> Desk<B> {
         self.board.totals(id)
     }
 
-    /// What a reading trigger measured, in merged order of the reading, dropped hits too: of each the
-    /// two places and the microseconds between them. Refused where no trigger has the id, where it
+    /// What a reading trigger measured, in merged order of the reading, dropped hits too: for each,
+    /// the two places and the microseconds between them. Refused if no trigger has the id, if it
     /// reads no variable, or for memory.
     pub fn latencies(&mut self, id: u32) -> Result<Vec<Latency>, Refused>
         ensures gives { AnswersFrom (λ latencies. latencies.items) (latencies self.old.base id)
@@ -249,9 +251,9 @@ impl<B: Board> Desk<B> {
         self.board.latencies(id)
     }
 
-    /// The pairs of events that `latencies` measures, in its order: of each the place, with its stamp
-    /// in microseconds, of the event that saved and of the one that read. Refused where no trigger has
-    /// the id, where it reads no variable, or for memory.
+    /// The pairs of events that `latencies` measures, in its order: for each, the places of the
+    /// event that saved and of the one that read, each with its stamp in microseconds. Refused if
+    /// no trigger has the id, if it reads no variable, or for memory.
     pub fn pairs(&mut self, id: u32) -> Result<Vec<Pair>, Refused>
         ensures gives { AnswersFrom (λ pairs. pairs.items) (pairs_shown self.old.base id)
             self.old self.new result }
@@ -260,7 +262,7 @@ impl<B: Board> Desk<B> {
         self.board.pairs(id)
     }
 
-    /// The event of a CPU's line. Refused where the lane is not held, or has no such line. Takes no
+    /// The event of a CPU's line. Refused if the lane is not held, or has no such line. Takes no
     /// memory.
     pub fn event(&self, cpu: u32, line: u32) -> Result<Event, Refused>
         ensures { result ≡ event_found self.now.base cpu line }
@@ -288,15 +290,16 @@ impl<B: Board> Desk<B> {
         Ok(places(self.alloc, self.board.content().lanes())?)
     }
 
-    /// The switches to tasks among all held events, in merged order, each with where its task became
-    /// runnable: one of which `since.waiting()` is something ends a wait. Refused for memory.
+    /// The switches to tasks among all held events, in merged order, each with where its task
+    /// became runnable. A switch whose `since.waiting()` is something ends a wait. Refused for
+    /// memory.
     pub fn waits(&self) -> Result<Vec<Dispatch>, Refused>
         ensures { AnswerIs (λ told. told.items) (Ok (dispatches_held self.now.base.lanes)) result }
     {
         Ok(held_dispatches(self.alloc, self.board.content().lanes())?)
     }
 
-    /// The places of a CPU's events from a line on, by line. Refused where the lane is not held, or
+    /// The places of a CPU's events from a line on, by line. Refused if the lane is not held, or
     /// for memory.
     pub fn lane(&self, cpu: u32, line: u32) -> Result<Vec<Pos>, Refused>
         ensures { AnswerIs (λ places. places.items) (lane_found self.now.base cpu line) result }
@@ -306,8 +309,8 @@ impl<B: Board> Desk<B> {
         Ok(lane_places(self.alloc, content.lanes(), lane, line)?)
     }
 
-    /// The places of the held events of a name on which the filter of a text holds, in merged order.
-    /// Refused for an event that has no name, where the text cannot be read as a filter on such
+    /// The places of the held events of a name on which the filter of a text holds, in merged
+    /// order. Refused for an event that has no name, if the text cannot be read as a filter on such
     /// events, or for memory.
     pub fn matching(&self, event: Name, text: &[u8]) -> Result<Vec<Pos>, Refused>
         ensures { AnswerIs (λ places. places.items)
@@ -325,15 +328,14 @@ impl<B: Board> Desk<B> {
         Ok(self.board.content().attached_triggers(self.alloc)?)
     }
 
-    /// The canonical text of an attached trigger. Refused where no trigger has the id, or for
-    /// memory.
+    /// The canonical text of an attached trigger. Refused if no trigger has the id, or for memory.
     pub fn trigger_text(&self, id: u32) -> Result<Vec<u8>, Refused>
         ensures { AnswerIs (λ text. text.items) (trigger_text self.now.base id) result }
     {
         self.board.content().trigger_text(self.alloc, id)
     }
 
-    /// The text of a CPU's lane. Refused where the lane is not held, or for memory.
+    /// The text of a CPU's lane. Refused if the lane is not held, or for memory.
     pub fn list(&self, cpu: u32) -> Result<Vec<u8>, Refused>
         ensures { AnswerIs (λ text. text.items) (list_text self.now.base cpu) result }
     {

@@ -17,16 +17,16 @@ use ft_store::Store;
 use ft_text::next_line;
 use std::alloc::Global;
 
-/// So many bytes of a text hold an event, more or less: the kernel's own lines are a little longer.
+/// About how many bytes of a text hold an event: the kernel's own lines are a little longer.
 const LINE_BYTES: usize = 128;
 
-/// So many bytes the names of an event have, more or less.
+/// About how many bytes the names of an event have.
 const NAME_BYTES: usize = 22;
 
 /// The most events that a desk holds.
 const EVENT_LIMIT: usize = 1_048_576;
 
-/// No events, with room for those of a text of so many bytes where there is memory for it.
+/// No events, with room for those of a text of so many bytes if there is memory for it.
 fn store_for(alloc: Global, bytes: usize) -> Store
     ensures { result ≡ [] }
 {
@@ -45,7 +45,7 @@ pub(crate) fn events_in(alloc: Global, text: &[u8]) -> Result<Store, Refused>
     let mut events = store_for(alloc, text.len());
     // The event of a line that is not of the usual form is put here, and stored from here.
     let mut event = Event::blank();
-    // That of a line of the usual form is put here, its names where they lie in the line.
+    // The event of a line of the usual form is put here; its names stay where they lie in the line.
     let blank = Event::blank();
     let mut told = blank.borrowed();
     let mut rest = text;
@@ -101,7 +101,7 @@ fn add_other(events: &mut Store, event: &mut Event, number: u64, line: &[u8]) ->
     }
 }
 
-/// Reads one line: its event. Refused where the line cannot be read or holds no event.
+/// Reads one line: its event. Refused if the line cannot be read or holds no event.
 pub(crate) fn event_in(line: &[u8]) -> Result<Event, Refused>
     ensures { result ≡ event_or_refused (line_of line.now) }
 {

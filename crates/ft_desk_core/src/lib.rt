@@ -23,8 +23,8 @@
 //!   (`specs/Found.antt`, `ft_answers/specs/Places.antt`), which they leave as it is. All except
 //!   `event` let through: running out of memory at any time.
 //! - `Desk::waits`: the switches to tasks among the held events, each with where its task became
-//!   runnable; exact, `dispatches_held` of `ft_held_waits`. Lets through: running out of memory at any
-//!   time.
+//!   runnable; exact, `dispatches_held` of `ft_held_waits`. Lets through: running out of memory at
+//!   any time.
 #![tactic(auto)]
 
 mod desk;

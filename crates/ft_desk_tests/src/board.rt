@@ -41,7 +41,7 @@ enum Act {
 /// What an event does, its CPU, and its stamp.
 type Line = (Act, u16, u64);
 
-/// An event of a line, none that triggers make. Refused where no event has such a CPU or stamp.
+/// An event of a line, none that triggers make. Refused if no event has such a CPU or stamp.
 fn event_of(line: Line) -> Result<Event, Refused>
     ensures { IfOk result (λ event. is_made event.body ≡ false) }
 {
@@ -98,7 +98,7 @@ fn load_lines<B: Board>(alloc: Global, board: &mut B, lines: &[Line]) -> Result<
     Ok(board.load(events_of(alloc, lines)?)?.value)
 }
 
-/// Attaches the trigger of a text: its id. Refused where nothing can be attached to the event.
+/// Attaches the trigger of a text: its id. Refused if nothing can be attached to the event.
 fn attach_text<B: Board>(
     alloc: Global,
     board: &mut B,

@@ -189,7 +189,7 @@ fn asks_no_writer_again_that_failed(rt: HostRuntime) {
     }
 }
 
-/// Whether a run to whose writer so many bytes can be written ends for that, with this part of the
+/// Whether a run ends because its writer has room for only so many bytes, with this part of the
 /// script not read.
 fn leaves(alloc: Global, room: usize, left: &[u8]) -> bool {
     let mut out = Sink::new(alloc, 50);

@@ -39,9 +39,9 @@ pub(crate) enum Told {
 pub(crate) struct Step<'a> {
     pub(crate) edit: Edit<'a>,
     pub(crate) told: Told,
-    /// The hits of the triggers 1, 2 and 3, where they are attached. All are of one key.
+    /// The hits of the triggers 1, 2 and 3, if they are attached. All are of one key.
     pub(crate) hits: [Option<u64>; 3],
-    /// What trigger 2 measured, where it is attached.
+    /// What trigger 2 measured, if it is attached.
     pub(crate) latency: Option<Latency>,
 }
 

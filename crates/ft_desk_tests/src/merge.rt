@@ -9,8 +9,8 @@ use ft_trigger::parse;
 use std::alloc::Global;
 use std::test::*;
 
-/// Adds a waking, or another event, after those of a CPU: its line. None where there is no such
-/// event, or no room.
+/// Adds a waking, or another event, after those of a CPU: its line. None if there is no such event,
+/// or no room.
 fn pushed(lanes: &mut Lanes, cpu: u16, stamp: u64, wakes: bool) -> Option<u32> {
     if cpu > 8191 || stamp > 4_294_967_295_999_999 || lanes.next_line(cpu) > 4_294_967_295 {
         return None;
@@ -36,7 +36,7 @@ fn pushed(lanes: &mut Lanes, cpu: u16, stamp: u64, wakes: bool) -> Option<u32> {
     lanes.push(event).ok()
 }
 
-/// Lanes of five events, where each gets its line.
+/// Lanes of five events, each of which gets its line.
 fn lanes_of_five(alloc: Global) -> Option<Lanes> {
     let mut lanes = Lanes::new(alloc);
     for (cpu, stamp, wakes, line) in [
@@ -71,7 +71,7 @@ fn stand_at(merged: &[(Pos, Stored<'_>)], places: &[(u64, u16, u32)]) -> bool {
     merged.len() == places.len()
 }
 
-/// Whether the lanes' events on wakings stand in merged order. None where memory runs out.
+/// Whether the lanes' events on wakings stand in merged order. None if memory runs out.
 fn are_merged(alloc: Global, lanes: &Lanes) -> Option<bool> {
     let triggers = on_wakings(alloc)?;
     let merged = merged_events(alloc, lanes, &triggers).ok()?;
@@ -79,7 +79,7 @@ fn are_merged(alloc: Global, lanes: &Lanes) -> Option<bool> {
     Some(stand_at(&merged, &want))
 }
 
-/// Equal stamps stand by CPU, then by line. Events on whose name no trigger is are left out.
+/// Equal stamps stand by CPU, then by line. Events are left out if no trigger is on their name.
 #[test]
 fn named_events_in_merged_order(rt: HostRuntime) -> Result<(), Fail> {
     let lanes = lanes_of_five(rt.alloc()).ok_or("another line")?;

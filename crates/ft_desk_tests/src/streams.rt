@@ -3,8 +3,8 @@
 use std::alloc::Global;
 use std::io::{self, BufRead, ErrorKind, Read, Write};
 
-/// Shows at most `step` bytes at a time, and then its end or an error. Where it has more, that comes
-/// once only: who asks again is shown the rest.
+/// Shows at most `step` bytes at a time, and then its end or an error. If it has more, the end or
+/// error comes only once: whoever asks again is shown the rest.
 #[derive(Drop)]
 pub(crate) struct Source<'a> {
     pub(crate) text: &'a [u8],
@@ -26,7 +26,7 @@ impl<'a> Source<'a> {
         }
     }
 
-    /// Takes up what it has more, where it has shown its end or its error before.
+    /// Takes up what more it has, if it has shown its end or its error before.
     fn go_on(&mut self) {
         if !self.text.is_empty() {
             return;

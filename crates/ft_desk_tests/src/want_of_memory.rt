@@ -1,12 +1,13 @@
-//! Edits and answers where memory runs out once: what was asked in vain is done when it is asked
-//! again. Each test passes whichever allocation is refused: `tests/program/each_allocation.py`.
+//! Edits and answers for which memory runs out once: what was asked in vain is done when it is
+//! asked again. Each test passes whichever allocation is refused:
+//! `tests/program/each_allocation.py`.
 
 use crate::kept_now::{LANE, SESSION, Step, TABLE, ask, is_measured, totals_of};
 use ft_board::KeptBoard;
 use ft_desk::{Board, Desk, Done, Kept, Latency, Refused, Totals};
 
-/// Whether the edit of a step tells what it should, and answers `Later` just where the desk is
-/// deferred. Where memory runs out for it, it is asked again, and then its tables have it.
+/// Whether the edit of a step tells what it should, and answers `Later` exactly if the desk is
+/// deferred. If memory runs out for it, it is asked again, and then its tables have it.
 fn does<B: Board>(desk: &mut Desk<B>, step: Step<'_>) -> bool {
     match ask(desk, step.edit) {
         Ok(done) => done.value == step.told && is_told(done.kept, desk.is_deferred()),
@@ -29,8 +30,8 @@ fn is_told(kept: Kept, deferred: bool) -> bool {
     }
 }
 
-/// Whether the trigger with an id has counted so much, and then the desk is not deferred. Where
-/// memory runs out for it, it is asked again.
+/// Whether the trigger with an id has counted so much, and then the desk is not deferred. If memory
+/// runs out for it, it is asked again.
 fn counts<B: Board>(desk: &mut Desk<B>, id: u32, hits: Option<u64>) -> bool {
     let want = totals_of(hits);
     let answer = match desk.totals(id) {
@@ -40,8 +41,8 @@ fn counts<B: Board>(desk: &mut Desk<B>, id: u32, hits: Option<u64>) -> bool {
     answer == want && (want.is_err() || !desk.is_deferred())
 }
 
-/// Whether trigger 2 measured that, and then the desk is not deferred. Where memory runs out for
-/// it, it is asked again.
+/// Whether trigger 2 measured that, and then the desk is not deferred. If memory runs out for it,
+/// it is asked again.
 fn measures<B: Board>(desk: &mut Desk<B>, latency: Option<Latency>) -> bool {
     let answer = match desk.latencies(2) {
         Err(Refused::Memory) => desk.latencies(2),
@@ -50,8 +51,8 @@ fn measures<B: Board>(desk: &mut Desk<B>, latency: Option<Latency>) -> bool {
     is_measured(&answer, latency) && (latency.is_none() || !desk.is_deferred())
 }
 
-/// Whether trigger 2 shows the table of the session, and then the desk is not deferred. Where
-/// memory runs out for it, it is asked again.
+/// Whether trigger 2 shows the table of the session, and then the desk is not deferred. If memory
+/// runs out for it, it is asked again.
 fn shows<B: Board>(desk: &mut Desk<B>) -> bool {
     let answer = match desk.hist(2) {
         Err(Refused::Memory) => desk.hist(2),
@@ -63,7 +64,7 @@ fn shows<B: Board>(desk: &mut Desk<B>) -> bool {
     }
 }
 
-/// Whether CPU 0 lists the lane of the session. Where memory runs out for it, it is asked again.
+/// Whether CPU 0 lists the lane of the session. If memory runs out for it, it is asked again.
 fn lists<B: Board>(desk: &Desk<B>) -> bool {
     let answer = match desk.list(0) {
         Err(Refused::Memory) => desk.list(0),

@@ -48,7 +48,7 @@ same-unless-idle : (place : Pos) (turn : Handover) (idle : Bool) (s t : Since) �
 same-unless-idle place turn true s t same = refl
 same-unless-idle place turn false s t same = ap (one_at place turn false) (same refl)
 
--- a dispatch from the same of each task but task 0
+-- a dispatch from the same of each task except task 0
 pub same-dispatch : (place : Pos) (act : Act) (f g : ℤ → Since) → ((pid : ℤ) → int_eq pid (pos 0) ≡ false → f pid ≡ g pid) → dispatch_of place act f ≡ dispatch_of place act g
 same-dispatch place (Waking woken) f g same = refl
 same-dispatch place (Creation created) f g same = refl

@@ -91,7 +91,7 @@ told-step : (idle : Bool) (place : Pos) (turn : Handover) (pid : ℤ) (since : S
 told-step true place turn pid since earlier other = ap (λ b. b || has_one pid earlier) (other refl)
 told-step false place turn pid since earlier other = refl
 
--- a task but task 0 ran if there is a dispatch of it
+-- a task other than task 0 ran if there is a dispatch of it
 pub ran-told : (pid : ℤ) (part : List Entry) → int_eq pid (pos 0) ≡ false → ran pid part ≡ has_one pid (reverse (dispatches part))
 unfolding dispatches
 ran-told pid [] waits = refl
@@ -126,7 +126,7 @@ switch-joined false place turn known own whole earlier is =
     ∙ ap (λ d. reverse (all_completed known earlier) ++ d ∷ []) (completed-step (has_one turn.next_pid earlier) place turn own (known turn.next_pid))
     ∙ sym (reverse-append (completed known earlier (dispatch_with place turn (ended_by place turn own)) ∷ []) (all_completed known earlier))
 
--- what is known of each task but task 0 is what acts say
+-- what is known of each task except task 0 is what acts say
 abbrev pub IsKnown : (ℤ → Since) → List Entry → Type 0
 IsKnown known before = (pid : ℤ) → int_eq pid (pos 0) ≡ false → known pid ≡ runnable_since pid before
 

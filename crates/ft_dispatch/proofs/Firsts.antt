@@ -70,7 +70,7 @@ same-completed known other same (one ∷ told) none =
     ap (λ s. cond (has_one one.pid told) one (completed_by s one) ∷ all_completed known told) (same one.pid parts.0)
     ∙ ap (λ (ds : List Dispatch). completed other told one ∷ ds) (same-completed known other same told parts.1)
 
--- the same dispatches by what is known of each task but task 0
+-- the same dispatches by what is known of each task except task 0
 pub same-joined : (known other : ℤ → Since) (told : List Dispatch) → ((pid : ℤ) → int_eq pid (pos 0) ≡ false → known pid ≡ other pid) → has_one (pos 0) told ≡ false → joined known told ≡ joined other told
 same-joined known other told same none = ap reverse (same-completed known other same (reverse told) (has-reverse (pos 0) told ∙ none))
 

@@ -1,4 +1,4 @@
--- One dispatch more, which is held or given on.
+-- One dispatch more, which is held or passed on.
 use Rattle.std.specs.Prelude.{◌≡◌, ◌+◌, ◌<◌, ℕ, ℤ, Bool, true, false, ◌||◌, List, [], ◌∷◌, ◌++◌, length, reverse, take}
 use Rattle.std.specs.List.{list_any}
 use Rattle.std.specs.Ordering.{int_cmp, int_eq, is_eq}
@@ -46,7 +46,7 @@ had-one told one pid true is has =
     let here : has_one pid told ≡ true = ap (λ (p : ℤ). has_one p told) (sym (same-pid one.pid pid (sym is))) ∙ has in
     here ∙ sym (ap (λ b. b || true) here)
 
--- a dispatch of a task that has one is given on
+-- a dispatch of a task that has one is passed on
 pub given-more : (held : FirstOnes) (told given out : List Dispatch) (one : Dispatch) → Holds held told → given ++ out ≡ others told → has_task one.pid held.tasks ≡ true
     → Holds held (told ++ one ∷ []) × (given ++ (out ++ one ∷ []) ≡ others (told ++ one ∷ []))
 given-more held told given out one holds is found =

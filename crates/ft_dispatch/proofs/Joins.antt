@@ -17,7 +17,7 @@ behind-left : (has : Bool) (part before : Since) → over part (cond has unknown
 behind-left true part before = over-unknown part
 behind-left false part before = refl
 
--- the tells of both
+-- the joined map tells what both told
 pub joins : (move : Pos → Pos) (old part new : Tasks) (ones behind : List Dispatch)
     → ((pid : ℤ) → known new.since pid ≡ over (since_behind move (known part.since pid)) (left_over (known old.since) (list_map (dispatch_behind move) ones) pid)) → behind ≡ joined (known old.since) (list_map (dispatch_behind move) ones)
     → Joins move old part ones new behind

@@ -12,7 +12,7 @@ use Rattle.ft_dispatch.specs.declared.dispatch.Dispatch.{Dispatch}
 use Rattle.ft_dispatch.specs.declared.dispatch.Since.{Since}
 use Rattle.ft_dispatch.proofs.Firsts.{has-behind, has-completed, firsts-joined}
 
--- ---- they stay where the first ones are completed
+-- ---- they stay the same if the first ones are completed
 
 other-step : (known : ℤ → Since) (has : Bool) (one : Dispatch) (told : List Dispatch) → other_ones (all_completed known told) ≡ other_ones told
     → cond has (cond has one (completed_by (known one.pid) one) ∷ other_ones (all_completed known told)) (other_ones (all_completed known told)) ≡ cond has (one ∷ other_ones told) (other_ones told)

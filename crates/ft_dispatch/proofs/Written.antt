@@ -27,7 +27,7 @@ known-written m n stored pid q since same h = ap (λ o. unwrap_or o unknown) h �
 pub same-pid : (p q : ℤ) → int_eq p q ≡ true → p ≡ q
 same-pid p q h = (signed_Decides p q).0 h
 
--- a choice whose first part is another where it is taken
+-- a choice with another first part, which is the same if the first part is taken
 pub pick : {A : Type 0} (b : Bool) (x y z : A) → (b ≡ true → x ≡ y) → cond b x z ≡ cond b y z
 pick true x y z h = h refl
 pick false x y z h = refl

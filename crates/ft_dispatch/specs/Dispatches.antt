@@ -70,7 +70,7 @@ blocked_at place since = record { woken = since.woken; created = since.created; 
 abbrev pub ended_by : Pos → Handover → Since → Since
 ended_by place turn since = if int_eq turn.prev_pid turn.next_pid then blocked_at place since else since
 
--- the dispatch by a switch at a place; task 0 runs where no other can, and waits for nothing
+-- the dispatch by a switch at a place; task 0 runs if no other can, and waits for nothing
 abbrev pub dispatch_at : Pos → Handover → Since → List Dispatch
 dispatch_at place turn since =
     if int_eq turn.next_pid (pos 0) then []

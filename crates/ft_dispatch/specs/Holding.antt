@@ -16,6 +16,6 @@ pub record Holds (held : FirstOnes) (told : List Dispatch) : Type 0 where
   pub ones : held.ones.items ≡ firsts told
   pub tasks : (pid : ℤ) → has_task pid held.tasks ≡ has_one pid told
 
--- after whatever dispatches, these follow: the first ones are held, and the others are given on
+-- after whatever dispatches, these follow: the first ones are held, and the others are passed on
 abbrev pub TakesOn : List Dispatch → FirstOnes → List Dispatch → FirstOnes → List Dispatch → Type 0
 TakesOn more old out new out_now = (told given : List Dispatch) → Holds old told → given ++ out ≡ others told → Holds new (told ++ more) × (given ++ out_now ≡ others (told ++ more))

@@ -46,7 +46,7 @@ entries_of acts = list_map entry_of acts
 
 -- ---- after acts
 
--- what is known of each task but task 0, which waits for nothing, is what these acts say, newest first, and their dispatches are told
+-- what is known of each task, except task 0, which waits for nothing, is what these acts say, newest first, and their dispatches are told
 pub record Tells (tasks : Tasks) (before : List (Pos × Act)) (told : List Dispatch) : Type 0 where
   pub knows : (pid : ℤ) → int_eq pid (pos 0) ≡ false → known tasks.since pid ≡ runnable_since pid before
   pub tells : told ≡ dispatches before

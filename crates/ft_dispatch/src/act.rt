@@ -28,7 +28,7 @@ pub enum PrevState {
     Asleep,
     /// It is blocked: the state begins with `D`.
     Blocked,
-    /// Any other state, as that of a task that stopped or ended.
+    /// Any other state, such as that of a task that stopped or ended.
     Other,
 }
 

@@ -18,8 +18,9 @@ pub struct Since {
     pub woken: Option<Pos>,
     /// The last `sched_wakeup_new` of the task.
     pub created: Option<Pos>,
-    /// The last `sched_switch` that took the CPU from the task: of a dispatch whose switch takes the CPU
-    /// from the task and gives it back, this very switch, and the task waited for nothing.
+    /// The last `sched_switch` that took the CPU from the task. If the switch of a dispatch takes
+    /// the CPU from the task and gives it back, it is this very switch, and the task waited for
+    /// nothing.
     pub left: Option<Left>,
 }
 

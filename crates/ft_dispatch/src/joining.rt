@@ -122,10 +122,11 @@ fn put_all(
 }
 
 impl Tasks {
-    /// Joins a part that was read apart, as if its acts had followed: `part` and `dispatches` are what the
-    /// acts of the part gave from `Tasks::new` on; of the dispatches the first one of each task is enough.
-    /// Places of the part are counted from its own start: `counts` has how many events each CPU had before
-    /// it. Moves and completes the dispatches, and knows then what all acts say. Fails only for memory.
+    /// Joins a part that was read apart, as if its acts had followed: `part` and `dispatches` are
+    /// what the acts of the part gave from `Tasks::new` on; of the dispatches the first one of each
+    /// task is enough. Places of the part are counted from its own start: `counts` has how many
+    /// events each CPU had before it. Moves and completes the dispatches, and then knows what all
+    /// acts say. Fails only for memory.
     pub fn join(
         &mut self,
         part: Tasks,

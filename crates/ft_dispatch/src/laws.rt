@@ -19,9 +19,10 @@ pub fn parts_join()
         ≡ dispatches before ++ joined (λ pid. runnable_since pid before) (dispatches part) }
 {}
 
-/// A law: what a caller has to keep of a part's dispatches that are joined later. A dispatch that isn't the
-/// first one of its task stays as it is, but for its places; and the first ones may be joined without the
-/// others. Of each kind of dispatches there are as many among the first ones and the others as among all.
+/// A law: what a caller has to keep of a part's dispatches that are joined later. A dispatch that
+/// isn't the first one of its task stays as it is, except for its places; and the first ones may be
+/// joined without the others. Of each kind of dispatches there are as many among the first ones and
+/// the others as among all.
 pub fn first_ones_join()
     ensures stays { (known : ℤ → Since) (told : List Dispatch) (one : Dispatch) → has_one one.pid told ≡ true
         → joined known (told ++ one ∷ []) ≡ joined known told ++ one ∷ [] }

@@ -23,21 +23,23 @@
 //! - `PlacedAct::of`: what an event says of who runs, if it says anything; exact, `act_of`
 //!   (`specs/Acts.antt`).
 //! - `PrevState::can_run`: whether a task that a switch leaves so can still run; exact.
-//! - `Tasks::new`, `take_all`: after acts that came in any number of calls, the dispatches that were added
-//!   are those of all these acts, the oldest first: `dispatches` (`specs/Dispatches.antt`). A dispatch has
-//!   where its task was last woken, created and left, each since it last ran.
-//!   Fails only for memory. Lets through: running out of memory at any time; which dispatches are added
-//!   before that.
-//! - `Tasks::join`: a part that was read apart, from `Tasks::new` on, gives, joined to what is known after
-//!   the acts before it, what its acts give behind those: `Joins` (`specs/Joining.antt`). Of its dispatches
-//!   the first one of each task is enough: the others only get their places behind. Linear in the
-//!   dispatches and tasks of the part, times a look-up. Fails only for memory. Lets through: running out of
-//!   memory at any time; what is known, and which dispatches are completed, then.
-//! - `parts_join`, `first_ones_join`: the laws behind it, on the definitions; what joining does to the first
-//!   dispatches of tasks, and that of all others only the places move.
-//! - `FirstOnes::new`, `take_all`: of dispatches that came in any number of calls, the first one of each task is
-//!   held, and the others are given on, in their order: `Holds`, `TakesOn` (`specs/Holding.antt`). Takes the
-//!   logarithm of the tasks for each. Fails only for memory. Lets through: what is held and given on then.
+//! - `Tasks::new`, `take_all`: after acts that came in any number of calls, the dispatches that
+//!   were added are those of all these acts, the oldest first: `dispatches`
+//!   (`specs/Dispatches.antt`). A dispatch has the places where its task was last woken, created
+//!   and left, each since it last ran. Fails only for memory. Lets through: running out of memory
+//!   at any time; which dispatches are added before that.
+//! - `Tasks::join`: a part that was read apart, from `Tasks::new` on, and is joined to what is
+//!   known after the acts before it, gives what its acts give behind those: `Joins`
+//!   (`specs/Joining.antt`). Of its dispatches the first one of each task is enough: the others
+//!   only get their places behind. Linear in the dispatches and tasks of the part, times a look-up.
+//!   Fails only for memory. Lets through: running out of memory at any time; what is known, and
+//!   which dispatches are completed, then.
+//! - `parts_join`, `first_ones_join`: the laws behind it, on the definitions; what joining does to
+//!   the first dispatches of tasks, and that in all others only the places change.
+//! - `FirstOnes::new`, `take_all`: of dispatches that came in any number of calls, the first one of
+//!   each task is held, and the others are passed on, in their order: `Holds`, `TakesOn`
+//!   (`specs/Holding.antt`). Takes the logarithm of the tasks for each. Fails only for memory. Lets
+//!   through: what is held and passed on then.
 //! - `Since::waiting`: which of the three places a wait counts from, and why; exact, `waiting_since`
 //!   (`specs/Began.antt`).
 //! - `Since::awoken`: the same of only its waking and its creation; exact, `awoken`

@@ -182,12 +182,12 @@ stamp_word_of-is text word rest h some colon =
           second_is text l.letters after (word, rest) first l.no_colon l.short (next_word l.gap word rest l.behind.1 some h.in_word h.ends)
     ]
 
--- spaces that stand before a word that is not empty are a gap, where a word ends before them
+-- spaces that stand before a word that is not empty are a gap, if a word ends before them
 is_gap : (gap rest : List ℕ) → IsSpaces gap → Stops is_in_word (gap ++ rest) → Stops is_space rest → 0 < length rest → IsGap gap
 is_gap [] rest spaces ends stops some = absurd (omega (arith, ap length (nothing_left rest stops ends)))
 is_gap (b ∷ gap) rest spaces ends stops some = (omega arith, spaces)
 
--- a word before which no space stands is empty where nothing is left alone
+-- a word before which no space stands is empty only if nothing is left
 some_word : (word rest : List ℕ) → Stops is_space (word ++ rest) → Stops is_in_word rest → 0 < length (word ++ rest) → 0 < length word
 some_word [] rest stops ends some = absurd (omega (arith, ap length (nothing_left rest stops ends)))
 some_word (b ∷ word) rest stops ends some = omega arith

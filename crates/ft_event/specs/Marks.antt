@@ -17,7 +17,7 @@ pub record Writes (limit : ℕ) (digits : List ℕ) (n : ℕ) : Type 0 where
   pub value : n ≡ digits_value 10 digits
   pub within : n ≤ limit
 
--- the count and a space, or nothing where the kernel knows no count (kernel: ftrace.rst, the count of lost events)
+-- the count and a space, or nothing if the kernel knows no count (kernel: ftrace.rst, the count of lost events)
 abbrev pub CountIs : List ℕ → Option ℕ → Type 0
 CountIs column None = column ≡ []
 CountIs column (Some count) = (digits : List ℕ) × (column ≡ digits ++ codes " ") × Writes last_count digits count

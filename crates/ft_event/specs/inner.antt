@@ -1,4 +1,4 @@
--- Words of private functions, beside what the public clauses say.
+-- Definitions for private functions, besides those of the public clauses.
 pub mod Fronts
 pub mod MarkOf
 pub mod Steps

@@ -43,7 +43,7 @@ fn behind_group(text: &[u8]) -> Option<&[u8]>
 
 /// PID, spaces, perhaps GROUP, `[`, CPU, `]`, a space, and the rest.
 #[tactic(auto, unfolding(crate::specs::Columns::tail_of))]
-// Apart from it, the search for a `-` keeps its registers.
+// Not inlined, so that the search for a `-` keeps its registers.
 #[inline(never)]
 fn tail_of(text: &[u8]) -> Option<Tail<'_>>
     ensures { option_map tail_texts result ≡ tail_of text.now }

@@ -5,7 +5,7 @@ ghost use Rattle.ft_fields.specs.Traced.{last_cpu, last_stamp};
 
 use ft_fields::{Body, Comm, Event};
 
-/// What the columns of a line say of its event. TASK is a text yet: it is copied once, into the
+/// What the columns of a line say of its event. TASK is still a text: it is copied once, into the
 /// event.
 #[derive(Clone, Copy)]
 pub(crate) struct Front<'a> {
@@ -26,7 +26,7 @@ impl Front<'_> {
     ghost use Rattle.std.specs.Prelude.{◌≡◌};
     ghost use Rattle.ft_event.specs.inner.Fronts.{traced_with};
 
-    /// Makes it the line's event, where this was traced.
+    /// Makes `event` the line's event, with `body` as what was traced.
     #[inline(always)]
     pub(crate) fn put(&self, event: &mut Event, body: Body)
         ensures { event.new ≡ traced_with self.now body }

@@ -145,8 +145,8 @@ fn is_broken(line: &[u8]) -> bool
     memchr(b'\n', line).is_some()
 }
 
-/// Reads a line of a length that is read, without a line break: whether it holds an event, which it
-/// puts, or is skipped.
+/// Reads a line that is not too long and has no line break: whether it holds an event, which is put
+/// into `event`, or is skipped.
 #[tactic(auto, unfolding(crate::specs::Line::line_of, crate::specs::Line::traced_from))]
 fn put_unbroken(line: &[u8], event: &mut Event) -> Result<bool, LineFault>
     requires length { length line.now ≤ 4096 }
@@ -174,7 +174,7 @@ fn put_cut(line: &[u8], event: &mut Event) -> Result<bool, LineFault>
     put_unbroken(line, event)
 }
 
-/// What a line gives that was cut at its line break.
+/// What a line that was cut at its line break gives.
 fn answer_to_cut(line: &[u8]) -> Result<Line, LineFault>
     requires { list_any (λ b. b == 10) line.now ≡ false }
     ensures { result ≡ line_of line.now }
@@ -211,8 +211,8 @@ pub fn read_line(line: &[u8]) -> Result<Line, LineFault>
     answer_to(line)
 }
 
-/// Reads one line that was cut at its line break, as `read_line` does, but in place: whether it holds
-/// an event, which `event` then is. Where it holds none, `event` may be any.
+/// Reads one line that was cut at its line break, as `read_line` does, but in place: whether it
+/// holds an event, which `event` then is. If it holds none, `event` may be any event.
 pub fn read_cut_line(line: &[u8], event: &mut Event) -> Result<bool, LineFault>
     requires { list_any (λ b. b == 10) line.now ≡ false }
     // The line's answer, as the function that the definitions compute.

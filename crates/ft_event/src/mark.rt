@@ -22,7 +22,7 @@ pub enum Mark {
     Lost {
         /// The CPU.
         cpu: u16,
-        /// How many events were lost, where the kernel knows.
+        /// How many events were lost, if the kernel knows.
         count: Option<u64>,
     },
     /// `##### CPU n buffer started ####`: the CPU's first event comes next. Earlier ones may be
@@ -39,8 +39,8 @@ pub enum Mark {
         /// How many events were lost.
         count: u64,
     },
-    /// `# entries-in-buffer/entries-written: a/b`, and what follows: how many of the events that
-    /// were written the buffers still held.
+    /// `# entries-in-buffer/entries-written: a/b`, and what follows: how many of the written events
+    /// the buffers still held.
     Written {
         /// How many events the buffers held.
         held: u64,
@@ -49,7 +49,7 @@ pub enum Mark {
     },
 }
 
-/// The number that digits write, or `None` where it fits no `u64` or a byte is no digit.
+/// The number that digits write, or `None` if it fits no `u64` or a byte is no digit.
 #[tactic(auto, unfolding(crate::specs::Spans::limited_number))]
 fn wide_number(text: &[u8]) -> Option<u64>
     ensures { result ≡ limited_number last_count text.now }
@@ -181,11 +181,11 @@ fn first_mark(line: &[u8]) -> Option<Mark>
     written_of(line)
 }
 
-/// The mark that a line is, without its line break; `None` of any other line.
+/// The mark that a line is, without its line break; `None` for any other line.
 pub fn mark_of(line: &[u8]) -> Option<Mark>
     // What the mark says of the whole line's bytes.
     ensures meaning { IfSome result (λ mark. MarkIs line.now mark) }
-    // A line without a mark has no cuts of any.
+    // A line without a mark has no cuts of any mark.
     ensures none { IfNone result ((mark : Mark) → MarkIs line.now mark → ⊥) }
 {
     first_mark(line)

@@ -12,7 +12,7 @@ ghost use Rattle.ft_event.specs.Spans.{behind, last_cut, label_cut, limited_numb
 pub(crate) enum Class {
     /// A space.
     Space,
-    /// Any byte but a space.
+    /// Any byte except a space.
     Word,
     /// A decimal digit.
     Digit,
@@ -101,7 +101,7 @@ pub(crate) fn trimmed(text: &[u8]) -> &[u8]
 }
 
 /// Whether a text is a label of its length.
-// Where the label is known, this is a test for each byte up to the first that differs, and nothing is
+// If the label is known, this is a test for each byte up to the first that differs, and nothing is
 // called.
 #[inline(always)]
 fn is_label<const N: usize>(label: &[u8; N], text: &[u8; N]) -> bool
@@ -163,7 +163,7 @@ pub(crate) fn label_cut<'a, const N: usize>(
     None
 }
 
-/// The number that digits write, or `None` where it is above the limit or a byte is no digit.
+/// The number that digits write, or `None` if it is above the limit or a byte is no digit.
 #[tactic(auto, unfolding(crate::specs::Spans::limited_number))]
 pub(crate) fn number(text: &[u8], limit: u32) -> Option<u64>
     ensures value { result ≡ limited_number limit text.now }

@@ -6,7 +6,7 @@ use Rattle.std.specs.Str.{bytes_eq}
 use Rattle.ft_fields.specs.declared.event.Name.{Name}
 use Rattle.ft_fields.specs.declared.event.Name.TheVariants as names
 
--- how the kernel names the event, where it has a name (kernel: events.rst, the events of `sched`; histogram.rst, wakeup_latency)
+-- how the kernel names the event, if it has a name (kernel: events.rst, the events of `sched`; histogram.rst, wakeup_latency)
 abbrev pub name_text : Name → Option (List ℕ)
 name_text names.Waking = Some (codes "sched_waking")
 name_text names.Wakeup = Some (codes "sched_wakeup")

@@ -1,4 +1,4 @@
--- Words of private functions, beside what the public clauses say.
+-- Definitions for private functions, besides those of the public clauses.
 pub mod Texts
--- Words of private functions and types, which no public clause says.
+-- Definitions for private functions and types, which no public clause uses.
 pub mod Stored

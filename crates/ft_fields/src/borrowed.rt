@@ -8,7 +8,7 @@ use crate::event::{Body, Event, Matched, Turn, Wake};
 
 /// A name of at most 31 bytes, with which a text begins.
 ///
-/// What follows it there is at hand, so that a short name can be copied in one step.
+/// What follows it in the text is at hand, so that a short name can be copied in one step.
 #[derive(Clone, Copy)]
 pub struct NameRef<'a> {
     text: &'a [u8],
@@ -20,7 +20,7 @@ pub struct NameRef<'a> {
 impl<'a> NameRef<'a> {
     ghost use Rattle.ft_fields.specs.Borrowed.{name_bytes};
 
-    /// So many bytes of a text: at most 31, and as many as there are.
+    /// The first `len` bytes of a text: at most 31, and no more than there are.
     #[inline(always)]
     pub fn new(text: &'a [u8], len: usize) -> NameRef<'a>
         requires short { len ≤ 31 }
@@ -50,7 +50,7 @@ impl<'a> NameRef<'a> {
         &self.text[..self.len as usize]
     }
 
-    /// The text that it begins.
+    /// The text that begins with it.
     #[inline(always)]
     pub fn text(&self) -> &'a [u8]
         ensures within { length (name_bytes self.now) ≤ length result.now }

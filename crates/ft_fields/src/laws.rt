@@ -18,8 +18,8 @@ pub fn one_order()
     ensures ties { (p q : Pos) → pos_cmp p q ≡ Equal → p ≡ q }
 {}
 
-/// An event has a value in just the fields of its name, and a text in just the fields that hold
-/// texts.
+/// An event has a value in exactly the fields of its name, and a text in exactly those of them that
+/// hold texts.
 pub fn values_of_fields()
     ensures has { (event : Traced) (field : Field) →
         is_some (field_of event field) ≡ has_field (name_of event.body) field }

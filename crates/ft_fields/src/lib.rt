@@ -2,13 +2,13 @@
 //!
 //! An event says which task ran, on which CPU, when, and what was traced: that a task is woken,
 //! that a CPU switches to another task, or anything else. One event is not of a trace:
-//! `wakeup_latency`, which a trigger makes where it measures a latency. Filters and triggers speak
+//! `wakeup_latency`, which a trigger makes when it measures a latency. Filters and triggers speak
 //! of an event by the names of its fields. All events stand in one order: by stamp, then by CPU,
 //! then by line number.
 //!
 //! A key has one to three parts. A part is a number, a power of 2, a multiple of a bucket's size,
-//! or a text. Parts stand by kind, then by value; keys stand by their parts from the left, and a
-//! key before those that it begins.
+//! or a text. Parts are ordered by kind, then by value; keys are ordered by their parts from the
+//! left, and a key stands before those that it begins.
 //!
 //! ```ignore
 //! let mut event = Event::blank();
@@ -35,23 +35,23 @@
 //!   fields, whose stamp and CPU (`Event::LAST_CPU`) are within their limits. `Event::blank`: exact.
 //! - `Event::name`, `Event::field` (a `Value`), `field_named`, `field_text`, `Field::is_text`: the
 //!   table of fields (`specs/Fields.antt`), exact. A second clause of `field_named`, `meaning`: a
-//!   field is given just where the event has it and the text is its name.
+//!   field is given exactly if the event has it and the text is its name.
 //! - `Name::text`, `Name::called`, `Name::is_traced`: the names of events, and which of them are
 //!   traced (`specs/Names.antt`), exact. `called` has a clause `meaning` too.
-//! - `Comm::of`, `Comm::filled`, `Comm::bytes`: contracts see a list of at most 31 bytes; exact. `of`
-//!   gives none just where the text is longer; `filled` requires that it is not.
+//! - `Comm::of`, `Comm::filled`, `Comm::bytes`: contracts see a list of at most 31 bytes; exact.
+//!   `of` gives none exactly if the text is longer; `filled` requires that it is not.
 //! - `EventRef`, and in it `BodyRef`, `WakeRef`, `TurnRef` and `NameRef`: the event that one tells is
 //!   a function of it (`specs/Borrowed.antt`), and that of `Event::borrowed` is the event itself;
 //!   exact. `NameRef::text` lets through: whatever follows the name.
-//! - `Key`: contracts see a list of one to three parts. What makes one and what reads its parts is
-//!   exact.
+//! - `Key`: contracts see a list of one to three parts. The functions that make one and read its
+//!   parts are exact.
 //! - `Comm`, `Pos`, `Part`, `Key`: lawful total orders.
-//! - Law `one_order`: places stand by stamp, then CPU, then line number (`specs/Places.antt`);
-//!   places that tie are equal.
-//! - Laws `one_key_order`, `equal_keys`: keys stand by their parts from the left, a beginning
+//! - Law `one_order`: places are ordered by stamp, then CPU, then line number
+//!   (`specs/Places.antt`); places that tie are equal.
+//! - Laws `one_key_order`, `equal_keys`: keys are ordered by their parts from the left, a beginning
 //!   before what it begins (`specs/Parts.antt`); keys that tie are equal.
-//! - Law `values_of_fields`: an event has a value in just the fields of its name, and a text in
-//!   just the fields that hold texts.
+//! - Law `values_of_fields`: an event has a value in exactly the fields of its name, and a text in
+//!   exactly those of them that hold texts.
 #![tactic(auto)]
 
 mod borrowed;

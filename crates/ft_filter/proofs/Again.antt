@@ -106,7 +106,7 @@ module _ (event : Name) where
   abbrev IsOwn : Tree → Type 0
   IsOwn tree = (room : ℕ) → levels tree ≤ room → Gives (rule_of tree) room (canonical tree) tree
 
-  -- any rule reads it, in parentheses where it needs them
+  -- any rule reads it, in parentheses if it needs them
   any_rule : (rule : Rule) (tree : Tree) → IsOwn tree → (room : ℕ) → level_if (needs rule tree) (levels tree) ≤ room → Gives rule room (enclosed_if (needs rule tree) (canonical tree)) tree
   any_rule (Joined joints.Or) (Any trees) own room le = own room le
   any_rule (Joined joints.Or) (All trees) own room le = alone joints.Or room (canonical (All trees)) (All trees) (own room le)

@@ -73,7 +73,7 @@ module _ (event : Name) (whole : ℕ) where
     joined_read : (text : List ℕ) → IsRead (Joined joint) room text
     joined_read text = let read = one text in joined_behind text read.0 read.1
 
-  -- operands are read where each is
+  -- operands are read if each is
   operands_read : (room : ℕ) → ((text : List ℕ) → IsRead Operand room text) → (text : List ℕ) → IsRead (Joined joints.Or) room text
   operands_read room one = joined_read joints.Or room (joined_read joints.And room one)
 

@@ -58,7 +58,7 @@ level_if_more : (b : Bool) (n : ℕ) → level_if b n ≤ suc n
 level_if_more true n = omega arith
 level_if_more false n = omega arith
 
--- an operand of `&&` needs parentheses where one of `||` does
+-- an operand of `&&` needs parentheses if one of `||` does
 any_joined : (tree : Tree) (n : ℕ) → level_if (is_any tree) n ≤ level_if (is_joined tree) n
 any_joined (Any trees) n = omega arith
 any_joined (All trees) n = omega arith

@@ -105,12 +105,12 @@ number_forms word z = (writes_from word z, writes_to word z)
 
 -- ---- tokens
 
--- where no `-` stands
+-- if no `-` stands first
 word_len_plain : (text : List ℕ) → slice_index text 0 ≢ 45 → word_len text ≡ prefix_len is_in_name text
 word_len_plain [] other = refl
 word_len_plain (byte ∷ text) other = let e = ne_eqb byte 45 other in rw e refl
 
--- where one stands
+-- if one stands first
 word_len_minus : (text : List ℕ) → word_len (45 ∷ text) ≡ suc (prefix_len is_in_name text)
 word_len_minus text = rw one-add refl
 
@@ -144,7 +144,7 @@ word_splits (byte ∷ text) = elim (cases_eq byte 45) [
       subst (λ (k : ℕ). IsWord (byte ∷ text) (take k (byte ∷ text)) (drop k (byte ∷ text))) (sym e) here
 ]
 
--- and one alone
+-- and only one
 word_long : (text word rest : List ℕ) → IsWord text word rest → word_len text ≡ length word
 word_long text word rest h = from h.parts
   where

@@ -45,7 +45,7 @@ where_cut IsCut After fault (Some c) next read cut after = (
   λ e. inl (c, (cut c).0 refl, (after c).1 e),
 )
 
--- a fact that fails is a fault, where a test decides it
+-- a fact that fails is a fault, if a test decides it
 where_lacks : {B : Type 0} (Q A : Type 0) (fault : FilterFault) (b : Bool) (next read : Read B) → Decides b Q → A ↔ (read ≡ next)
     → Where (Q → ⊥) (read ≡ Stop fault) A ↔ (read ≡ passed_or fault b next)
 where_lacks Q A fault true next read decides after = (
@@ -166,7 +166,7 @@ token_from text cut e = from (is_quote (slice_index text 0)) e
     from true e = quoted (quoted_at text) refl e
     from false e = number (number_at text) refl e
 
--- the predicate of a token, where it may be the value
+-- the predicate of a token, if it may be the value
 abbrev token_read : ℕ → Field → Op → Token → List ℕ → Read Pred
 token_read at field op (Token.Number z) rest =
     passed_or (WrongKind at) (not (is_text field)) (passed_or (NumberRange at) (fits_i64 z) (Found (pred_of field op (literals.Number z)) rest))

@@ -124,12 +124,12 @@ pred_first pred rest = skip_none (pred_text pred ++ rest) (no_gap _ (pred_begins
 
 -- ---- what is read can be read
 
--- what was found, where what follows it was read
+-- what was found, if what follows it was read
 found_parts : {A B : Type 0} (fault : FilterFault) (o : Option A) (next : A → Read B) (read : B) (rest : List ℕ) → read_or fault o next ≡ Found read rest → (a : A) × (o ≡ Some a) × (next a ≡ Found read rest)
 found_parts fault None next read rest e = absurd cc
 found_parts fault (Some a) next read rest e = (a, refl, e)
 
--- a test passed, where what follows it was read
+-- a test passed, if what follows it was read
 passed_parts : {B : Type 0} (fault : FilterFault) (b : Bool) (next : Read B) (read : B) (rest : List ℕ) → passed_or fault b next ≡ Found read rest → (b ≡ true) × (next ≡ Found read rest)
 passed_parts fault true next read rest e = (refl, e)
 passed_parts fault false next read rest e = absurd cc

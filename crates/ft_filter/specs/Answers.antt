@@ -10,12 +10,12 @@ use Rattle.ft_filter.specs.Predicate.{Read, Found, Stop, pred_at}
 use Rattle.ft_filter.specs.FilterIs.{behind_joint, joined, made, parenthesised, most_open, whole_of}
 use Rattle.ft_filter.specs.Tree.{Tree, Trees, Not, Test, End, More, Condition}
 
--- what follows where a tree is read, and else its fault
+-- what follows if a tree is read, else its fault
 abbrev pub and_then : {A : Type 0} → Read Tree → (Tree → List ℕ → Read A) → Read A
 and_then (Found tree rest) next = next tree rest
 and_then (Stop fault) next = Stop fault
 
--- operands, each after a joint, where such a step goes on from what is after the first joint
+-- operands, each after a joint: one step reads the operand after the first joint, another goes on from what is after it
 abbrev pub going_on : (List ℕ → Read Tree) → (List ℕ → Read Trees) → List ℕ → Option (List ℕ) → Read Trees
 going_on one next text None = Found End text
 going_on one next text (Some behind) = and_then (one behind) (λ tree rest. made (More tree) (next rest))
@@ -25,7 +25,7 @@ unfoldable pub going : (List ℕ → Read Tree) → Joint → ℕ → List ℕ �
 going one joint zero text = Found End text
 going one joint (suc n) text = going_on one (going one joint n) text (behind_joint joint text)
 
--- one operand, or several with a joint between each two; there are fewer than bytes
+-- one operand, or several with a joint between each two; there are fewer operands than bytes
 unfoldable pub joined_at : (List ℕ → Read Tree) → Joint → List ℕ → Read Tree
 joined_at one joint text = and_then (one text) (λ tree rest. made (joined joint tree) (going one joint (length rest) rest))
 
@@ -33,7 +33,7 @@ joined_at one joint text = and_then (one text) (λ tree rest. made (joined joint
 abbrev pub operands_at : (List ℕ → Read Tree) → List ℕ → Read Tree
 operands_at one text = joined_at (joined_at one joints.And) joints.Or text
 
--- one operand, in a text that no space and no tab begins, where such a step reads what is after a `!` or a `(`
+-- one operand, in a text that begins with no space and no tab: one step reads what is after a `!`, another what is after a `(`
 abbrev pub operand_with : Name → ℕ → (List ℕ → Read Tree) → (List ℕ → Read Tree) → List ℕ → Read Tree
 operand_with event whole behind_not behind_paren text =
     if slice_index text 0 == 33 then behind_not (drop 1 text)

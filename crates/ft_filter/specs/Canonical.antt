@@ -11,12 +11,12 @@ use Rattle.ft_filter.specs.declared.tree.Joint.TheVariants as joints
 use Rattle.ft_filter.specs.Operators.{op_text}
 use Rattle.ft_filter.specs.Tree.{Tree, Trees, Any, All, Not, Test, End, More}
 
--- a text in double quotes, or in single quotes where it holds a double one
+-- a text in double quotes, or in single quotes if it holds a double one
 unfoldable pub quoted : List ℕ → List ℕ
 quoted text =
     if list_all (λ byte. not (byte == 34)) text then codes "\"" ++ text ++ codes "\"" else codes "'" ++ text ++ codes "'"
 
--- a value: a number in decimal digits, after a `-` where it is negative, or a quoted text
+-- a value: a number in decimal digits, after a `-` if it is negative, or a quoted text
 abbrev pub literal_text : Literal → List ℕ
 literal_text (literals.Number number) = signed_decimal number
 literal_text (literals.Text text) = quoted text
@@ -31,7 +31,7 @@ abbrev pub spaced_joint_text : Joint → List ℕ
 spaced_joint_text joints.Or = codes " || "
 spaced_joint_text joints.And = codes " && "
 
--- a text in parentheses, where the test says so
+-- a text in parentheses, if the test says so
 abbrev pub enclosed_if : Bool → List ℕ → List ℕ
 enclosed_if true text = codes "(" ++ text ++ codes ")"
 enclosed_if false text = text

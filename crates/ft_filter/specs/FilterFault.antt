@@ -13,7 +13,7 @@ filter_number (BadGlob place) = 5
 filter_number (NumberRange place) = 6
 filter_number TooDeep = 7
 
--- the byte that it is at, where it has a place
+-- the byte that it is at, if it has a place
 abbrev pub filter_place : FilterFault → Option ℕ
 filter_place Memory = None
 filter_place (Syntax place) = Some place

@@ -31,7 +31,7 @@ abbrev pub joint_text : Joint → List ℕ
 joint_text joints.Or = codes "||"
 joint_text joints.And = codes "&&"
 
--- what is after the joint, where it stands next
+-- what is after the joint, if it stands next
 abbrev pub behind_joint : Joint → List ℕ → Option (List ℕ)
 behind_joint joint text = if starts_with ◌==◌ (skip text) (joint_text joint) then Some (drop 2 (skip text)) else None
 
@@ -40,7 +40,7 @@ abbrev pub tree_of_joint : Joint → Trees → Tree
 tree_of_joint joints.Or trees = Any trees
 tree_of_joint joints.And trees = All trees
 
--- a first operand and those after it: one operand alone stands for itself
+-- a first operand and those after it: a single operand stands for itself
 abbrev pub joined : Joint → Tree → Trees → Tree
 joined joint tree End = tree
 joined joint tree (More next trees) = tree_of_joint joint (More tree (More next trees))
@@ -50,7 +50,7 @@ abbrev pub made : {A B : Type 0} → (A → B) → Read A → Read B
 made f (Found found rest) = Found (f found) rest
 made f (Stop fault) = Stop fault
 
--- the tree in parentheses, where the closing one stands after it (kernel: events.rst, event filtering)
+-- the tree in parentheses, if the closing one stands after it (kernel: events.rst, event filtering)
 abbrev pub parenthesised : ℕ → Read Tree → Read Tree
 parenthesised whole (Found tree rest) =
     if starts_with ◌==◌ (skip rest) (codes ")") then Found tree (drop 1 (skip rest)) else Stop (Syntax (place whole (skip rest)))

@@ -23,7 +23,7 @@ all_ops = ops.Eq ∷ ops.Ne ∷ ops.Le ∷ ops.Ge ∷ ops.Lt ∷ ops.Gt ∷ ops.
 abbrev pub begins : List ℕ → Op → Bool
 begins text op = starts_with ◌==◌ text (op_text op)
 
--- the longest operator that the text begins with, and what is after it; a `&` before a `&` is none (kernel: events.rst, event filtering; the `&` is our own choice)
+-- the longest operator that the text begins with, and what is after it; a `&` before another `&` is no operator (kernel: events.rst, event filtering; the `&` is our own choice)
 unfoldable pub op_at : List ℕ → Option (Op × List ℕ)
 op_at text =
     if starts_with ◌==◌ text (codes "&&") then None

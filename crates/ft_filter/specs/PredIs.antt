@@ -38,7 +38,7 @@ pub record BeginsWithName (text name rest : List ℕ) : Type 0 where
 abbrev pub IsFieldOf : Name → List ℕ → Field → Type 0
 IsFieldOf event name field = (name ≡ field_text field) × IsTrue (has_field event field)
 
--- the text is an operator, the longest that stands there, and the rest; a `&` before a `&` is none (kernel: events.rst, event filtering; the `&` is our own choice)
+-- the text is an operator, the longest that stands there, and the rest; a `&` before another `&` is no operator (kernel: events.rst, event filtering; the `&` is our own choice)
 pub record IsOperator (text : List ℕ) (op : Op) (rest : List ℕ) : Type 0 where
   pub joined : text ≡ op_text op ++ rest
   pub longest : (other : Op) (behind : List ℕ) → text ≡ op_text other ++ behind → length (op_text other) ≤ length (op_text op)
@@ -106,7 +106,7 @@ OperatorGives whole field text read =
     ((value : List ℕ) × IsBehindGap cut.1 value × ValueGives whole field cut.0 value read))
     (read ≡ Stop (Syntax (place whole text)))
 
--- a text, which no space and no tab begins, gives this predicate of the event and the rest, or this first fault, with its place in the whole (kernel: events.rst, event filtering)
+-- a text, which begins with no space and no tab, gives this predicate of the event and the rest, or this first fault, with its place in the whole (kernel: events.rst, event filtering)
 unfoldable pub PredIs : Name → ℕ → List ℕ → Read Pred → Type 0
 PredIs event whole text read =
     WhereCut (λ (cut : List ℕ × List ℕ). BeginsWithName text cut.0 cut.1)

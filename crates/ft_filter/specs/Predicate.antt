@@ -25,12 +25,12 @@ pub data Read (A : Type 0) : Type 0 where
 abbrev pub place : ℕ → List ℕ → ℕ
 place whole rest = whole - length rest
 
--- what follows where a thing is there, and else the fault
+-- what follows if a thing is there, else the fault
 abbrev pub read_or : {A B : Type 0} → FilterFault → Option A → (A → Read B) → Read B
 read_or fault (Some found) next = next found
 read_or fault None next = Stop fault
 
--- what follows where a test passes, and else the fault
+-- what follows if a test passes, else the fault
 abbrev pub passed_or : {B : Type 0} → FilterFault → Bool → Read B → Read B
 passed_or fault true next = next
 passed_or fault false next = Stop fault
@@ -89,7 +89,7 @@ comparison_at whole field rest =
     passed_or (WrongKind (place whole rest)) (suits (is_text field) op.0)
     (pred_with field op.0 (literal_at whole (is_text field) op.0 (skip op.1))))
 
--- the predicate that a text begins with, which no space and no tab begins: a field of the event, an operator, a value (kernel: events.rst, event filtering)
+-- the predicate at the head of a text that begins with no space and no tab: a field of the event, an operator, a value (kernel: events.rst, event filtering)
 unfoldable pub pred_at : Name → ℕ → List ℕ → Read Pred
 pred_at event whole text =
     read_or (Syntax (place whole text)) (name_at text) (λ name.

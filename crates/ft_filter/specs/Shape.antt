@@ -22,7 +22,7 @@ use Rattle.ft_filter.specs.Tree.{Tree, Trees, Any, All, Not, Test, End, More}
 abbrev pub CanBeQuoted : List ℕ → Type 0
 CanBeQuoted text = (Contains text 34 → ⊥) ⊎ (Contains text 39 → ⊥)
 
--- the value is of the field's kind: a number of 64 bits with a sign, or a text, which is a glob after `~` alone (kernel: events.rst, event filtering)
+-- the value is of the field's kind: a number of 64 bits with a sign, or a text, which is a glob after `~` and only there (kernel: events.rst, event filtering)
 abbrev pub SuitsValue : Field → Op → Literal → Type 0
 SuitsValue field op (literals.Number z) = (IsTrue (is_text field) → ⊥) × FitsSigned w64 z
 SuitsValue field op (literals.Text text) = IsTrue (is_text field) × (op ≢ ops.Glob) × CanBeQuoted text
@@ -36,7 +36,7 @@ pub record IsPredOf (event : Name) (pred : Pred) : Type 0 where
 
 -- ---- operands
 
--- at least two operands (our own choice: one alone stands for itself)
+-- at least two operands (our own choice: a single one stands for itself)
 abbrev pub HasTwo : Trees → Type 0
 HasTwo End = ⊥
 HasTwo (More tree End) = ⊥
@@ -57,7 +57,7 @@ abbrev mutual
 
 -- ---- levels
 
--- one level more, where parentheses stand
+-- one level more, if there are parentheses
 abbrev pub level_if : Bool → ℕ → ℕ
 level_if true n = suc n
 level_if false n = n

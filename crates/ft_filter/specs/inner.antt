@@ -1,2 +1,2 @@
--- Words of private functions, which no public clause says.
+-- Definitions for private functions, which no public clause uses.
 pub mod Given

@@ -16,36 +16,36 @@ ghost use Rattle.ft_filter.specs.Predicate.{Read, pred_at};
 ghost use Rattle.ft_filter.specs.Shape.{IsFilterOf};
 ghost use Rattle.ft_filter.specs.Tree.{Tree};
 
-/// A law: the grammar relates one answer to a text, and one alone.
+/// A law: the grammar relates exactly one answer to a text.
 pub fn one_answer()
     ensures some { (event : Name) (text : List ℕ) → FilterIs event text (filter_of event text) }
     ensures one { (event : Name) (text : List ℕ) (answer : Result Tree FilterFault)
         → FilterIs event text answer → answer ≡ filter_of event text }
 {}
 
-/// A law: the canonical text of a tree that some text gives, gives that tree again.
+/// A law: a tree that some text gives is given again by its canonical text.
 pub fn reads_again()
     ensures { (event : Name) (text : List ℕ) (tree : Tree) → FilterIs event text (Ok tree)
         → FilterIs event (canonical tree) (Ok tree) }
 {}
 
 /// A law: the trees that some text on an event gives are those of the event's own predicates, with
-/// at least two operands in each any and all, and with at most 32 levels, which are the `(` and `!`
-/// that are open at once in their canonical text.
+/// at least two operands in each `Any` and `All`, and with at most 32 levels, which are the `(` and
+/// `!` that are open at once in their canonical text.
 pub fn trees_of_texts()
     ensures { (event : Name) (tree : Tree)
         → ((text : List ℕ) × FilterIs event text (Ok tree)) ↔ IsFilterOf event tree }
 {}
 
-/// A law: what a text's head is read as is the predicate, or the first fault with its place, that
-/// the conditions on its words say, in their order.
+/// A law: a text's head is read as the predicate, or the first fault with its place, that the
+/// conditions on its words say, in their order.
 pub fn predicates_of_texts()
     ensures { (event : Name) (whole : ℕ) (text : List ℕ) (read : Read Pred)
         → PredIs event whole text read ↔ (read ≡ pred_at event whole text) }
 {}
 
-/// A law: what is after a gap, and where a name, an operator or a quoted text stands first, is
-/// what the cuts of the text say.
+/// A law: what is after a gap, and which name, operator or quoted text stands first, is what the
+/// cuts of the text say.
 pub fn words_of_texts()
     ensures gap { (text rest : List ℕ) → (skip text ≡ rest) ↔ IsBehindGap text rest }
     ensures name { (text name rest : List ℕ)
@@ -56,8 +56,8 @@ pub fn words_of_texts()
         → (quoted_at text ≡ Some (inside, rest)) ↔ IsQuoted text inside rest }
 {}
 
-/// A law: a word writes a number just where it has one of the three forms, and a text begins with
-/// a number just where its word writes it.
+/// A law: a word writes a number if and only if it has one of the three forms, and a text begins
+/// with a number if and only if its word writes it.
 pub fn numbers_of_words()
     ensures word { (word : List ℕ) (z : ℤ) → (number_of word ≡ Some z) ↔ Writes word z }
     ensures token { (text : List ℕ) (z : ℤ) (rest : List ℕ)

@@ -27,15 +27,15 @@
 //!   memory at any time.
 //! - `Filter::event`, `Filter::expr`, the parts of an expression, `FilterFault::number`,
 //!   `FilterFault::place`: exact.
-//! - `Pattern::bytes`, `Pattern::matches`: exact. A pattern's bytes are a glob, so that no event
-//!   tests this again.
+//! - `Pattern::bytes`, `Pattern::matches`: exact. A pattern's bytes are always a glob, so this is
+//!   not tested again for each event.
 //! - Law `one_answer`: every text has one answer on every event.
-//! - Laws `reads_again`, `trees_of_texts`: the canonical text of a tree that some text gives, gives
-//!   that tree again; which trees those are (`specs/Shape.antt`).
+//! - Laws `reads_again`, `trees_of_texts`: a tree that some text gives is given again by its
+//!   canonical text; which trees those are (`specs/Shape.antt`).
 //! - Law `predicates_of_texts`: what the text of a predicate is read as, or its first fault with
 //!   its place, by conditions on cuts (`specs/PredIs.antt`).
 //! - Laws `words_of_texts`, `numbers_of_words`: gaps, names, operators and quoted texts by cuts; a
-//!   word writes a number just where it has one of the three forms (`specs/Numbers.antt`).
+//!   word writes a number exactly if it has one of the three forms (`specs/Numbers.antt`).
 #![tactic(auto)]
 
 mod fault;

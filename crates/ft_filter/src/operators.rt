@@ -19,15 +19,15 @@ const OPS: [Op; 8] = [
     Op::Glob,
 ];
 
-/// The first of all operators that the text begins with.
+/// The first operator, in the order of `OPS`, that the text begins with.
 fn first_op(text: &[u8]) -> Option<Op>
     ensures { result ≡ find (begins text.now) all_ops }
 {
     OPS.iter().copied().find(|op| text.starts_with(op.text()))
 }
 
-/// The longest operator that the text begins with, and what is after it. A `&` before a `&` is
-/// none.
+/// The longest operator that the text begins with, and what is after it. A `&` before another `&`
+/// is no operator.
 #[tactic(auto, unfolding(crate::specs::Operators::op_at))]
 pub(crate) fn op_at(text: &[u8]) -> Option<(Op, &[u8])>
     ensures { option_map (λ x. (x.0, x.1.now)) result ≡ op_at text.now }

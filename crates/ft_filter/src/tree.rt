@@ -204,7 +204,8 @@ impl Op {
         }
     }
 
-    /// Whether it is for fields that hold texts, or else for fields that hold numbers.
+    /// Whether it is for fields that hold texts, if `text` is true, or else for fields that hold
+    /// numbers.
     pub(crate) fn suits(self, text: bool) -> bool
         ensures { result ≡ suits text self }
     {

@@ -68,7 +68,7 @@ fn write_joined(joint: Joint, operands: &[Expr], text: &mut Vec<u8>) -> Result<(
     Ok(())
 }
 
-/// Adds an expression, in parentheses where it needs them.
+/// Adds an expression, in parentheses if it needs them.
 #[cycle(write)]
 fn write_enclosed(enclosed: bool, expr: &Expr, text: &mut Vec<u8>) -> Result<(), AllocError>
     ensures ok { OnOk result (text.new.items ≡ text.old.items
@@ -142,7 +142,7 @@ fn write_value(value: &Literal, text: &mut Vec<u8>) -> Result<(), AllocError>
     }
 }
 
-/// Adds a text in double quotes, or in single quotes where it holds a double one.
+/// Adds a text in double quotes, or in single quotes if it holds a double one.
 #[tactic(auto, unfolding(crate::specs::Canonical::quoted))]
 fn write_quoted(inside: &[u8], text: &mut Vec<u8>) -> Result<(), AllocError>
     ensures ok { OnOk result (text.new.items ≡ text.old.items ++ quoted inside.now) }

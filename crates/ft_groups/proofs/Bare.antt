@@ -57,11 +57,11 @@ pub no_filter : {X : Type 0} (f : Tree → X) (filter : Option (Bor X)) (tree : 
 no_filter f filter tree is none = grind arith
 
 module _ (hist : Hist) (unfiltered : hist.filter ≡ None) where
-  -- it asks an event for numbers alone, where no key is of a text
+  -- it asks an event only for numbers, if no key item is of a text
   pub bare_hit : list_any is_text_item hist.keys ≡ false → (event : Traced) → hit hist (bare event) ≡ hit hist event
   bare_hit numbers event = grind (arith, bare_key hist.keys event)
 
-  -- where there is one key item, events that it holds the same number of come under the same key
+  -- if there is only one key item, events that have the same number in its field come under the same key
   pub number_hit : (keys : List KeyItem) → keys ≡ hist.keys → (item : KeyItem) → slice_get keys 0 ≡ Some item → length keys ≡ 1
       → (event : Traced) (number : ℤ) → cond (same_name hist.event (name_of event.body)) (field_number event item.field) None ≡ Some number → hit hist event ≡ key_by item number
   number_hit keys are item first one event number is = grind (arith, are, only_key keys item first one event number)

@@ -1,4 +1,4 @@
--- Where keys and runs stand, and what is grouped, as a key and an event more come.
+-- Where keys and runs stand, and what is grouped, as one more key and event come.
 use Rattle.std.proofs.Common.{◌≡◌, ◌<◌, ◌++◌, ◌||◌, ℕ, suc, zero, Bool, true, cond, List, [], ◌∷◌, length, get_or, nat_lt, Option, Some, None, refl, sym, ap, subst, ◌∙◌, arith}
 use Rattle.std.specs.Prelude.{Vec, ◌==◌, unwrap_or, option_map, slice_get, slice_set}
 use Rattle.std.specs.Borrow.{Bor}
@@ -81,7 +81,7 @@ run_stands runs by_key key index stands = omega (arith, by_key.many, slice_get_w
 
 -- ---- keys
 
--- where there are no keys, each stands where its index says
+-- if there are no keys, each stands where its index says
 pub none_indexed : (keys : List (List Part)) (indices : Indices) → keys ≡ [] → indices ≡ map.empty → AreIndexed keys indices
 none_indexed keys indices none empty = record {
   stands = λ key index at. grind (arith, get-empty {X = ℕ} key_cmp key, at);
@@ -100,7 +100,7 @@ module _ (keys : List (List Part)) (indices : Indices) (indexed : AreIndexed key
     pub noted_there : list_any (same_key q) keys ≡ (list_any (same_key q) keys || same_key q key)
     noted_there = grind (arith, any_at q key keys index)
 
-    -- an event comes to its run alone
+    -- an event comes only to its run
     pub run_put : (runs : List Run) → index < length runs → (was run : Run) (e : Bor (Pos × Stored)) → was ≡ get_or runs index was → run.items ≡ was.items ++ e ∷ []
         → run_at (slice_set runs index run) (map.get indices q) ≡ run_at runs (map.get indices q) ++ cond (same_key q key) ((e.now.0, held e.now.1) ∷ []) []
     run_put runs within was run e stood pushed =
@@ -140,7 +140,7 @@ module _ (keys : List (List Part)) (indices : Indices) (indexed : AreIndexed key
 
 -- ---- groups
 
--- no events are grouped where nothing stands
+-- groups in which nothing stands are those of no events
 pub none_grouped : (hist : Hist) (groups : Grouped) → groups.keys ≡ [] → ((key : List Part) → run_of groups key ≡ []) → AreUnlike groups.keys → AreGrouped hist [] groups
 none_grouped hist groups none nothing unlike = record {
   runs = nothing;

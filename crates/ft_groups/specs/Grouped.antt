@@ -14,7 +14,7 @@ use Rattle.ft_hist.specs.Hit.{hit}
 use Rattle.ft_store.specs.Stored.{held}
 use Rattle.ft_store.specs.declared.stored.Stored.{Stored}
 
--- events with their places, where references point to them
+-- the events that references point to, with their places
 abbrev pub referenced_events : List (Bor (Pos × Stored)) → List (Pos × Traced)
 referenced_events references = list_map (λ e. (e.now.0, held e.now.1)) references
 

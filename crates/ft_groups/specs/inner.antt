@@ -1,4 +1,4 @@
--- Words of private functions: what an event makes of groups, where keys stand, which triggers read only numbers, and which numbers were met.
+-- Definitions for private functions: what an event makes of groups, where keys stand, which triggers read only numbers, and which numbers were met.
 pub mod Adding
 pub mod Finding
 pub mod Recent

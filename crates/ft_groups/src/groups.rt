@@ -55,8 +55,9 @@ impl<'a> Groups<'a> {
     }
 }
 
-/// Groups events by the key under which a trigger counts them. Tests only those on the trigger's
-/// name; if one number tells the key, not those of a number that was met lately. Refused for memory.
+/// Groups events by the key under which a trigger counts them. Only events on the trigger's name
+/// are tested; if one number tells the key, events whose number was met lately are not tested
+/// either. Refused for memory.
 pub fn grouped<'a>(
     alloc: Global,
     trigger: &Trigger,

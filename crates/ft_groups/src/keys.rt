@@ -1,4 +1,4 @@
-//! The keys of events, each found by reading as little as the trigger lets.
+//! The keys of events, each found by reading as little of the event as the trigger allows.
 
 ghost use Rattle.std.specs.Prelude.{◌≡◌, ◌+◌, ◌≤◌};
 ghost use Rattle.std.specs.List.{list_any};
@@ -10,11 +10,11 @@ use ft_fields::Field;
 use ft_hist::{Key, KeyItem, Trigger, Work};
 use ft_store::Stored;
 
-/// A trigger, and what of an event it reads to find its key.
+/// A trigger, and what it reads of an event to find the event's key.
 #[derive(Clone, Copy)]
 pub(crate) struct KeyFinder<'a> {
     trigger: &'a Trigger,
-    /// Whether it reads numbers only.
+    /// Whether it reads only numbers.
     bare: bool,
     /// The field whose number tells the key of an event, if one does.
     field: Option<Field>,

@@ -1,6 +1,6 @@
 //! Groups: the events that a trigger counts, by the key under which it counts them.
 //!
-//! Where many events come to a trigger at once, what it keeps of each key is made in one piece, from
+//! If many events come to a trigger at once, what it keeps of each key is made in one piece, from
 //! the key's events in order.
 //!
 //! ```ignore
@@ -17,7 +17,8 @@
 //! Each key under which the trigger counts an event comes once, with its events in the order of the
 //! list (`specs/Grouped.antt`). Lets through: running out of memory at any time; the order of the
 //! keys, which is that of their first events; fewer tests than there are events, since the key of a
-//! number that was met before is looked up.
+//! number that was met before is looked up; tests that are not counted, since only the ticks of
+//! `evals` are bounded, by the number of events. That each test is counted is seen in the source.
 #![tactic(auto)]
 
 mod groups;

@@ -13,7 +13,7 @@ const MOST: usize = 131_072;
 /// What spreads numbers over 64 bits: 2 to the 64, divided by the golden ratio.
 const SPREAD: u64 = 0x9e37_79b9_7f4a_7c15;
 
-/// The number that was noted last in a slot, with its index; without one if none was noted.
+/// The number that was noted last in a slot, with its index; it has no index if none was noted.
 #[derive(Clone, Copy)]
 pub(crate) struct Slot {
     number: i64,
@@ -94,7 +94,7 @@ pub(crate) fn number_for(key: &Key) -> i64 {
     hash.cast_signed()
 }
 
-/// A hash with a part more.
+/// A hash with one more part.
 fn with_part(hash: u64, part: Part) -> u64 {
     match part {
         Part::Num(number) => mixed(hash, number.cast_unsigned()),
@@ -107,7 +107,7 @@ fn with_part(hash: u64, part: Part) -> u64 {
     }
 }
 
-/// A hash with a number more.
+/// A hash with one more number.
 fn mixed(hash: u64, number: u64) -> u64 {
     (hash ^ number).wrapping_mul(SPREAD)
 }

@@ -1,4 +1,4 @@
-//! Runs: the events of each key, to which events come one after the other.
+//! Runs: the events of each key. Events come to them one after the other.
 
 ghost use Rattle.std.specs.Prelude.{◌≡◌, ◌<◌, List, [], length, Some, slice_get, IfOk, OnOk};
 ghost use Rattle.std.specs.FinMap as map;
@@ -48,7 +48,7 @@ impl<'a> Runs<'a> {
         })
     }
 
-    /// Adds an event of a key: the key's index. Refused for memory.
+    /// Adds an event of a key, and returns the key's index. Refused for memory.
     pub(crate) fn add(
         &mut self,
         key: Key,

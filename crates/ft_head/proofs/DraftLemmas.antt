@@ -14,7 +14,7 @@ none_of_map : {A B : Type 0} (f : A → B) (o : Option A) → option_map f o ≡
 none_of_map f None none = refl
 none_of_map f (Some x) none = absurd (none-some (f x) (sym none))
 
--- a part of no kind says what events are made of, is a variable's, or none that there is
+-- a part of no kind says what events are made of, is a variable's, or is no part that there is
 pub part_other : (event : Name) (draft : Draft) (part : Piece) (bytes : List ℕ) → bytes ≡ part.bytes → is_part_left_out bytes ≡ false → option_map {U = ℕ × Kind} (λ label. (length label.0, label.1)) (find (λ label. starts_with ◌==◌ bytes label.0) labels) ≡ None → with_part event draft part ≡ with_other event draft part
 unfolding with_part
 part_other event draft part bytes is kept none =
@@ -22,7 +22,7 @@ part_other event draft part bytes is kept none =
     let kept_here : is_part_left_out part.bytes ≡ false = subst (λ text. is_part_left_out text ≡ false) is kept in
     rw kept_here (rw none_here refl)
 
--- a value that begins as one that reads does is one where a name stands after that
+-- a value that begins as one that reads does is one if a name stands after that
 pub stamp_since : (value rest : List ℕ) → rest ≡ drop 24 value → bytes_eq value (codes "common_timestamp.usecs") ≡ false → starts_with ◌==◌ value (codes "common_timestamp.usecs-$") ≡ true → variable_stamp value ≡ (if is_name rest then Some (Since rest) else None)
 unfolding variable_stamp
 stamp_since value rest is saved since =

@@ -164,6 +164,6 @@ spelled_again event words called traced own pid prio =
     (step (name_before (codes ")") at_prio) (handed_with event words.own words.pid) (words.prio, []) words (before_again (codes ")") words.prio [] prio refl)
     (last_again event words called traced)))))
 
--- a part is read as words just where they spell it
+-- a part is read as words exactly if they spell it
 pub one_action : (part : List ℕ) (words : Handed) → (handed_of part ≡ Some words) ↔ IsHanded part words
 one_action part words = (handed_parts part words, λ h. subst (λ (t : List ℕ). handed_of t ≡ Some words) (sym h.is) (spelled_again h.event words h.called h.traced (name_told words.own h.own) (name_told words.pid h.pid) (name_told words.prio h.prio)))

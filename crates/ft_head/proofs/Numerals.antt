@@ -61,7 +61,7 @@ power_again k =
     let reached = rounded_reached (2 ^ k) in
     omega arith
 
--- what a text of such digits writes, where its number is rounded so
+-- what a text of such digits writes, if its number is rounded so
 written_again : (n size : ℕ) (text : List ℕ) → is_number text ≡ true → digits_value 10 text ≡ n → rounded n ≡ size → is_size size ≡ true → size_of text ≡ Some size
 written_again n size text form value same sized = rw (form, value, same, sized) refl
 
@@ -126,7 +126,7 @@ told_size text size h =
     (told_rounded (digits_value 10 text) size h.power.0 h.power.1 h.reached h.least)
     (and_from _ _ (le-leb 128 size h.least_size) (le-leb size 131072 h.most_size))
 
--- a text is read as a size just where it tells it
+-- a text is read as a size exactly if it tells it
 pub one_size : (text : List ℕ) (size : ℕ) → (size_of text ≡ Some size) ↔ IsSize text size
 one_size text size = (size_told text size, told_size text size)
 
@@ -161,7 +161,7 @@ number_up_to text n e =
     let most = and_parts (nat_le 0 (digits_value 10 text)) (nat_le (digits_value 10 text) 131072) test.1 in
     (test.0, found.1, subst (λ (m : ℕ). m ≤ 131072) found.1 (leb-true (digits_value 10 text) 131072 most.1))
 
--- a number up to the greatest size is rounded up to a size, where that is not below the least
+-- a number up to the greatest size is rounded up to a size, if that is not below the least
 pub size_found : (text : List ℕ) (n size : ℕ) → number_in 0 131072 text ≡ Some n → size ≡ rounded n → 128 ≤ size → size_of text ≡ Some size
 size_found text n size e same low =
     let number = number_up_to text n e in

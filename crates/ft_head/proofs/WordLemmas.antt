@@ -13,7 +13,7 @@ use Rattle.ft_hist.specs.declared.fault.TriggerFault.TheVariants.{LeftOut, BadMo
 use Rattle.ft_text.specs.Items.{Word, same_word, is_word}
 use Rattle.ft_head.specs.Draft.{with_key, with_field, with_value, unless, value_fault, is_left_out, is_no_key, besides_hitcount}
 
--- a word that names a field adds the field's key item, where there is room
+-- a word that names a field adds the field's key item, if there is room
 pub with_key_field : (event : Name) (keys : List KeyItem) (place : ℕ) (word : Word) (field : Field) → length keys < 3 → is_no_key word ≡ false → find (is_field_named event word.name) all_fields ≡ Some field → with_key event keys place word ≡ with_field keys place field word.suffix
 unfolding with_key
 with_key_field event keys place word field room key found = rw (lt-leb 3 (length keys) room) (rw key (rw found refl))
@@ -39,7 +39,7 @@ Refuses event place word refused = (next : Result (List Word) TriggerFault) → 
 abbrev pub is_over : Word → List Word → Bool
 is_over word words = not (is_word word (codes "hitcount")) && nat_le 3 (length (besides_hitcount words))
 
--- a word that is not one too many is refused for what is wrong with it, and else where it stands already
+-- a word that is not one too many is refused for what is wrong with it, or else if it stands already
 value_by : (event : Name) (words : List Word) (place : ℕ) (word : Word) (refused : Option TriggerFault) → is_over word words ≡ false → Refuses event place word refused → with_value event words place word ≡ option_map_or Err refused (unless ((list_any (same_word word) words, Duplicate) ∷ []) (Ok (words ++ word ∷ [])))
 unfolding with_value
 value_by event words place word refused few same = rw few (sym (same _))

@@ -24,7 +24,7 @@ use Rattle.ft_head.specs.Onmatch.{Action, Handed, handed_of}
 use Rattle.ft_text.specs.Items.{Piece, pieces, Word, word_of, is_word, same_word, is_name, is_number, number_in}
 use Rattle.ft_text.specs.Tokens.{name_at}
 
--- what has been read so far; a list that has not stood yet is none, and names are not yet resolved
+-- what has been read so far; a list that has not been read yet is none, and names are not yet resolved
 pub record Draft : Type 0 where
   pub keys : Option (List KeyItem)
   pub values : Option (List Word)
@@ -43,12 +43,12 @@ abbrev pub ◌>>=◌ : {A B : Type 0} → Result A TriggerFault → (A → Resul
 (Ok x) >>= f = f x
 (Err fault) >>= f = Err fault
 
--- the first test that is met decides, and else what follows
+-- the first test that is met decides, or else what follows
 abbrev pub unless : {A : Type 0} → List (Bool × TriggerFault) → Result A TriggerFault → Result A TriggerFault
 unless [] next = next
 unless (rule ∷ rules) next = if rule.0 then Err rule.1 else unless rules next
 
--- what follows where a thing is there, and else the fault
+-- what follows if a thing is there, or else the fault
 abbrev pub given_or : {A B : Type 0} → TriggerFault → Option A → (A → Result B TriggerFault) → Result B TriggerFault
 given_or fault (Some found) next = next found
 given_or fault None next = Err fault
@@ -81,7 +81,7 @@ buckets_of suffix = if starts_with ◌==◌ suffix (codes "buckets=") then optio
 abbrev pub number_mode : List ℕ → Option Mode
 number_mode suffix = option_or (find (mode_is_called suffix) named_modes) (buckets_of suffix)
 
--- what a modifier makes of a field: those that there are need a field of numbers (kernel: histogram.rst, modifiers)
+-- what a modifier makes of a field: each modifier needs a field of numbers (kernel: histogram.rst, modifiers)
 abbrev pub mode_of : Bool → Option (List ℕ) → Option Mode
 mode_of text None = Some modes.Plain
 mode_of text (Some suffix) = if text then None else number_mode suffix
@@ -116,7 +116,7 @@ with_key event keys place word =
 abbrev pub besides_hitcount : List Word → List Word
 besides_hitcount words = filter (λ word. not (is_word word (codes "hitcount"))) words
 
--- what is wrong with a word as a value's field: none of the event, or one that holds texts; `$name` and `hitcount` name no field (kernel: histogram.rst, `values`)
+-- what is wrong with a word as a value's field: it is no field of the event, or one that holds texts; `$name` and `hitcount` name no field (kernel: histogram.rst, `values`)
 abbrev pub value_fault : Name → Word → Option TriggerFault
 value_fault event word =
     if word.dollar || is_word word (codes "hitcount") then None
@@ -161,7 +161,7 @@ rounded number = 2 ^ first_power number number 0
 abbrev pub is_size : ℕ → Bool
 is_size size = nat_le 128 size && nat_le size 131072
 
--- the size that a text writes: its number, rounded up to a power of 2, where a table may have that (kernel: histogram.rst, `size`; that it is tested after rounding is our own choice)
+-- the size that a text writes: its number, rounded up to a power of 2, if a table may have that (kernel: histogram.rst, `size`; that it is tested after rounding is our own choice)
 abbrev pub size_of : List ℕ → Option ℕ
 size_of text = if is_number text && is_size (rounded (digits_value 10 text)) then Some (rounded (digits_value 10 text)) else None
 
@@ -223,7 +223,7 @@ with_named event draft place name value =
     (given_or (LeftOut place) (variable_stamp value) (λ stamp.
     unless ((is_taken event name stamp, Duplicate) ∷ []) (Ok (record draft { variable = Some (var_of name stamp) }))))
 
--- a part that is a name, `=` and a value; any other is none that there is (kernel: histogram.rst, inter-event hist triggers)
+-- a part that is a name, `=` and a value; any other is a syntax fault (kernel: histogram.rst, inter-event hist triggers)
 unfoldable pub with_variable : Name → Draft → Piece → Result Draft TriggerFault
 with_variable event draft part =
     given_or (Syntax part.place) (name_at part.bytes) (λ cut.

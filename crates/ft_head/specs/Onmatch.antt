@@ -19,11 +19,11 @@ pub record Handed : Type 0 where
   pub pid : List ℕ
   pub prio : List ℕ
 
--- what follows where a thing is there
+-- what follows if a thing is there
 abbrev pub with_found : {A B : Type 0} → Option A → (A → Option B) → Option B
 with_found found next = option_and_then next found
 
--- what is after a text's front, where the text begins so
+-- what is after a text's front, if the text begins with it
 abbrev pub behind : List ℕ → List ℕ → Option (List ℕ)
 behind front text = if starts_with ◌==◌ text front then Some (drop (length front) text) else None
 
@@ -35,12 +35,12 @@ name_before end text = with_found (name_at text) (λ cut. option_map (λ rest. (
 abbrev pub traced_called : List ℕ → Option Name
 traced_called text = with_found (name_called text) (λ event. if is_traced event then Some event else None)
 
--- the words of names, where nothing is after them and the first is an event's
+-- the words of names, if nothing is after them and the first is an event's
 abbrev pub handed_with : List ℕ → List ℕ → List ℕ → List ℕ × List ℕ → Option Handed
 handed_with event own pid prio =
     if length prio.1 == 0 then option_map (λ name. record { event = name; own = own; pid = pid; prio = prio.0 }) (traced_called event) else None
 
--- the words of a part, where it is of the form (kernel: histogram.rst, the `onmatch` handler)
+-- the words of a part, if it is of the form (kernel: histogram.rst, the `onmatch` handler)
 unfoldable pub handed_of : List ℕ → Option Handed
 handed_of part =
     with_found (behind (codes "onmatch(sched.") part) (λ rest.

@@ -1,4 +1,4 @@
--- Parts of a head, told by the texts that they make (kernel: histogram.rst, hist triggers).
+-- Parts of a head, defined by the texts that they make (kernel: histogram.rst, hist triggers).
 use Rattle.std.specs.Prelude.{◌≡◌, ◌==◌, ◌&&◌, ℕ, Bool, not, true, List, [], ◌∷◌, ◌++◌, Some, codes}
 use Rattle.std.specs.List.{list_all}
 use Rattle.ft_fields.specs.Names.{is_traced, name_text}

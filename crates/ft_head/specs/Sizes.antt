@@ -1,4 +1,4 @@
--- The size that a text writes, told by what it is (kernel: histogram.rst, `size`).
+-- The size that a text writes, defined by what it is (kernel: histogram.rst, `size`).
 use Rattle.std.specs.Prelude.{◌≡◌, ◌≤◌, ◌<◌, ◌^◌, ℕ, true, List, length}
 use Rattle.std.specs.Char.{is_ascii_digit}
 use Rattle.std.specs.Int.{IsPowerOfTwo}

@@ -33,7 +33,7 @@ const LEAST_SIZE: u32 = 128;
 /// The greatest size.
 const MOST_SIZE: u32 = 131_072;
 
-/// What has been read so far of a trigger's head. A list that has not stood yet is none.
+/// What has been read so far of a trigger's head. A list that has not been read yet is `None`.
 ///
 /// Contracts see a record of the same, with its names as lists of bytes.
 #[derive(Drop)]
@@ -114,7 +114,7 @@ impl<'a> Draft<'a> {
         }
     }
 
-    /// Adds a part of a kind, whose list or number this is.
+    /// Adds a part of a kind, by its list or number.
     fn add_kind(
         &mut self,
         alloc: Global,
@@ -365,8 +365,8 @@ fn kind_of(part: &[u8]) -> Option<(usize, Kind)>
     None
 }
 
-/// The size that a text writes: its number, rounded up to a power of 2. The greatest size is one,
-/// so no number above it is rounded.
+/// The size that a text writes: its number, rounded up to a power of 2. The greatest size is itself
+/// a power of 2, so no number above it is rounded.
 fn size_of(text: &[u8]) -> Option<u32>
     ensures value { result ≡ size_of text.now }
     ensures least { IfSome result (λ size. 128 ≤ size) }
@@ -379,7 +379,7 @@ fn size_of(text: &[u8]) -> Option<u32>
     Some(size)
 }
 
-/// The value of a variable's part, where it is one.
+/// The value of a variable's part, if it is one.
 #[tactic(auto, unfolding(crate::specs::Draft::variable_stamp))]
 fn stamp_of(value: &[u8]) -> Option<Stamp<'_>>
     ensures { option_map stamp_seen result ≡ variable_stamp value.now }
@@ -393,7 +393,7 @@ fn stamp_of(value: &[u8]) -> Option<Stamp<'_>>
     None
 }
 
-/// The time since the stamp that a name saves, where it is a name.
+/// The time since the stamp that a name saves, if it is a name.
 fn since(source: &[u8]) -> Option<Stamp<'_>>
     ensures { option_map stamp_seen result
         ≡ (if is_name source.now then Some (Since source.now) else None) }

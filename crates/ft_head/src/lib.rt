@@ -1,7 +1,7 @@
 //! The head of a hist trigger's text: its parts, read from left to right into a draft. A part is a
 //! list of keys, values or sort items, a size, a variable, or what events are made of; the first
-//! fault decides. What values and sort items name is seen once all parts are read, and that stands
-//! above, with the tail.
+//! fault decides. What values and sort items name is seen once all parts are read; `ft_trigger`
+//! does that, and reads the tail.
 //!
 //! ```ignore
 //! let text = b"keys=pid,prio.log2:vals=$ts0:ts0=common_timestamp.usecs";
@@ -20,7 +20,7 @@
 //!   `parts_from` has it (`specs/Draft.antt`). Lets through: running out of memory at any time.
 //! - `Draft`, `Action`: exact. `TriggerFault` is that of `ft_hist`, passed on.
 //! - Law `sizes`: the size that a text writes.
-//! - Law `one_action`: onmatch parts are what they make when they are written again
+//! - Law `one_action`: a part is read as what events are made of exactly if it is of the form
 //!   (`specs/Onmatch.antt`, `specs/PartSpelling.antt`).
 #![tactic(auto)]
 

@@ -229,7 +229,7 @@ fn add_value<'a>(
     }
 }
 
-/// Adds a word that begins at a place as a value.
+/// Adds, as a value, a word that begins at a place.
 #[tactic(auto, unfolding(crate::specs::Draft::with_value))]
 fn with_value<'a>(
     words: &mut Vec<Word<'a>>,
@@ -274,7 +274,7 @@ fn value_count(words: &[Word<'_>]) -> usize
     }
 }
 
-/// What is wrong with a word that begins at a place as a value, whatever stands before it.
+/// What is wrong, as a value, with a word that begins at a place, whatever stands before it.
 fn word_fault(event: Name, place: usize, word: &Word<'_>) -> Option<TriggerFault>
     ensures { (next : Result (List Word) TriggerFault) →
         option_map_or Err result next
@@ -297,7 +297,7 @@ fn word_fault(event: Name, place: usize, word: &Word<'_>) -> Option<TriggerFault
     value_fault(event, word)
 }
 
-/// What is wrong with a word as a value's field, where something is.
+/// What is wrong with a word as a value's field, if something is.
 fn value_fault(event: Name, word: &Word<'_>) -> Option<TriggerFault>
     ensures { result ≡ value_fault event word.now }
 {
@@ -368,7 +368,7 @@ fn with_sort<'a>(words: &mut Vec<Word<'a>>, word: Word<'a>) -> Result<(), Trigge
     keep(words, word)
 }
 
-/// Whether the suffix, where there is one, says which way.
+/// Whether the suffix, if there is one, says which way.
 fn is_direction(suffix: Option<&[u8]>) -> bool
     ensures { result ≡ is_direction (option_copied suffix.entry) }
 {

@@ -70,7 +70,7 @@ impl<'a> Action<'a> {
 }
 
 impl<'a> Handed<'a> {
-    /// What events are made of, where the event has both fields and they hold numbers.
+    /// What events are made of, if the event has both fields and they hold numbers.
     pub fn action(&self, event: Name) -> Result<Action<'a>, TriggerFault>
         ensures { Gives (λ action. action) (action_of event self.now) result }
     {
@@ -98,7 +98,7 @@ fn number_field(event: Name, name: &[u8]) -> Result<Field, TriggerFault>
     }
 }
 
-/// The words of a part, where it is of the form.
+/// The words of a part, if it is of the form.
 #[tactic(auto, unfolding(crate::specs::Onmatch::handed_of))]
 pub(crate) fn handed_of(part: &[u8]) -> Option<Handed<'_>>
     ensures { result ≡ handed_of part.now }

@@ -8,10 +8,11 @@ ghost use Rattle.ft_replay.specs.Replay.{replay};
 ghost use Rattle.ft_held_waits.specs.Latencies.{AreLatencyTriggers, both, saver_of_wakings, reader_of_switches};
 ghost use Rattle.ft_held_waits.specs.Latencies.{dropped_by, task_pairs, woken_pairs};
 
-/// A law: if one trigger saves the stamp of each waking for the task that is woken, and another reads
-/// it at each switch for the task that the CPU goes to, what they match are the dispatches that have a
-/// waking, in order: the saving event is the waking, and the reading one the switch. The saver's table
-/// must have had room for each of its hits. Task 0 may be matched, and has no dispatch.
+/// A law: if one trigger saves the stamp of each waking for the task that is woken, and another
+/// reads it at each switch for the task that the CPU goes to, what they match are the dispatches
+/// that have a waking, in order: the saving event is the waking, and the reading event is the
+/// switch. The saver's table must have had room for each of its hits. Task 0 may be matched, and
+/// has no dispatch.
 ///
 /// Other triggers may be attached, if none reads what this one saves; if no third trigger is attached,
 /// any two such triggers are so.

@@ -106,7 +106,7 @@ module _ (laws : FieldLaws) (event : Traced) where
       from (Some part) None h more = absurd cc
       from (Some part) (Some rest) h more = refl
 
-  -- an event is a hit just where it is asked about
+  -- an event is a hit exactly if it is asked about
   pub asked_is_hit : (hist : Hist) → list_all (key_suits hist.event) hist.keys ≡ true → is_some (hit hist event) ≡ is_asked hist event
   asked_is_hit hist sound = from (is_asked hist event) refl
     where

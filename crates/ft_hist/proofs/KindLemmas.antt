@@ -1,4 +1,4 @@
--- Key items match where they make parts of the same kinds.
+-- Key items match exactly if they make parts of the same kinds.
 use Rattle.std.specs.Prelude.{◌≡◌, ◌↔◌, Bool, true, false, IsTrue, ◌&&◌, List, [], ◌∷◌, map}
 use Rattle.std.proofs.Common.{refl, sym, ap, ◌∙◌}
 use Rattle.std.proofs.lemmas.Bool.{and_parts}
@@ -7,7 +7,7 @@ use Rattle.ft_hist.specs.Matching.{item_kind, keys_match}
 use Rattle.ft_hist.specs.Modifiers.{same_kind}
 use Rattle.ft_hist.proofs.ModifierLemmas.{kind_same, kind_itself}
 
--- the first of two tests, where both pass
+-- the first of two tests passes if both do
 first_true : (a b : Bool) → (a && b) ≡ true → a ≡ true
 first_true true b e = refl
 first_true false b e = cc
@@ -38,6 +38,6 @@ kinds_match (x ∷ xs) (y ∷ ys) e =
     both_true (same_kind (item_kind x) (item_kind y)) (keys_match xs ys)
     (ap (λ kind. same_kind (item_kind x) kind) (sym first) ∙ kind_itself (item_kind x)) (kinds_match xs ys rest)
 
--- key items match just where they make parts of the same kinds
+-- key items match exactly if they make parts of the same kinds
 pub keys_match_is : (xs ys : List KeyItem) → IsTrue (keys_match xs ys) ↔ (map item_kind xs ≡ map item_kind ys)
 keys_match_is xs ys = (kinds_are xs ys, kinds_match xs ys)

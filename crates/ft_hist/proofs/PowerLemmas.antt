@@ -23,7 +23,7 @@ first_power_least value (suc left) k n low high =
 reached_step : (value k other : ℕ) → value ≤ 2 ^ other → value ≤ 2 ^ (if nat_le value (2 ^ k) then k else other)
 reached_step value k other high = grind (arith, nat_tests)
 
--- the search stops at a number whose power is high enough, where its last is
+-- the search stops at a number whose power is high enough, if that of its last number is
 pub first_power_reached : (value left k : ℕ) → value ≤ 2 ^ (k + left) → value ≤ 2 ^ first_power value left k
 first_power_reached value zero k high = simp unary_clauses at high
 first_power_reached value (suc left) k high =

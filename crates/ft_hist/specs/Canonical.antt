@@ -1,4 +1,4 @@
--- The one text of a trigger that is printed.
+-- The canonical text of a trigger, which is the one that is printed.
 use Rattle.std.specs.Prelude.{ℕ, List, [], ◌∷◌, ◌++◌, slice_get, map, if◌then◌else◌, Option, Some, None, unwrap_or, codes, decimal}
 use Rattle.std.specs.Option.{option_map_or}
 use Rattle.ft_fields.specs.declared.event.Name.{Name}
@@ -50,7 +50,7 @@ by_text hist sorts.Hits = codes "hitcount"
 by_text hist (sorts.Key n) = option_map_or (λ key. field_text key.field) (slice_get hist.keys n) []
 by_text hist (sorts.Value n) = option_map_or (value_text hist.variable) (slice_get hist.values n) []
 
--- a sort item; only the greatest first has a suffix (kernel: histogram.rst, `sort`)
+-- a sort item, with a suffix only if the greatest comes first (kernel: histogram.rst, `sort`)
 abbrev pub sort_text : Hist → SortItem → List ℕ
 sort_text hist item = by_text hist item.what ++ (if item.descending then codes ".descending" else [])
 
@@ -76,7 +76,7 @@ making_text own onmatch = codes ").wakeup_latency($" ++ own ++ param_text onmatc
 abbrev pub onmatch_part : List ℕ → Onmatch → List ℕ
 onmatch_part own onmatch = matching_text onmatch.event ++ making_text own onmatch
 
--- an onmatch part after a `:`, where there is one (kernel: histogram.rst, the `onmatch` handler)
+-- an onmatch part after a `:`, if there is one (kernel: histogram.rst, the `onmatch` handler)
 abbrev pub onmatch_text : Option Var → Option Onmatch → List ℕ
 onmatch_text variable None = []
 onmatch_text variable (Some onmatch) = codes ":" ++ onmatch_part (variable_name variable) onmatch

@@ -14,11 +14,11 @@ use Rattle.ft_hist.specs.Hist.{Hist}
 use Rattle.ft_hist.specs.Modifiers.{value_part}
 use Rattle.ft_hist.specs.Triggers.{Triggers}
 
--- the part of a key that a key item makes of an event, where the event has the item's field (kernel: histogram.rst, `keys`)
+-- the part of a key that a key item makes of an event; none if the event doesn't have the item's field, or if the item's modifier makes nothing of its value (kernel: histogram.rst, `keys`)
 abbrev pub part_of : KeyItem → Traced → Option Part
 part_of item event = option_and_then (value_part item.mode) (field_of event item.field)
 
--- the parts that key items make of an event, where each makes one (kernel: histogram.rst, `keys`)
+-- the parts that key items make of an event, if each makes one (kernel: histogram.rst, `keys`)
 abbrev pub key_of : List KeyItem → Traced → Option (List Part)
 key_of [] event = Some []
 key_of (item ∷ items) event = option_and_then (λ part. option_map (λ rest. part ∷ rest) (key_of items event)) (part_of item event)
@@ -33,7 +33,7 @@ same_name names.WakeupLatency names.WakeupLatency = true
 same_name names.Other names.Other = true
 same_name a b = false
 
--- the event passes the filter, where there is one (kernel: histogram.rst, hist triggers with a filter)
+-- the event passes the filter, if there is one (kernel: histogram.rst, hist triggers with a filter)
 abbrev pub passes_filter : Option Tree → Traced → Bool
 passes_filter filter event = option_map_or (holds event) filter true
 
@@ -41,7 +41,7 @@ passes_filter filter event = option_map_or (holds event) filter true
 abbrev pub is_asked : Hist → Traced → Bool
 is_asked hist event = same_name hist.event (name_of event.body) && passes_filter hist.filter event
 
--- what a trigger counts an event under, where the event is a hit (kernel: histogram.rst, hist triggers)
+-- what a trigger counts an event under, if the event is a hit (kernel: histogram.rst, hist triggers)
 abbrev pub hit : Hist → Traced → Option (List Part)
 hit hist event = if is_asked hist event then key_of hist.keys event else None
 

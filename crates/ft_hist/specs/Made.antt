@@ -24,7 +24,7 @@ made_event at event saved onmatch = record {
   });
 }
 
--- what a trigger makes of a reading at a place, and of the saving that it found: nothing, where it has no onmatch part (kernel: histogram.rst, the `onmatch` handler)
+-- what a trigger makes of a reading at a place, and of the saving that it found: nothing if it has no onmatch part (kernel: histogram.rst, the `onmatch` handler)
 abbrev pub made_of : Hist → Pos → Traced → Pos → Option Traced
 made_of hist at event saved = option_map (made_event at event saved) hist.onmatch
 

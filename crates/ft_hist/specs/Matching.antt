@@ -8,7 +8,7 @@ use Rattle.ft_hist.specs.Modifiers.{Kind, Texts, number_kind, same_kind}
 abbrev pub item_kind : KeyItem → Kind
 item_kind item = if is_text item.field then Texts else number_kind item.mode
 
--- as many key items, and two by two of the same kind
+-- two lists have the same number of key items, and the two of each pair are of the same kind
 abbrev pub keys_match : List KeyItem → List KeyItem → Bool
 keys_match [] [] = true
 keys_match (x ∷ xs) (y ∷ ys) = same_kind (item_kind x) (item_kind y) && keys_match xs ys

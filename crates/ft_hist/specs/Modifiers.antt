@@ -28,7 +28,7 @@ named_modes = modes.Hex ∷ modes.Log2 ∷ []
 abbrev pub mode_is_called : List ℕ → Mode → Bool
 mode_is_called text mode = bytes_eq (mode_name mode) text
 
--- what stands after the `.` of a field: nothing, where no `.` stands (kernel: histogram.rst, modifiers)
+-- what stands after the `.` of a field: nothing if there is no `.` (kernel: histogram.rst, modifiers)
 abbrev pub mode_suffix : Mode → Option (List ℕ)
 mode_suffix modes.Plain = None
 mode_suffix (modes.Buckets size) = Some (mode_name (modes.Buckets size) ++ decimal size)
@@ -56,7 +56,7 @@ number_part modes.Hex z = parts.Num z
 number_part modes.Log2 z = parts.Log2 (log2_of (cast_unsigned w64 z))
 number_part (modes.Buckets size) z = parts.Bucket (bucket_of size (cast_unsigned w64 z))
 
--- what a modifier makes of a text: only no modifier at all makes something (our own choice: modifiers are for numbers)
+-- what a modifier makes of a text: a part if it is no modifier at all, else nothing (our own choice: modifiers are for numbers)
 abbrev pub text_part : Mode → List ℕ → Option Part
 text_part modes.Plain text = Some (parts.Text text)
 text_part mode text = None
@@ -82,7 +82,7 @@ number_kind modes.Hex = Numbers
 number_kind modes.Log2 = Powers
 number_kind (modes.Buckets size) = Multiples size
 
--- two kinds are the same; multiples are where their sizes are
+-- two kinds are the same; two kinds of multiples are the same exactly if their sizes are equal
 abbrev pub same_kind : Kind → Kind → Bool
 same_kind Numbers Numbers = true
 same_kind Powers Powers = true

@@ -19,7 +19,7 @@ use Rattle.ft_hist.specs.Hist.{Hist}
 use Rattle.ft_hist.specs.Hit.{same_name}
 use Rattle.ft_hist.specs.Modifiers.{mode_suits}
 
--- a key item is of a field that the event has (kernel: histogram.rst, `keys`)
+-- a key item is of a field that the event has, and its modifier suits the field (kernel: histogram.rst, `keys`)
 abbrev pub key_suits : Name → KeyItem → Bool
 key_suits event key = has_field event key.field && mode_suits (is_text key.field) key.mode
 
@@ -27,7 +27,7 @@ key_suits event key = has_field event key.field && mode_suits (is_text key.field
 abbrev pub number_suits : Name → Field → Bool
 number_suits event field = has_field event field && not (is_text field)
 
--- a value item is a field of numbers that the event has, or the own variable where there is one (kernel: histogram.rst, `values`)
+-- a value item is a field of numbers that the event has, or the own variable if there is one (kernel: histogram.rst, `values`)
 abbrev pub value_suits : Name → Option Var → Item → Bool
 value_suits event variable (items.Num field) = number_suits event field
 value_suits event variable items.Own = is_some variable

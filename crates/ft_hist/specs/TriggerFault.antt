@@ -17,7 +17,7 @@ trigger_number BadModifier = 9
 trigger_number (LeftOut place) = 10
 trigger_number (BadFilter fault) = 11
 
--- the byte that it is at, where it has a place; a filter's fault has its own
+-- the byte that it is at, if it has a place; a filter's fault has its own
 abbrev pub trigger_place : TriggerFault → Option ℕ
 trigger_place (Syntax place) = Some place
 trigger_place (LeftOut place) = Some place

@@ -9,18 +9,18 @@ use Rattle.ft_hist.specs.declared.item.Item.{Item}
 use Rattle.ft_hist.specs.declared.item.Item.TheVariants as items
 use Rattle.ft_hist.specs.Hist.{Hist}
 
--- the number that a field holds, or 0 where the event doesn't have it or it holds a text (our own choice: sums are of numbers)
+-- the number that a field holds, or 0 if the event doesn't have it or it holds a text (our own choice: sums are of numbers)
 abbrev pub number_of_field : Option Value → ℤ
 number_of_field (Some (values.Num z)) = z
 number_of_field (Some (values.Text text)) = pos 0
 number_of_field None = pos 0
 
--- what a value item is in an event, where the trigger's own variable holds `own` (kernel: histogram.rst, `values`)
+-- what a value item is in an event, if the trigger's own variable holds `own` (kernel: histogram.rst, `values`)
 abbrev pub value_of : Traced → ℤ → Item → ℤ
 value_of event own (items.Num field) = number_of_field (field_of event field)
 value_of event own items.Own = own
 
--- the value of this number in the trigger's order, from 0, or 0 where there is none (kernel: histogram.rst, `values`; 0 for none is our own choice)
+-- the value of this number in the trigger's order, from 0, or 0 if there is none (kernel: histogram.rst, `values`; 0 for none is our own choice)
 abbrev pub value_at : Hist → Traced → ℤ → ℕ → ℤ
 value_at hist event own n = option_map_or (value_of event own) (slice_get hist.values n) (pos 0)
 

@@ -14,7 +14,7 @@ use ft_fields::{Event, Key, Name, Part};
 use ft_filter::Filter;
 
 impl Trigger {
-    /// The key that it counts the event under, or `None` where the event is no hit: it is not the
+    /// The key that it counts the event under, or `None` if the event is no hit: it is not the
     /// trigger's, or does not pass its filter. Counts one test in `work`.
     pub fn hit_of(&self, event: &Event, work: &mut Work) -> Option<Key>
         ensures value { result ≡ hit self.now event.now }
@@ -29,8 +29,8 @@ impl Trigger {
         }
     }
 
-    /// The key that it counts the event under, or `None` where the event is no hit. Tests the event
-    /// where the trigger is on its name alone.
+    /// The key that it counts the event under, or `None` if the event is no hit. Tests the event
+    /// only if the trigger is on its name.
     pub fn key_of(&self, event: &Event, work: &mut Work) -> Option<Key>
         ensures key { result ≡ hit self.now event.now }
         ensures evals { work.new.evals ≡ work.old.evals + tests_taken self.now event.now }
@@ -57,7 +57,7 @@ fn is_same(a: Name, b: Name) -> bool
     a == b
 }
 
-/// Whether the event passes the filter, where there is one.
+/// Whether the event passes the filter, if there is one.
 fn passes(filter: Option<&Filter>, event: &Event) -> bool
     ensures { result
         ≡ passes_filter (option_map (λ f. f.tree) (option_copied filter.entry)) event.now }
@@ -68,7 +68,7 @@ fn passes(filter: Option<&Filter>, event: &Event) -> bool
     }
 }
 
-/// The key that key items make of an event, where each makes a part.
+/// The key that key items make of an event, if each makes a part.
 fn key_of(items: &[KeyItem], event: &Event) -> Option<Key>
     requires some { 0 < length items.now }
     requires few { length items.now ≤ 3 }
@@ -86,7 +86,8 @@ fn key_of(items: &[KeyItem], event: &Event) -> Option<Key>
     Some(Key::of_three(first, second, third))
 }
 
-/// The part of a key that a key item makes of an event, where the event has the item's field.
+/// The part of a key that a key item makes of an event; none if the event doesn't have the item's
+/// field, or if the item's modifier makes nothing of its value.
 pub(crate) fn part_of(item: KeyItem, event: &Event) -> Option<Part>
     ensures { result ≡ part_of item event.now }
 {

@@ -12,7 +12,7 @@ pub struct KeyItem {
     pub mode: Mode,
 }
 
-/// A value item: what a trigger sums beside the count of hits.
+/// A value item: what a trigger sums besides the count of hits.
 #[derive(Clone, Copy, Debug, PartialEq, Eq)]
 pub enum Item {
     /// A numeric field.

@@ -34,8 +34,8 @@ pub fn multiples()
     ensures greatest { (size value n : ℕ) → n * size ≤ value → n * size ≤ bucket_of size value }
 {}
 
-/// A law: an event is a hit of a trigger whose keys suit its event, as every trigger's do, just
-/// where it has the trigger's name and passes its filter.
+/// A law: an event is a hit of a trigger whose keys suit its event, as every trigger's do, exactly
+/// if it has the trigger's name and passes its filter.
 pub fn asked_events()
     ensures { (hist : Hist) (event : Traced)
         → IsTrue (list_all (key_suits hist.event) hist.keys)

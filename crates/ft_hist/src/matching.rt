@@ -8,9 +8,9 @@ use crate::item::KeyItem;
 use crate::trigger::Trigger;
 
 impl Trigger {
-    /// Whether its keys match those of the trigger that saves the variable that it reads: they are
-    /// as many, and two by two both plain or hexadecimal numbers, both powers, both multiples of
-    /// one size, or both texts.
+    /// Whether its keys match those of the trigger that saves the variable that it reads: there are
+    /// as many of both, and the two of each pair are both plain or hexadecimal numbers, both
+    /// powers, both multiples of one size, or both texts.
     pub fn keys_match(&self, saver: &Trigger) -> bool
         // The answer, as a function of both lists of keys.
         ensures exact { result ≡ keys_match self.now.keys saver.now.keys }
@@ -22,7 +22,8 @@ impl Trigger {
     }
 }
 
-/// Whether key items are as many, and two by two of the same kind.
+/// Whether two lists have the same number of key items, and the two of each pair are of the same
+/// kind.
 fn items_match(a: &[KeyItem], b: &[KeyItem]) -> bool
     ensures { result ≡ keys_match a.now b.now }
 {

@@ -28,7 +28,7 @@ pub enum Mode {
 /// The modifiers that are a name and nothing else.
 const NAMED: [Mode; 2] = [Mode::Hex, Mode::Log2];
 
-/// The modifier that is this name and nothing else, where there is one.
+/// The modifier that is this name and nothing else, if there is one.
 pub fn mode_named(name: &[u8]) -> Option<Mode>
     ensures { result ≡ find (mode_is_called name.now) named_modes }
 {
@@ -85,7 +85,7 @@ impl Mode {
         }
     }
 
-    /// What it makes of a text: only no modifier at all makes something.
+    /// What it makes of a text: a part if it is no modifier at all, else nothing.
     fn text_part(self, text: Comm) -> Option<Part>
         ensures { result ≡ text_part self text }
     {
@@ -119,7 +119,7 @@ fn log2_of(value: u64) -> u8
     }
 }
 
-/// The greatest multiple of the size that is not above the value; of the size 0 it is 0.
+/// The greatest multiple of the size that is not above the value; for the size 0 it is 0.
 fn bucket_of(size: u32, value: u64) -> u64
     ensures { result ≡ bucket_of size value }
 {

@@ -14,16 +14,16 @@ use ft_fields::{Body, Event, Field, Matched, Name, Pos};
 pub struct Onmatch {
     /// The event that the stamp is saved at, EVENT.
     pub event: Name,
-    /// The field of the reading event that tells the made event's `pid`, F.
+    /// The field of the reading event that gives the made event's `pid`, F.
     pub pid: Field,
-    /// The field of the reading event that tells the made event's `prio`, G.
+    /// The field of the reading event that gives the made event's `prio`, G.
     pub prio: Field,
 }
 
 impl Trigger {
-    /// The event that it makes of a latency: between this event, which reads, and the event that
-    /// saved the stamp, at this place. It has the task, the PID, the CPU and the stamp of the
-    /// reading event. `None` where the trigger has no onmatch part.
+    /// The event that it makes of the latency between this event, which reads, and the event at
+    /// this place, which saved the stamp. It has the task, the PID, the CPU and the stamp of the
+    /// reading event. `None` if the trigger has no onmatch part.
     pub fn made(&self, event: &Event, saved: Pos) -> Option<Event>
         ensures { (at : Pos) → at.stamp ≡ event.now.stamp
             → result ≡ made_of self.now at event.now saved }

@@ -63,11 +63,11 @@ pub struct TriggerParts {
 impl Trigger {
     /// A trigger of these parts, which makes no events.
     ///
-    /// `ft_trigger::parse` makes triggers of texts by it, and tests make them of parts written out.
-    /// What it asks for is what makes the parts one trigger: they are within the limits, their
-    /// items are the event's and the trigger's own, and the filter is for the event. No test of
-    /// that is offered: whoever reads a text has found it out part by part, each with a fault and a
-    /// place of its own, and would have no answer left to give here.
+    /// `ft_trigger::parse` uses it to make triggers of texts, and tests use it to make them of
+    /// parts written out. It requires what makes the parts one trigger: they are within the limits,
+    /// their items are the event's and the trigger's own, and the filter is for the event. No test
+    /// of that is offered: whoever reads a text has already checked it part by part, each with a
+    /// fault and a place of its own, and would have no answer left to give here.
     pub fn of(event: Name, parts: TriggerParts, filter: Option<Filter>) -> Trigger
         requires within { IsWithin (hist_of_parts event parts filter) }
         requires sound { IsSound (hist_of_parts event parts filter) }
@@ -127,7 +127,7 @@ impl Trigger {
         &self.sort
     }
 
-    /// Its variable, where it has one.
+    /// Its variable, if it has one.
     pub fn variable(&self) -> Option<&Var>
         ensures { option_copied result ≡ self.now.variable }
     {
@@ -143,7 +143,7 @@ impl Trigger {
         self.size
     }
 
-    /// What it makes events of, where it has an onmatch part. Then it reads a variable, and both
+    /// What it makes events of, if it has an onmatch part. Then it reads a variable, and both
     /// fields are its event's and hold numbers.
     pub fn onmatch(&self) -> Option<&Onmatch>
         ensures value { option_copied result ≡ self.now.onmatch }
@@ -162,7 +162,7 @@ impl Trigger {
         self.onmatch = onmatch;
     }
 
-    /// Its filter, where it has one. It is for the trigger's event.
+    /// Its filter, if it has one. It is for the trigger's event.
     pub fn filter(&self) -> Option<&Filter>
         ensures { option_copied result
             ≡ option_map (λ tree. record { event = self.now.event; tree = tree })

@@ -101,7 +101,7 @@ impl Triggers {
     }
 }
 
-/// Has the trigger that a map holds at an id take this filter, or none, where it stands. Answers
+/// Gives the trigger that a map holds at an id this filter, or none, in place of its own. Answers
 /// whether the map holds one there.
 fn set_filter(by_id: &mut BTreeMap<u32, Trigger>, id: u32, filter: Option<Filter>) -> bool
     requires { (hist : Hist) → map.get (seen nat_cmp by_id.old) id ≡ Some hist

@@ -9,8 +9,8 @@ use ft_fields::{Event, Value};
 
 impl Trigger {
     /// What the event adds to the sums, in the order of the trigger's values: the number that a
-    /// field holds, and `own` for the trigger's own variable. It is 0 after the last value, and
-    /// for a field that the event doesn't have or that holds a text: at a hit there is none such.
+    /// field holds, and `own` for the trigger's own variable. It is 0 after the last value, and for
+    /// a field that the event doesn't have or that holds a text: at a hit there is no such field.
     pub fn values_of(&self, event: &Event, own: i64) -> [i64; 3]
         ensures { result ≡ values_of self.now event.now own }
     {

@@ -1,4 +1,4 @@
-//! Counts of steps, which contracts alone see.
+//! Counts of steps, which only contracts see.
 
 ghost use Rattle.std.specs.Prelude.{◌≡◌, ◌+◌};
 

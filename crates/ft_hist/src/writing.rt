@@ -1,4 +1,4 @@
-//! The one text of a trigger that is printed.
+//! The canonical text of a trigger, which is the one that is printed.
 
 #![tactic(auto)]
 
@@ -126,14 +126,14 @@ fn write_value(variable: Option<&Var>, item: Item, text: &mut Vec<u8>) -> Result
             text.extend_from_slice(b"$")?;
             match variable {
                 Some(variable) => text.extend_from_slice(variable.own_name()),
-                // A trigger sums its variable only where it has one.
+                // A trigger sums its variable only if it has one.
                 None => Ok(()),
             }
         }
     }
 }
 
-/// Adds a variable's part after a `:`, where there is a variable.
+/// Adds a variable's part after a `:`, if there is a variable.
 fn write_variable(variable: Option<&Var>, text: &mut Vec<u8>) -> Result<(), AllocError>
     ensures ok { OnOk result (text.new.items ≡ text.old.items
         ++ variable_text (option_copied variable.entry)) }
@@ -180,7 +180,7 @@ fn write_sort(trigger: &Trigger, text: &mut Vec<u8>) -> Result<(), AllocError>
     Ok(())
 }
 
-/// Adds a sort item; only the greatest first has a suffix.
+/// Adds a sort item, with a suffix only if the greatest comes first.
 fn write_sort_item(trigger: &Trigger, item: SortItem, text: &mut Vec<u8>) -> Result<(), AllocError>
     ensures ok { OnOk result (text.new.items ≡ text.old.items ++ sort_text trigger.now item) }
     ensures err { OnErr result (IsFront text.old.items text.new.items) }
@@ -211,7 +211,7 @@ fn write_by(trigger: &Trigger, by: SortBy, text: &mut Vec<u8>) -> Result<(), All
     }
 }
 
-/// Adds an onmatch part after a `:`, where there is one.
+/// Adds an onmatch part after a `:`, if there is one.
 fn write_onmatch(trigger: &Trigger, text: &mut Vec<u8>) -> Result<(), AllocError>
     ensures ok { OnOk result (text.new.items ≡ text.old.items
         ++ onmatch_text trigger.now.variable trigger.now.onmatch) }
@@ -279,7 +279,7 @@ fn write_param(field: Field, text: &mut Vec<u8>) -> Result<(), AllocError>
     text.extend_from_slice(field_text(field))
 }
 
-/// Adds a filter after `if`, where there is one.
+/// Adds a filter, if there is one, after `if`.
 fn write_filter(filter: Option<&Filter>, text: &mut Vec<u8>) -> Result<(), AllocError>
     ensures ok { OnOk result (text.new.items ≡ text.old.items
         ++ if_text (option_map (λ f. f.tree) (option_copied filter.entry))) }

@@ -26,7 +26,7 @@ mark spot key = record { spot = spot; key = key }
 abbrev Pair : Type 0
 Pair = Mark × List ℤ
 
--- two marks tie where both their parts do
+-- two marks tie exactly if both their parts do
 pub marks_tie : (p q : Mark) → eq_by_cmp mark_cmp p q ≡ (eq_by_cmp spot_cmp p.spot q.spot && same_key p.key q.key)
 marks_tie p q = sym (tied_then (spot_cmp p.spot q.spot) (key_cmp p.key q.key))
 
@@ -166,7 +166,7 @@ no_hits_at by_key key q is true same =
     ∙ ap (option_and_then (λ entry. map.get entry q.spot)) is ∙ get-empty spot_cmp q.spot)
 no_hits_at by_key key q is false same = refl
 
--- can go
+-- it can go
 pub flat-clear : (by_key : HitsByKey) (key : List Part) → map.get by_key key ≡ Some map.empty → flat (map.remove by_key key) ≡ flat by_key
 flat-clear by_key key is = same_map mark_cmp_total mark_same _ _ (λ q.
     get-flat (map.remove by_key key) q ∙ ap (option_and_then (λ entry. map.get entry q.spot)) (get-remove key_cmp_total by_key key q.key)

@@ -98,7 +98,7 @@ all_sums a b d (e ∷ es) =
       at : (j n : ℕ) → (n % 2 ^ 64 + unsigned_at j e.1 + total j es) % 2 ^ 64 ≡ (n + total j (e ∷ es)) % 2 ^ 64
       at j n = one_more (2 ^ 64) n (unsigned_at j e.1) (total j es) (total j (e ∷ es)) (sum_by-cons (unsigned_at j) e.1 (values_of es))
 
--- where spots ascend, they are those of the map
+-- if the spots ascend, the sums are those of the map
 pub sums-run : (run : List (Spot × List ℤ)) → Ascend spot_cmp run → sums_behind (0 ∷ 0 ∷ 0 ∷ []) run ≡ sums_of (map.from_entries run)
 sums-run run up = all_sums 0 0 0 run ∙ (λ i. at 0 i ∷ at 1 i ∷ at 2 i ∷ []) where
   at : (j : ℕ) → (0 + total j run) % 2 ^ 64 ≡ column j (map.from_entries run)

@@ -13,7 +13,7 @@ use Rattle.ft_hits.specs.Hits.{Hits, EntryHits}
 abbrev pub HitsByKey : Type 0
 HitsByKey = FinMap key_cmp EntryHits
 
--- all hits, of the hits of each key
+-- all hits, made of the hits of each key
 unfoldable pub flat : HitsByKey → Hits
 flat by_key = map.from_entries (flat_map (λ entry. list_map (λ e. (record { spot = e.0; key = entry.0 }, e.1)) (map.entries entry.1)) (map.entries by_key))
 

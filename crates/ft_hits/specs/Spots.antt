@@ -14,7 +14,7 @@ use Rattle.ft_hits.specs.declared.spot.Spot.{Spot}
 abbrev pub traced : Pos → Spot
 traced pos = record { pos = pos; maker = 0 }
 
--- the place of a spot where an event of the trace stands; where a trigger made the event, there is none
+-- the place of a spot if an event of the trace stands there; none if a trigger made the event
 abbrev pub traced_place : Spot → Option Pos
 traced_place spot = if spot.maker == 0 then Some spot.pos else None
 

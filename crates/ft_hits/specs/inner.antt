@@ -1,2 +1,2 @@
--- Words of private functions: what an entry holds.
+-- Definitions for private functions: what an entry holds.
 pub mod Held

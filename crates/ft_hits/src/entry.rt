@@ -28,7 +28,7 @@ use std::marker::Model;
 /// The hits of one key, by spot, with the sums of their values modulo 2^64. One hit stands in the
 /// entry itself, so that a key of one hit needs no blocks.
 ///
-/// Contracts see the hits alone.
+/// Contracts see only the hits.
 #[derive(Drop)]
 pub struct Entry {
     held: Held,
@@ -90,7 +90,7 @@ impl Entry {
         }
     }
 
-    /// The hits of a run, of those at one spot the first. Refused for memory.
+    /// The hits of a run; of several at one spot, the first. Refused for memory.
     pub fn of(alloc: Global, run: Vec<(Spot, [i64; 3])>) -> Result<Entry, AllocError>
         ensures { IfOk result (λ hits. hits ≡ map.from_entries run.items) }
     {
@@ -131,7 +131,7 @@ impl Entry {
         }
     }
 
-    /// Its first hit after a spot, or its first.
+    /// Its first hit after a spot; without a spot, its first.
     fn after(&self, place: Option<Spot>) -> Option<(Spot, [i64; 3])>
         ensures { result ≡ first_entry (hits_after place self.now) }
     {
@@ -168,8 +168,8 @@ impl Entry {
         }
     }
 
-    /// Puts a hit at a spot after its first hit, if it has one before that spot: where the first
-    /// stands. Else, and where it is refused for memory, it is as it was.
+    /// Puts a hit at a spot if it has one before that spot, and answers where its first hit stands.
+    /// Else, and if it is refused for memory, it is as it was.
     fn insert_behind(
         &mut self,
         alloc: Global,
@@ -259,7 +259,7 @@ pub(crate) fn sums_at(by_key: &BTreeMap<Key, Entry>, key: &Key) -> [u64; 3]
     }
 }
 
-/// The first hit of a key after a spot, or its first.
+/// The first hit of a key after a spot; without a spot, its first.
 pub(crate) fn next_hit(by_key: &BTreeMap<Key, Entry>, key: &Key, after: Option<Spot>) -> Option<Hit>
     ensures { result ≡ hit_after (hits_in by_key.now) key.now after }
 {
@@ -292,8 +292,8 @@ pub(crate) fn holds(by_key: &BTreeMap<Key, Entry>, mark: Mark) -> bool
     }
 }
 
-/// Puts a hit in after the first of its key, if that has one before it: where the first stands.
-/// Else, and where it is refused for memory, all is as it was.
+/// Puts a hit in if its key has one before it, and answers where the key's first hit stands. Else,
+/// and if it is refused for memory, all is as it was.
 pub(crate) fn put_behind(
     alloc: Global,
     by_key: &mut BTreeMap<Key, Entry>,
@@ -335,7 +335,8 @@ pub(crate) fn put_hit(
     Ok(())
 }
 
-/// Takes the hit at a mark: whether there was one. A key without hits goes too.
+/// Takes the hit at a mark, and answers whether there was one. The key goes too if it has no hits
+/// left.
 pub(crate) fn take_hit(by_key: &mut BTreeMap<Key, Entry>, mark: Mark) -> bool
     ensures left { hits_in by_key.new ≡ map.remove (hits_in by_key.old) mark }
     ensures found { result ≡ map.contains_key (hits_in by_key.old) mark }
@@ -345,7 +346,7 @@ pub(crate) fn take_hit(by_key: &mut BTreeMap<Key, Entry>, mark: Mark) -> bool
     found
 }
 
-/// Takes the hit at a mark from its key's: whether there was one.
+/// Takes the hit at a mark from its key's entry, and answers whether there was one.
 fn take_from(by_key: &mut BTreeMap<Key, Entry>, mark: Mark) -> bool
     ensures left { hits_in by_key.new ≡ map.remove (hits_in by_key.old) mark }
     ensures found { result ≡ map.contains_key (hits_in by_key.old) mark }
@@ -356,7 +357,7 @@ fn take_from(by_key: &mut BTreeMap<Key, Entry>, mark: Mark) -> bool
     }
 }
 
-/// Takes a key out that has no hits, so that it takes no memory.
+/// Takes a key out if it has no hits, so that it takes no memory.
 fn clear_out(by_key: &mut BTreeMap<Key, Entry>, key: &Key)
     ensures { hits_in by_key.new ≡ hits_in by_key.old }
 {

@@ -64,7 +64,7 @@ impl HitIndex {
         sums_at(&self.by_key, key)
     }
 
-    /// The first hit of a key after a spot, or its first.
+    /// The first hit of a key after a spot; without a spot, its first.
     pub fn next_hit(&self, key: &Key, after: Option<Spot>) -> Option<Hit>
         ensures { result ≡ hit_after self.now key.now after }
     {
@@ -85,8 +85,8 @@ impl HitIndex {
         holds(&self.by_key, mark)
     }
 
-    /// Puts a hit in after the first of its key, if that has one before it: where the first stands.
-    /// Else, and where it is refused for memory, all is as it was.
+    /// Puts a hit in if its key has one before it, and answers where the key's first hit stands.
+    /// Else, and if it is refused for memory, all is as it was.
     pub fn put_behind(&mut self, alloc: Global, hit: &Hit) -> Result<Option<Spot>, AllocError>
         requires { map.get self.old (mark_of hit.now) ≡ None }
         ensures ok { IfOk result (λ first. MatchOption first (self.new ≡ self.old)
@@ -110,8 +110,8 @@ impl HitIndex {
         put_hit(alloc, &mut self.by_key, mark, values)
     }
 
-    /// Puts all hits of a key in, in place of those that it has. Refused for memory, and then all is as
-    /// it was.
+    /// Puts in all hits of a key, in place of those that it has. Refused for memory, and then all
+    /// is as it was.
     pub fn put_entry(&mut self, key: Key, entry: Entry) -> Result<(), AllocError>
         ensures ok { OnOk result (TakesHits key entry self.old self.new) }
         ensures err { OnErr result (self.new ≡ self.old) }
@@ -119,7 +119,8 @@ impl HitIndex {
         put(&mut self.by_key, key, entry)
     }
 
-    /// Takes the hit at a mark: whether there was one. A key without hits goes too.
+    /// Takes the hit at a mark, and answers whether there was one. The key goes too if it has no
+    /// hits left.
     pub fn take_hit(&mut self, mark: Mark) -> bool
         ensures left { self.new ≡ map.remove self.old mark }
         ensures found { result ≡ map.contains_key self.old mark }

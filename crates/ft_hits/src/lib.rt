@@ -5,8 +5,8 @@
 //! their marks. The hits of one key are an entry, by spot, with the sums of their values modulo
 //! 2^64, and an index has an entry for each key.
 //!
-//! A hit comes or goes at its mark. Where a key has none yet, all its hits come as an entry of their
-//! own, made of a run: spots with values, in any order.
+//! A hit comes or goes at its mark. If a key has no hits yet, all its hits can come at once, as an
+//! entry made of a run: spots with values, in any order.
 //!
 //! ```ignore
 //! let mut hits = HitIndex::new(rt.alloc());
@@ -23,19 +23,19 @@
 //!
 //! - `Spot::traced`: the spot of an event of the trace (`specs/Spots.antt`); exact. `Mark` and
 //!   `Hit` have plain fields (`specs/Marks.antt`).
-//! - `HitIndex::new`, `put_hit`, `take_hit`: contracts see of an index all its hits: a finite map
+//! - `HitIndex::new`, `put_hit`, `take_hit`: contracts see an index as all its hits: a finite map
 //!   from mark to values (`specs/Hits.antt`). `put_hit` puts one where none stands, and a refusal
-//!   changes nothing; `take_hit` takes one, tells whether it stood there, and needs no memory.
+//!   changes nothing; `take_hit` takes one, answers whether it stood there, and needs no memory.
 //!   `put_hit` lets through: running out of memory at any time.
-//! - `HitIndex::put_behind`: puts a hit where its key has one before it, and tells the first of
-//!   these; else, and at a refusal, nothing changes. Lets through: running out of memory at any
-//!   time; saying that the key has none before it.
+//! - `HitIndex::put_behind`: puts a hit if its key has one before it, and answers where the first
+//!   of these stands; else, and at a refusal, nothing changes. Lets through: running out of memory
+//!   at any time; saying that the key has none before it.
 //! - `HitIndex::put_entry`: a key has the hits of an entry, and all others stay. Lets through:
 //!   running out of memory at any time, and then all is as it was.
 //! - `HitIndex::count_of`, `sums_at`, `first_at`, `next_hit`, `holds`: how many hits a key has,
 //!   their sums modulo 2^64, the spot of the first, the first after a spot or of all, whether one
 //!   stands at a mark (`specs/Hits.antt`); exact.
-//! - `Entry::of`, `Entry::len`, `Entry::first`: contracts see of an entry its hits, a finite map
+//! - `Entry::of`, `Entry::len`, `Entry::first`: contracts see an entry as its hits, a finite map
 //!   from spot to values. `of` makes it of a list, and keeps the first of several hits at one spot;
 //!   exact. `of` lets through: running out of memory at any time.
 //! - `count_puts`: one tick of `puts` for each hit of a list, and none of `evals`.

@@ -18,7 +18,7 @@ const MOST: usize = usize::MAX / 2;
 /// The hits of one key in blocks, by spot, with how many they are and the sums of their values
 /// modulo 2^64.
 ///
-/// Contracts see the hits alone.
+/// Contracts see only the hits.
 #[derive(Drop)]
 pub(crate) struct Series {
     hits: Blocks<Spot, [i64; 3]>,
@@ -91,7 +91,7 @@ fn sums_of_run(run: &[(Spot, [i64; 3])]) -> Option<[u64; 3]>
     Some(sums)
 }
 
-/// The hits of a run in any order, of those at one spot the first. Refused for memory.
+/// The hits of a run in any order; of several at one spot, the first. Refused for memory.
 fn one_by_one(alloc: Global, run: &[(Spot, [i64; 3])]) -> Result<Series, AllocError>
     ensures { IfOk result (λ hits. hits ≡ map.from_entries run.now) }
 {
@@ -116,7 +116,7 @@ impl Series {
         }
     }
 
-    /// The hits of a run, of those at one spot the first. Refused for memory.
+    /// The hits of a run; of several at one spot, the first. Refused for memory.
     ///
     /// A run whose spots ascend is cut up as it stands.
     pub(crate) fn of(alloc: Global, run: Vec<(Spot, [i64; 3])>) -> Result<Series, AllocError>
@@ -150,7 +150,7 @@ impl Series {
         }
     }
 
-    /// Its first hit after a spot, or its first.
+    /// Its first hit after a spot; without a spot, its first.
     pub(crate) fn after(&self, place: Option<Spot>) -> Option<(Spot, [i64; 3])>
         ensures { result ≡ first_entry (hits_after place self.now) }
     {

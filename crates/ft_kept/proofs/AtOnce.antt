@@ -51,7 +51,7 @@ trigger_decided = decided nat_cmp_total nat_cmp-IsAntisymmetric
 abbrev pub own_at : ℕ → Pos → At
 own_at id pos = record { pos = pos; trigger = id }
 
--- where an act comes, it had none before
+-- where an act comes, there was none before
 module _ (id : ℕ) (acts : Pos → Option (List Part × Traced)) (before after : Acts) (come : AllCome id acts before after) where
   pub absent_own : (role : ℕ → Role) (admits : Admits) (variable : Variable) (pos : Pos) → op_of role admits before variable (record { pos = pos; trigger = id }) ≡ None
   absent_own role admits variable pos = op_absent role admits before variable (record { pos = pos; trigger = id }) (come.absent pos)
@@ -93,7 +93,7 @@ module _ (triggers : Triggers) (hist : Hist) (id : ℕ) (attached : map.get trig
 
 -- ---- operations
 
--- an act that does something to the variable of its key alone does it at the event of that key
+-- an act that does something only to the variable of its key does it at the event of that key
 module _ (saver : ℕ) (op : List Part → Option Op) (ops : Variable → Option Op) (act : Option (List Part × Traced))
     (here : (key : List Part) → ops (record { saver = saver; key = key }) ≡ option_and_then (λ (event : Traced). op key) (under key act))
     (elsewhere : (variable : Variable) → (variable.saver ≡ saver → ⊥) → ops variable ≡ None) where
@@ -217,7 +217,7 @@ module _ (triggers : Triggers) (hist : Hist) (id : ℕ) (attached : map.get trig
     (kept : IsKept (role_on old) (values_by triggers) (admits_on old) before (kept_on old))
     (shelf after : Shelved) (was : map.get old id ≡ Some shelf) (is : map.get new id ≡ Some after)
     (others : (i : ℕ) → (i ≡ id → ⊥) → map.get new i ≡ map.get old i) (joined : HasJoined id hist groups shelf after) where
-  -- where an operation stands that is no own one, it stood
+  -- operations on what others save stay
   foreign_ops : (variable : Variable) (q : At) → (variable.saver ≡ id → ⊥) → (kept_on new).ops variable q ≡ (kept_on old).ops variable q
   foreign_ops variable q apart = same_ops old new variable.saver (others variable.saver apart) variable.key q
 
@@ -277,7 +277,7 @@ module _ (triggers : Triggers) (hist : Hist) (id : ℕ) (attached : map.get trig
     admitted : (key : List Part) → admits_on new id key ≡ is_in after.table key
     admitted key = admits_by new id (Some after) is key ∙ ap (λ r. is_saver r && is_in after.table key) (joined.role ∙ sym (role_at old id (Some shelf) was) ∙ saves)
 
-    -- at its own places saves stand where the keys are in its table
+    -- at its own places saves stand, if the keys are in its table
     saves_are : (key : List Part) (b : Bool) (event : Option Traced) → admits_on new id key ≡ b
         → cond (b && true) (option_and_then (λ (e : Traced). Some Save) event) None ≡ option_and_then (λ (e : Traced). cond (admits_on new id key) (Some Save) None) event
     saves_are key b None admits = cond_same (b && true) None

@@ -35,7 +35,7 @@ module _ (id saver : ℕ) (shelves : Shelves) where
       by (Some shelf) is apart = absurd (none_not_some None shelf refl (among other shelf is (sym (role_at shelves other (Some shelf) is) ∙ reads) apart))
 
 module _ (shelves : Shelves) (id : ℕ) where
-  -- nothing is kept where there is no shelf
+  -- nothing is kept if there is no shelf
   pub bare_none : map.get shelves id ≡ None → IsBare id shelves
   bare_none none = record {
     hits = λ shelf is. absurd (cc (sym none ∙ is));
@@ -43,7 +43,7 @@ module _ (shelves : Shelves) (id : ℕ) where
     alone = λ saver other reads. absurd (cc (sym (role_at shelves id None none) ∙ reads));
   }
 
-  -- and where a shelf has no hits, and has nothing of what its trigger does with a variable
+  -- nor if a shelf has no hits, and has nothing of what its trigger does with a variable
   pub bare_shelf : (shelf : Shelved) → map.get shelves id ≡ Some shelf → shelf.table.hits ≡ map.empty
       → (shelf.role ≡ Saves → (key : List Part) (at : At) → ops_of shelf.ops key at ≡ None)
       → ((saver other : ℕ) → shelf.role ≡ Reads saver → role_on shelves other ≡ Reads saver → other ≡ id)

@@ -26,7 +26,7 @@ act_of pos id = record { pos = pos; trigger = id }
 
 -- ---- which triggers are done
 
--- all triggers are done but these
+-- all triggers are done, except these
 abbrev pub all_but : List (ℕ × Hist) → ℕ → Bool
 all_but es id = is_none (find nat_cmp id es)
 

@@ -17,9 +17,9 @@ use Rattle.ft_shelves.proofs.Decided.{none_not_some}
 use Rattle.ft_kept.proofs.Between.{IsFirst, all_but, asked_more, asked_of}
 use Rattle.ft_kept.proofs.Forms.{roles_stay}
 
--- ---- the tables of all savers but one trigger
+-- ---- the tables of all savers except one trigger
 
--- they stay, where all other shelves do
+-- they stay, if all other shelves do
 pub savers_but : (id : ℕ) (old new : Shelves) → ((i : ℕ) → (i ≡ id → ⊥) → map.get new i ≡ map.get old i) → OtherSaversStay id old new
 savers_but id old new others other apart saves = ap (option_map (λ (shelf : Shelved). shelf.table)) (others other apart)
 

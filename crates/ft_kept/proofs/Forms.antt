@@ -155,7 +155,7 @@ module _ (shelves : Shelves) (id : ℕ) (o : Option Shelved) (is : map.get shelv
   unfolding kept_on
   read_by pos = ap (λ (s : Option Shelved). option_and_then (λ shelf. map.get shelf.readings pos) s) is
 
--- what is kept of a trigger stays, where its shelf does
+-- what is kept of a trigger stays, if its shelf does
 module _ (old new : Shelves) (id : ℕ) (same : map.get new id ≡ map.get old id) where
   pub same_role : role_on new id ≡ role_on old id
   same_role = role_at new id (map.get old id) same ∙ sym (role_at old id (map.get old id) refl)
@@ -283,7 +283,7 @@ changed_forms id Change old new h keeps = by_id (λ i. FormStays (map.get old i)
 
 -- and whatever shelves tell
 module _ {X : Type 0} (id : ℕ) (Change : Shelved → Shelved → Type 0) (old new : Shelves) (h : ChangesShelf id Change old new) (tell : Option Shelved → X) where
-  -- stays, where it stays on the shelf
+  -- stays, if it stays on the shelf
   pub tells_same : ((shelf after : Shelved) → map.get old id ≡ Some shelf → Change shelf after → tell (Some after) ≡ tell (Some shelf)) → (i : ℕ) → tell (map.get new i) ≡ tell (map.get old i)
   tells_same same i = by_id (λ j. tell (map.get new j) ≡ tell (map.get old j)) id (here (map.get old id) refl) (λ j other. ap tell (h.others j other)) i
     where
@@ -293,7 +293,7 @@ module _ {X : Type 0} (id : ℕ) (Change : Shelved → Shelved → Type 0) (old 
           let after = h.here shelf is in
           ap tell after.1.0 ∙ same shelf after.0 is after.1.1 ∙ sym (ap tell is)
 
-  -- is what the shelf tells, where there is one
+  -- is what the shelf tells, if there is one
   pub tells_here : (x : X) → is_some (map.get old id) ≡ true → ((shelf after : Shelved) → map.get old id ≡ Some shelf → Change shelf after → tell (Some after) ≡ x) → tell (map.get new id) ≡ x
   tells_here x there on = here (map.get old id) refl
     where
@@ -340,7 +340,7 @@ module _ (saver : ℕ) (key : List Part) (edit : Ops → Ops) (old new : Shelves
     own_ops k q = tells_here saver (OpsChange key edit) old new h (λ o. ops_at o k q) (cond (same_key k key) (edit (ops_at (map.get old saver) k) q) (ops_at (map.get old saver) k q)) there
         (λ shelf after is change. change.ops k q ∙ ap (λ o. cond (same_key k key) (edit (ops_at o k) q) (ops_at o k q)) (sym is))
 
-    -- they are edited, where the saver has a shelf
+    -- they are edited, if the saver has a shelf
     pub key_ops_here : (q : At) → (kept_on new).ops (record { saver = saver; key = key }) q ≡ edit ((kept_on old).ops (record { saver = saver; key = key })) q
     key_ops_here q = own_ops key q ∙ ap (λ b. cond b (edit ((kept_on old).ops (record { saver = saver; key = key })) q) ((kept_on old).ops (record { saver = saver; key = key }) q)) (itself key_cmp_total key)
 

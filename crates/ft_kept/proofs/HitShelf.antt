@@ -152,7 +152,7 @@ module _ (admits : Admits) (id : ℕ) (k : List Part) (within : Bool) (value : L
   unfolding op_of
   saved_op role acts p unread is = saved_as (role id) unread is (acts (place id p))
 
--- where its place has the same save, and as the key then comes in, goes out or stays
+-- as the key comes in, goes out or stays, the place's save follows, if it did before
 switched_saved : (id : ℕ) (k : List Part) (p : Pos) (hits : Hits) (ops : Ops) (was now : Bool) → ops (place id p) ≡ saved was (map.get hits (mark_at p k))
     → switched was now hits id k ops (place id p) ≡ saved now (map.get hits (mark_at p k))
 switched_saved id k p hits ops true true e = e
@@ -162,7 +162,7 @@ switched_saved id k p hits ops false true e =
     ∙ ap (λ (o : Option Op). if is_some (map.get hits (mark_at p k)) then Some Save else o) e
 switched_saved id k p hits ops false false e = e
 
--- a saver's shelf, where each key's operations follow its table
+-- a saver's shelf; each key's operations follow its table
 module _ (act : Act) (shelf now : Shelved) (follows : HitFollows act.at.trigger (change_of act) shelf now) where
   abbrev with_save : Mark → List Part → Ops
   with_save m k = if same_key k m.key && is_in shelf.table m.key then set_op (place act.at.trigger m.spot.pos) (op_after (sign_of (change_of act)) Save) (ops_of shelf.ops k) else ops_of shelf.ops k
@@ -300,7 +300,7 @@ module _ (act : Act) (acts : Acts) (old : Shelves) (may : MayChange act acts old
       by Insert e = sym (hits_by old id (Some shelf) was (mark_at at.pos act.key)) ∙ e.1 act.key
       by Retract e = tt
 
-  -- ---- afterwards, where its saves follow its table and reads stay
+  -- ---- afterwards: its saves follow its table, and reads stay
 
   module _ (new : Shelves) (now : Shelved) (is : map.get new id ≡ Some now) (others : (i : ℕ) → (i ≡ id → ⊥) → map.get new i ≡ map.get old i)
       (changes : now ≡ record (with_change (change_of act) shelf) { ops = now.ops }) where

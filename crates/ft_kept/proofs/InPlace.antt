@@ -1,4 +1,4 @@
--- Where an act came or went at its own place, readings elsewhere are right, but the next one and those of keys that moved.
+-- If an act came or went at its own place, readings elsewhere are right, except perhaps the next one and those of keys that moved.
 use Rattle.std.proofs.Common.{◌≡◌, ℕ, Bool, true, false, List, refl, sym, ap, subst, ◌∙◌, Some, None, Option, inl, inr, option_map, ◌⊎◌, true≢false}
 use Rattle.ft_fields.specs.Traced.{Traced}
 use Rattle.ft_fields.specs.declared.pos.Pos.{Pos}
@@ -41,14 +41,14 @@ own_decided : (own : Option Variable) (variable : Variable) → (own ≡ Some va
 own_decided None variable = inr (λ e. absurd (cc))
 own_decided (Some v) variable = elim (variable_decided v variable) [ inl e ↦ inl (ap Some e) | inr not_own ↦ inr (λ e. not_own (cc)) ]
 
--- what holds of a place holds still, where its act stays, its hits, and what was read there
+-- what holds of a place still holds, if its act stays, and its hits, and what was read there
 pub carried : (P : Role → Option (List Part × Traced) → HitsHere → Option Pos → Type 0) (at q : At) (before after : Acts) (old new : Shelves)
     → FormsStay old new → StaysBut at (kept_on old) (kept_on new) → (q ≡ at → ⊥) → after q ≡ before q
     → P (role_on old q.trigger) (before q) (hits_here (kept_on old) q) (read_here (kept_on old) q) → P (role_on new q.trigger) (after q) (hits_here (kept_on new) q) (read_here (kept_on new) q)
 carried P at q before after old new forms stays apart same = subst (λ (x : (Role × Option (List Part × Traced)) × (HitsHere × Option Pos)). P x.0.0 x.0.1 x.1.0 x.1.1)
     (λ i. ((sym (roles_stay old new forms q.trigger) i, sym same i), (λ key. sym ((stays q apart).0 key) i, sym (stays q apart).1 i)))
 
--- what is read is right still where sources stay, or else something else holds
+-- what is read is still right if sources stay, or else something else holds
 read_or : {Else : Type 0} (ops later : Variable → Ops) (at : At) (role : Role) (act : Option (List Part × Traced)) (read : Option Pos)
     → ((saver : ℕ) (a : List Part × Traced) → role ≡ Reads saver → act ≡ Some a → KeepsSource (ops (record { saver = saver; key = a.0 })) (later (record { saver = saver; key = a.0 })) at ⊎ Else)
     → IsReading ops at role act read → IsReading later at role act read ⊎ Else
@@ -93,7 +93,7 @@ module _ (act : Act) (acts : Acts) (old : Shelves) (may : MayChange act acts old
     ];
   }
 
-  -- operations stay on a variable whose key stays in its table or out, but at the act's place
+  -- operations stay on a variable whose key stays in its table or out, except at the act's place
   ops_apart : (variable : Variable) → admits_on new variable.saver variable.key ≡ admits_on old variable.saver variable.key → (q : At) → (q ≡ act.at → ⊥) → (kept_on new).ops variable q ≡ (kept_on old).ops variable q
   ops_apart variable alike q apart =
       placed.ops variable q
@@ -133,6 +133,6 @@ module _ (act : Act) (acts : Acts) (old : Shelves) (may : MayChange act acts old
           (carried (λ role a hits read. IsReading (kept_on old).ops q role a read) act.at q acts after old new placed.forms placed.stays apart (one.elsewhere q apart) (may.views.kept.entries q).0)
     ]
 
--- where all readings are right too, shelves are views of the acts
+-- if all readings are right too, shelves are views of the acts
 pub are_views : (scene : Scene) (acts : Acts) (shelves : Shelves) → CanSettle scene acts shelves → ((q : At) → IsReadRight acts shelves q) → AreViewsOf (triggers_of scene) scene.lanes.now acts shelves
 are_views scene acts shelves can right = record { shelved = can.shelved; held = can.held; kept = record { ops = can.ops; entries = λ q. (right q, can.counted q) } }

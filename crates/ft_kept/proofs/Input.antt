@@ -1,4 +1,4 @@
--- Shelves are views of no acts but those that they tell.
+-- Shelves are views only of the acts that they tell.
 use Rattle.std.proofs.Common.{◌≡◌, refl, true, false, cond, List, sym, ap, subst, ◌∙◌, Some, None, Option, is_some, option_and_then}
 use Rattle.ft_fields.specs.Orders.{key_cmp_total}
 use Rattle.ft_fields.specs.Traced.{Traced}
@@ -21,7 +21,7 @@ module _ (triggers : Triggers) (lanes : Lanes) (acts : Acts) (shelves : Shelves)
   abbrev IsEntryAt : At → Role → Option (List Part × Traced) → Type 0
   IsEntryAt at role act = IsEntry (values_by triggers) (kept_on shelves).ops at role act (hits_here (kept_on shelves) at) (read_here (kept_on shelves) at)
 
-  -- where no act is, none is kept
+  -- where there is no act, none is kept
   none_kept : (at : At) → acts at ≡ None → (role : Role) → IsEntryAt at role None → (key : List Part) → is_kept shelves at role key ≡ false
   none_kept at none Plain entry key = ap is_some (entry.1 key)
   none_kept at none Saves entry key = ap is_some (entry.1 key)
@@ -51,7 +51,7 @@ module _ (triggers : Triggers) (lanes : Lanes) (acts : Acts) (shelves : Shelves)
           ∙ ap (option_and_then told) held.1
           ∙ ap (λ b. cond b (Some a) None) (one_kept at a there (role_on shelves at.trigger) refl entry)
 
-  -- shelves are views of these acts alone
+  -- shelves are views only of these acts
   pub acts_are : input_of triggers lanes shelves ≡ acts
   acts_are i at = act_told at i
 

@@ -56,7 +56,7 @@ module _ {K : Type 0} (e : K → K → Bool) (itself : (x : K) → e x x ≡ tru
   apart_both x [] (y ∷ ys) apart none = search (apart_both x [] ys, or_parts, rules)
   apart_both x (y ∷ xs) ys apart none = search (apart_both x xs ys, rules)
 
-  -- no two of them are the same, where none of the first is one of the second
+  -- no two of them are the same, if none of the first is one of the second
   pub distinct_both : (xs ys : List K) → IsDistinct e xs → IsDistinct e ys → ((x : K) → list_any (e x) xs ≡ true → list_any (e x) ys ≡ false) → IsDistinct e (xs ++ ys)
   unfolding IsDistinct
   distinct_both [] ys apart apart' others = apart'

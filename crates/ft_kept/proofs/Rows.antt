@@ -108,7 +108,7 @@ module _ (keys : ℕ × Hist → List (List Part)) where
       (λ row is. grind (arith, nat_tests, reported_at row.id t.0 row.key (keys t), own_reported row.id row.key (rows_among ts), own_among row.id ts, none_behind row.id t ts sorted, is))
 
   module _ (triggers : Triggers) where
-    -- none is twice among them, where no trigger's keys are
+    -- none is twice among them, if no trigger's keys are
     pub once : ((t : ℕ × Hist) → IsDistinct same_key (keys t)) → IsDistinct same_row (rows_by keys triggers)
     once each = once_among each (map.entries triggers) (entries_sorted triggers)
 
@@ -118,7 +118,7 @@ module _ (keys : ℕ × Hist → List (List Part)) where
       own = grind (arith, own_among id (map.entries triggers), one_of_id id triggers, append-nil)
 
       module _ (key : List Part) where
-        -- a row is among them just where its key is one of its trigger's
+        -- a row is among them if and only if its key is one of its trigger's
         reported : is_reported (rows_by keys triggers) id key ≡ is_of (option_map_or (λ hist. keys (id, hist)) (map.get triggers id) []) key
         reported = grind (arith, nat_tests, own_reported id key (rows_by keys triggers), own, reported_at id id key (option_map_or (λ hist. keys (id, hist)) (map.get triggers id) []))
 

@@ -1,4 +1,4 @@
--- One shelf is written back whose hit and reading at one place were taken, and put again where the reading finds a saving.
+-- One shelf is written back: its hit and reading at one place were taken, and put again if the reading finds a saving.
 use Rattle.std.proofs.Common.{◌≡◌, ℤ, List, [], ◌∷◌, refl, sym, ap, subst, ◌∙◌, Some, None, Option, option_map, inl, inr, is_some, true≢false}
 use Rattle.std.specs.Option.{option_map_or}
 use Rattle.std.specs.FinMap as map

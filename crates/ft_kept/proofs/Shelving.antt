@@ -16,7 +16,7 @@ module _ (id : ℕ) (Change : Shelved → Shelved → Type 0) (old : Shelves) wh
     here = λ s is. (after, (get-insert_same nat_cmp_total old id after, subst (λ x. Change x after) (ap (λ (o : Option Shelved). unwrap_or o s) (sym was ∙ is)) change));
   }
 
-  -- where there is no shelf, none changes
+  -- if there is no shelf, none changes
   pub none_changes : map.get old id ≡ None → ChangesShelf id Change old old
   none_changes none = record {
     others = λ i apart. refl;

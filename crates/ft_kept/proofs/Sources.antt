@@ -1,4 +1,4 @@
--- A read among the operations is a reader's act under the variable's key, and where its reading is settled, it is right.
+-- A read among the operations is a reader's act under the variable's key, and if its reading is settled, it is right.
 use Rattle.std.proofs.Common.{◌≡◌, ℕ, ℤ, Bool, true, false, cond, List, refl, sym, ap, ◌∙◌, Some, None, Option, option_map, subst, inl, inr, unwrap_or, ◌⊎◌, if◌then◌else◌}
 use Rattle.std.specs.Ordering.{eq_by_cmp}
 use Rattle.ft_fields.specs.Traced.{Traced}
@@ -78,7 +78,7 @@ module _ (role : ℕ → Role) (admits : Admits) (acts : Acts) (variable : Varia
 -- ---- settling
 
 module _ (scene : Scene) (acts : Acts) (old : Shelves) (can : CanSettle scene acts old) where
-  -- nothing has to be settled where nothing is covered
+  -- nothing has to be settled if nothing is covered
   pub none_settled : (Covered : At → Type 0) → ((q : At) → Covered q → ⊥) → AreSettled scene acts Covered old old
   none_settled Covered none = record { readers = readers_refl old; can = can; right = λ q h. elim h [ inl right ↦ right | inr covered ↦ absurd (none q covered) ] }
 
@@ -118,7 +118,7 @@ module _ (scene : Scene) (acts : Acts) (old : Shelves) (can : CanSettle scene ac
     right = subst (λ (x : Role × Option (List Part × Traced)). IsEntry (values_by (triggers_of scene)) (kept_on new).ops at x.0 x.1 (hits_here (kept_on new) at) (read_here (kept_on new) at))
         (λ i. (sym (roles_stay old new forms at.trigger ∙ role) i, sym acting i)) settled.right
 
-    -- where one reading is settled, others are as they were
+    -- if one reading is settled, others are as they were
     pub one_settled : (Covered : At → Type 0) → ((q : At) → Covered q → q ≡ at) → AreSettled scene acts Covered old new
     one_settled Covered covers = record {
       readers = settled.readers;

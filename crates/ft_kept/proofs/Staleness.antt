@@ -20,7 +20,7 @@ use Rattle.ft_shelves.proofs.Decided.{itself, untied, at_decided, variable_decid
 
 -- ---- operations of acts
 
--- an act is an operation on its own variable alone
+-- an act is an operation only on its own variable
 pub op_else : (admits : Admits) (role : Role) (variable : Variable) (id : ℕ) (key : List Part) → (variable_of role id key ≡ Some variable → ⊥) → op_as admits role variable id key ≡ None
 op_else admits Plain variable id key not_own = refl
 op_else admits Saves variable id key not_own =
@@ -30,7 +30,7 @@ op_else admits (Reads saver) variable id key not_own =
     ap (λ b. if b then Some Read else None)
     (untied variable_cmp_total variable_same variable (record { saver = saver; key = key }) (λ e. not_own (ap Some (sym e))))
 
--- it stays, where its key is in its saver's table as it was
+-- it stays, if its key stays in its saver's table or out
 op_alike : (was now : Admits) (role : Role) (variable : Variable) (id : ℕ) (key : List Part) → now variable.saver variable.key ≡ was variable.saver variable.key → op_as now role variable id key ≡ op_as was role variable id key
 op_alike was now Plain variable id key alike = refl
 op_alike was now (Reads saver) variable id key alike = refl
@@ -40,7 +40,7 @@ op_alike was now Saves variable id key alike = elim (variable_decided variable (
       op_else now Saves variable id key not_own ∙ sym (op_else was Saves variable id key not_own)
 ]
 
--- or where all of its trigger's keys are
+-- or if the act's key stays in its trigger's table or out
 op_kept : (was now : Admits) (role : Role) (variable : Variable) (id : ℕ) (key : List Part) → now id key ≡ was id key → op_as now role variable id key ≡ op_as was role variable id key
 op_kept was now Plain variable id key same = refl
 op_kept was now Saves variable id key same = ap (λ b. if eq_by_cmp variable_cmp variable (record { saver = id; key = key }) then (if b then Some Save else None) else None) same
@@ -54,7 +54,7 @@ module _ (role : ℕ → Role) where
         ap (option_and_then (λ act. op_as now (role q.trigger) variable q.trigger act.0)) acts
         ∙ ap (λ f. option_and_then f (before q)) (λ i act. same act.0 i)
 
-    -- where the act is the same, and whether the key is in its table, the operation is
+    -- if the act is the same, and whether the key is in its table, so is the operation
     pub op_elsewhere : now variable.saver variable.key ≡ was variable.saver variable.key → after q ≡ before q → op_of role now after variable q ≡ op_of role was before variable q
     op_elsewhere alike = op_same (λ key. op_alike was now (role q.trigger) variable q.trigger key alike)
 
@@ -62,7 +62,7 @@ module _ (role : ℕ → Role) where
     pub same_ops_of : ((key : List Part) → now q.trigger key ≡ was q.trigger key) → after q ≡ before q → op_of role now after variable q ≡ op_of role was before variable q
     same_ops_of keys = op_same (λ key. op_kept was now (role q.trigger) variable q.trigger key (keys key))
 
-  -- where no act is, no operation is
+  -- where there is no act, there is no operation
   pub op_absent : (admits : Admits) (acts : Acts) (variable : Variable) (q : At) → acts q ≡ None → op_of role admits acts variable q ≡ None
   unfolding op_of
   op_absent admits acts variable q none = ap (option_and_then (λ act. op_as admits (role q.trigger) variable q.trigger act.0)) none
@@ -84,7 +84,7 @@ module _ (role : ℕ → Role) where
       ∙ ap (λ r. op_as admits r (record { saver = saver; key = act.0 }) q.trigger act.0) reads
       ∙ ap (λ b. if b then Some Read else None) (itself variable_cmp_total (record { saver = saver; key = act.0 }))
 
--- where keys stay in tables or out, a variable that isn't the act's own keeps its operations
+-- if keys stay in tables or out, a variable that isn't the act's own keeps its operations
 pub others_stay : (role : ℕ → Role) (was now : Admits) (before after : Acts) (c : At) (act : List Part × Traced) → IsOneAct c act before after → (v : Variable)
     → (variable_of (role c.trigger) c.trigger act.0 ≡ Some v → ⊥) → now v.saver v.key ≡ was v.saver v.key → (q : At) → op_of role now after v q ≡ op_of role was before v q
 others_stay role was now before after c act one v not_own alike q = elim (at_decided q c) [
@@ -98,7 +98,7 @@ others_stay role was now before after c act one v not_own alike q = elim (at_dec
 -- ---- entries
 
 module _ (values : ValuesBy) where
-  -- what is kept of an act is the same where hits and readings are, and the readings find the same
+  -- what is kept of an act is the same if hits and readings are, and the readings find the same
   pub entry_same : (ops later : Variable → Ops) (at : At) (role : Role) (act : Option (List Part × Traced)) (hits hits' : HitsHere) (read read' : Option Pos)
       → ((key : List Part) → hits' key ≡ hits key) → read' ≡ read
       → ((saver : ℕ) (a : List Part × Traced) → role ≡ Reads saver → act ≡ Some a → (found : Option At) → IsSource (ops (record { saver = saver; key = a.0 })) at found → IsSource (later (record { saver = saver; key = a.0 })) at found)

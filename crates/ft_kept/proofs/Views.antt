@@ -38,7 +38,7 @@ module _ (acts : Acts) (at : At) (act : Acted) where
   pub set_apart : (q : At) → (q ≡ at → ⊥) → set acts at act q ≡ acts q
   set_apart q apart = ap (λ b. cond b act (acts q)) (untied at_cmp_total at_same q at apart)
 
-  -- where it was already nothing changes
+  -- if it was there already, nothing changes
   pub set_same : acts at ≡ act → set acts at act ≡ acts
   set_same was i q = same q i
     where
@@ -98,7 +98,7 @@ module _ (triggers : Triggers) (acts : Acts) (pos : Pos) (before after : Option 
   pub not_done : (done : ℕ → Bool) (id : ℕ) → done id ≡ false → with_done done (act_of pos id) ≡ act_by_id triggers id before
   not_done done id is = at_pos done id false is ∙ was id
 
-  -- acts are the same where they are so at the place
+  -- acts are the same, if they are so elsewhere and at the place
   by_place : (first second : Acts) → ((q : At) → eq_by_cmp pos_cmp q.pos pos ≡ false → first q ≡ second q) → ((id : ℕ) → first (act_of pos id) ≡ second (act_of pos id)) → first ≡ second
   by_place first second elsewhere here i q = (elim (eq_by_cmp pos_cmp q.pos pos) as (λ (b : Bool). eq_by_cmp pos_cmp q.pos pos ≡ b → first q ≡ second q) [
     | true ↦ λ tie. subst (λ (p : Pos). first (act_of p q.trigger) ≡ second (act_of p q.trigger)) (sym (same_from_tie pos_same q.pos pos tie)) (here q.trigger)

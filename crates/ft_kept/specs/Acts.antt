@@ -16,7 +16,7 @@ use Rattle.ft_pairs.specs.declared.role.Variable.{Variable}
 use Rattle.ft_pairs.specs.Roles.{Admits, op_as}
 use Rattle.ft_kept.specs.Repairs.{IsHeldAt}
 
--- the acts: at each place the key that the event there has at the trigger, and the event, where it has the trigger's name and passes its filter
+-- the acts: at each place the key that the event there has at the trigger, and the event, if it has the trigger's name and passes its filter
 abbrev pub Acts : Type 0
 Acts = At → Option (List Part × Traced)
 
@@ -32,7 +32,7 @@ act_by_id triggers id event = option_and_then (λ event. option_and_then (λ his
 unfoldable pub acts_of : Triggers → FinMap pos_cmp Traced → Acts
 acts_of triggers events at = act_by_id triggers at.trigger (map.get events at.pos)
 
--- the operations on a variable that acts are, where triggers have these roles and savers' tables these keys (kernel: histogram.rst, inter-event hist triggers)
+-- the operations on a variable that acts are, if triggers have these roles and savers' tables these keys (kernel: histogram.rst, inter-event hist triggers)
 unfoldable pub op_of : (ℕ → Role) → Admits → Acts → Variable → Ops
 op_of role admits acts variable at = option_and_then (λ act. op_as admits (role at.trigger) variable at.trigger act.0) (acts at)
 
@@ -40,6 +40,6 @@ op_of role admits acts variable at = option_and_then (λ act. op_as admits (role
 abbrev pub IsHeldAct : Triggers → Lanes → At → List Part × Traced → Type 0
 IsHeldAct triggers lanes at act = IsHeldAt lanes at.pos act.1 × (act_by_id triggers at.trigger (Some act.1) ≡ Some act)
 
--- so is each act
+-- each act is so
 abbrev pub AreHeld : Triggers → Lanes → Acts → Type 0
 AreHeld triggers lanes acts = (at : At) (act : List Part × Traced) → acts at ≡ Some act → IsHeldAct triggers lanes at act

@@ -1,4 +1,4 @@
--- All acts of one trigger that come at once, where nothing is kept of it yet.
+-- All acts of one trigger that come at once, if nothing is kept of it yet.
 use Rattle.std.specs.Prelude.{◌≡◌, ℕ, List, Option, Some, None}
 use Rattle.std.specs.FinMap as map
 use Rattle.ft_fields.specs.Traced.{Traced}
@@ -15,7 +15,7 @@ use Rattle.ft_kept.specs.Acts.{Acts}
 use Rattle.ft_kept.specs.Entries.{IsKept}
 use Rattle.ft_kept.specs.Repairs.{AreShelved}
 
--- nothing is kept of a trigger yet: no hits are on its shelf; what it saves has no operation; what it reads no other trigger reads
+-- nothing is kept of a trigger yet: no hits are on its shelf; what it saves has no operation; no other trigger reads what it reads
 pub record IsBare (id : ℕ) (shelves : Shelves) : Type 0 where
   pub hits : (shelf : Shelved) → map.get shelves id ≡ Some shelf → shelf.table.hits ≡ map.empty
   pub saves : role_on shelves id ≡ Saves → (key : List Part) (at : At) → (kept_on shelves).ops (record { saver = id; key = key }) at ≡ None
@@ -28,13 +28,13 @@ pub record MayJoin (joining : Joining) (shelves : Shelves) : Type 0 where
   pub bare : IsBare joining.id shelves
   pub grouped : AreGroupsOf joining.trigger.now joining.groups.now
 
--- all acts of one trigger come, where it had none; those of others stay
+-- all acts of one trigger, which had none, come; those of others stay
 pub record AllCome (id : ℕ) (acts : Pos → Option (List Part × Traced)) (before after : Acts) : Type 0 where
   pub elsewhere : (q : At) → (q.trigger ≡ id → ⊥) → after q ≡ before q
   pub absent : (pos : Pos) → before (record { pos = pos; trigger = id }) ≡ None
   pub here : (pos : Pos) → after (record { pos = pos; trigger = id }) ≡ acts pos
 
--- they came: where without them all was right, with them all is right
+-- they came: if all was right without them, all is right with them
 abbrev pub AllHaveCome : Triggers → ℕ → (Pos → Option (List Part × Traced)) → Shelves → Shelves → Type 0
 AllHaveCome triggers id acts old new =
     (before after : Acts) → AllCome id acts before after

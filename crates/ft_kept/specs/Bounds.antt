@@ -28,7 +28,7 @@ with_hit_of pos event hist table = option_map_or (λ key. with_hit table (record
 abbrev pub without_hit_of : Pos → Traced → TableEdit
 without_hit_of pos event hist table = option_map_or (λ key. without_hit table (record { spot = traced pos; key = key })) (hit hist event) table
 
--- a trigger's table, where it has a shelf
+-- a trigger's table, if it has a shelf
 abbrev pub table_on : Shelves → ℕ → Option Tabled
 table_on shelves id = option_map (λ shelf. shelf.table) (map.get shelves id)
 
@@ -47,6 +47,6 @@ pub record SomeSaverMoves (edit : TableEdit) (triggers : Triggers) (shelves : Sh
   pub attached : map.get triggers id ≡ Some hist
   pub moves : SaverMoves edit hist shelves id
 
--- the tables of all savers but one trigger stay
+-- the tables of all savers stay, except that of one trigger
 abbrev pub OtherSaversStay : ℕ → Shelves → Shelves → Type 0
 OtherSaversStay id old new = (other : ℕ) → (other ≡ id → ⊥) → role_on old other ≡ Saves → table_on new other ≡ table_on old other

@@ -15,7 +15,7 @@ use Rattle.ft_kept.specs.declared.changes.KeyChange.{KeyChange}
 use Rattle.ft_kept.specs.declared.changes.Whose.{Whose}
 use Rattle.ft_kept.specs.declared.changes.Whose.TheVariants.{Trigger, ReadersOf}
 
--- more was recorded after that which was, or nothing is recorded any more
+-- more was recorded after what was recorded before, or nothing is recorded any more
 abbrev pub Tells : {T : Type 0} → List T → Option (List T) → Option (List T) → Type 0
 Tells more old new = (new ≡ None) ⊎ (new ≡ option_map (λ told. told ++ more) old)
 
@@ -41,7 +41,7 @@ keys_of whose changes = list_map (λ change. change.key) (filter (λ change. sam
 abbrev pub is_told : List KeyChange → Whose → List Part → Bool
 is_told changes whose key = list_any (same_key key) (keys_of whose changes)
 
--- each trigger's hits stay but under the keys that are recorded of them
+-- each trigger's hits stay, except under the keys that are recorded of them
 abbrev pub HitsStayBut : List KeyChange → Shelves → Shelves → Type 0
 HitsStayBut changes old new =
     (id : ℕ) (mark : Mark) → is_told changes (whose_of (role_on old id) id) mark.key ≡ false → (kept_on new).hits id mark ≡ (kept_on old).hits id mark
@@ -51,7 +51,7 @@ abbrev pub is_reader_of : ℕ → Role → Bool
 is_reader_of saver (Reads id) = nat_eq saver id
 is_reader_of saver role = false
 
--- how many keys are recorded of some hits at most, where these triggers are asked: one of each trigger's own; of a saver's readers one for each reader, and two for the saver
+-- how many keys are recorded of some hits at most, if these triggers are asked: one of each trigger's own; of a saver's readers one for each reader, and two for the saver
 abbrev pub most : (ℕ → Role) → List (ℕ × Hist) → Whose → ℕ
 most role triggers (Trigger id) = length (filter (λ t. nat_eq id t.0) triggers)
 most role triggers (ReadersOf saver) = length (filter (λ t. is_reader_of saver (role t.0)) triggers) + 2 * length (filter (λ t. nat_eq saver t.0) triggers)
@@ -68,7 +68,7 @@ pub record ReadingsTold (before after : Option (List ReadingChange)) (old new : 
   pub told : Tells readings before after
   pub lead : Lead readings (kept_on old).read (kept_on new).read
 
--- hits stay but under these keys, and what was recorded of readings says how they changed
+-- hits stay, except under these keys, and what was recorded of readings says how they changed
 pub record ChangeUnder (keys : List KeyChange) (before after : Option (List ReadingChange)) (old new : Shelves) : Type 0 where
   pub hits : HitsStayBut keys old new
   pub readings : ReadingsTold before after old new
@@ -78,7 +78,7 @@ pub record HasTold (keys : List KeyChange) (before after : Changes) (old new : S
   pub told : Tells keys before.keys after.keys
   pub under : ChangeUnder keys before.readings after.readings old new
 
--- and few keys were recorded, where these triggers were asked
+-- and few keys were recorded, if these triggers were asked
 pub record HasToldFew (triggers : List (ℕ × Hist)) (before after : Changes) (old new : Shelves) : Type 0 where
   pub keys : List KeyChange
   pub few : AreFew (role_on old) triggers keys

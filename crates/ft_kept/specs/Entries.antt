@@ -35,14 +35,14 @@ Finds ops at read = (found : Option At) × (IsSource ops at found × (read ≡ o
 abbrev pub one_hit : List Part → Option (List ℤ) → HitsHere
 one_hit own values key = if same_key key own then values else None
 
--- what a reading at a place found, by its act and the operations; nothing where no trigger reads (kernel: histogram.rst, inter-event hist triggers)
+-- what a reading at a place found, by its act and the operations; nothing if no trigger reads there (kernel: histogram.rst, inter-event hist triggers)
 abbrev pub IsReading : (Variable → Ops) → At → Role → Option (List Part × Traced) → Option Pos → Type 0
 IsReading ops at role None read = read ≡ None
 IsReading ops at Plain (Some act) read = read ≡ None
 IsReading ops at Saves (Some act) read = read ≡ None
 IsReading ops at (Reads saver) (Some act) read = Finds (ops (record { saver = saver; key = act.0 })) at read
 
--- the hits at a place are that of its act; a reader's act is one where it found something (kernel: histogram.rst, inter-event hist triggers)
+-- the hits at a place are that of its act; a reader's act is a hit if and only if it found something (kernel: histogram.rst, inter-event hist triggers)
 abbrev pub IsCounted : ValuesBy → At → Role → Option (List Part × Traced) → HitsHere → Option Pos → Type 0
 IsCounted values at role None hits read = (key : List Part) → hits key ≡ None
 IsCounted values at Plain (Some act) hits read = (key : List Part) → hits key ≡ one_hit act.0 (Some (values at.trigger at.pos act.1 None)) key

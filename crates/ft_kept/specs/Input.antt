@@ -45,7 +45,7 @@ pub record MayApply (scene : Scene) (delta : Delta) (shelves : Shelves) : Type 0
   pub held : IsHeldAt scene.lanes.now delta.pos delta.event.now
   pub before : HasAt (triggers_of scene) (input_in scene shelves) delta.pos (event_before delta.sign delta.event.now)
 
--- it can at one attached trigger
+-- it can come or go at one attached trigger
 pub record MayApplyTo (scene : Scene) (attached : Attached) (delta : Delta) (shelves : Shelves) : Type 0 where
   pub views : AreViews (triggers_of scene) scene.lanes.now shelves
   pub its : map.get (triggers_of scene) attached.id ≡ Some attached.trigger.now

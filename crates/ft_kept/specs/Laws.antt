@@ -18,13 +18,13 @@ use Rattle.ft_kept.specs.Report.{row_on, report_of}
 abbrev pub ReportedOnce : Type 0
 ReportedOnce = (triggers : Triggers) (shelves : Shelves) (keys : List KeyChange) → IsDistinct same_row (report_of triggers shelves keys)
 
--- where hits stay but under the keys that are told, a row of an attached trigger that counts held events stays where it isn't reported by what is kept afterwards (kernel: histogram.rst, the `hist` file)
+-- if hits stay, except under the keys that are told, a row of an attached trigger that counts held events stays, if it isn't reported by what is kept afterwards (kernel: histogram.rst, the `hist` file)
 abbrev pub OthersStay : Type 0
 OthersStay = (triggers : Triggers) (keys : List KeyChange) (old new : Shelves) → FormsStay old new → HitsStayBut keys old new
     → (id : ℕ) (hist : Hist) (key : List Part) → map.get triggers id ≡ Some hist → counts_made hist ≡ false → is_reported (report_of triggers new keys) id key ≡ false
     → row_on new id key ≡ row_on old id key
 
--- where few keys are told, at most two rows are reported of a trigger that reads nothing
+-- if few keys are told, at most two rows are reported of a trigger that reads nothing
 abbrev pub TwoReported : Type 0
 TwoReported = (triggers : Triggers) (shelves : Shelves) (keys : List KeyChange) → AreFew (role_on shelves) (map.entries triggers) keys
     → (id : ℕ) → ((saver : ℕ) → role_on shelves id ≡ Reads saver → ⊥) → reported_of (report_of triggers shelves keys) id ≤ 2
@@ -33,7 +33,7 @@ TwoReported = (triggers : Triggers) (shelves : Shelves) (keys : List KeyChange) 
 unfoldable pub readers_of : (ℕ → Role) → Triggers → ℕ → ℕ
 readers_of role triggers saver = length (filter (λ t. is_reader_of saver (role t.0)) (map.entries triggers))
 
--- of a reader at most four, and two for each trigger that reads what its saver saves, itself among them
+-- and of a reader at most four, and two for each trigger that reads what its saver saves, itself among them
 abbrev pub ReaderReported : Type 0
 ReaderReported = (triggers : Triggers) (shelves : Shelves) (keys : List KeyChange) → AreFew (role_on shelves) (map.entries triggers) keys
     → (id saver : ℕ) → role_on shelves id ≡ Reads saver → reported_of (report_of triggers shelves keys) id ≤ 4 + 2 * readers_of (role_on shelves) triggers saver

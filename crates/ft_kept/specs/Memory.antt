@@ -9,7 +9,7 @@ use Rattle.ft_fields.specs.declared.key.Part.{Part}
 use Rattle.ft_pairs.specs.declared.role.Role.TheVariants.{Plain}
 use Rattle.ft_shelves.specs.Shelves.{Shelves, role_on}
 
--- where the event is a hit of a trigger, the trigger with this id has no variable (kernel: histogram.rst, inter-event hist triggers)
+-- if the event is a hit of a trigger, the trigger with this id has no variable (kernel: histogram.rst, inter-event hist triggers)
 abbrev pub ActsPlainly : Shelves → ℕ → Hist → Traced → Type 0
 ActsPlainly shelves id hist event = (key : List Part) → hit hist event ≡ Some key → role_on shelves id ≡ Plain
 

@@ -30,12 +30,12 @@ abbrev pub table_edit : Sign → Pos → Traced → TableEdit
 table_edit Insert pos event = with_hit_of pos event
 table_edit Retract pos event = without_hit_of pos event
 
--- at one trigger it takes no memory: what comes is no hit, or what goes is a hit of one without a variable
+-- it takes no memory at one trigger: what comes is no hit, or what goes, if it is a hit, is one of a trigger without a variable
 abbrev pub NeedsNoMemoryAt : Sign → Shelves → ℕ → Hist → Traced → Type 0
 NeedsNoMemoryAt Insert shelves id hist event = hit hist event ≡ None
 NeedsNoMemoryAt Retract shelves id hist event = ActsPlainly shelves id hist event
 
--- at no trigger it takes memory
+-- it takes memory at no trigger
 abbrev pub NeedsNoMemory : Sign → Triggers → Shelves → Traced → Type 0
 NeedsNoMemory Insert triggers shelves event = IsNoHit triggers event
 NeedsNoMemory Retract triggers shelves event = AllActPlainly triggers shelves event

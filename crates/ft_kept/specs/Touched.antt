@@ -10,7 +10,7 @@ use Rattle.ft_kept.specs.Changes.{keys_of, whose_of}
 use Rattle.ft_shelves.specs.Shelves.{Shelves}
 use Rattle.ft_kept.specs.declared.changes.KeyChange.{KeyChange}
 
--- some keys with one more, where it is none of them
+-- some keys, with one more if it is none of them
 abbrev pub with_new_key : List (List Part) → List Part → List (List Part)
 with_new_key found key = if is_of found key then found else found ++ key ∷ []
 

@@ -21,19 +21,19 @@ use Rattle.ft_kept.specs.declared.act.Scene.{Scene}
 abbrev pub triggers_of : Scene → Triggers
 triggers_of scene = scene.triggers.now
 
--- the acts, but at one place this one or none
+-- the acts, except that at one place there is this one or none
 abbrev pub set : Acts → At → Option (List Part × Traced) → Acts
 set acts at act q = if same_at q at then act else acts q
 
--- the acts, but at an event's place those at another event or none, of the triggers of which this holds
+-- the acts, except that at an event's place the triggers of which this holds have those at another event, or none
 abbrev pub with_some : Triggers → Acts → Pos → Option Traced → (ℕ → Bool) → Acts
 with_some triggers acts pos event done q = if eq_by_cmp pos_cmp q.pos pos then (if done q.trigger then act_by_id triggers q.trigger event else acts q) else acts q
 
--- the acts, but at an event's place those of all triggers at another event, or none
+-- the acts, except that at an event's place all triggers have those at another event, or none
 abbrev pub with_event : Triggers → Acts → Pos → Option Traced → Acts
 with_event triggers acts pos event = with_some triggers acts pos event (λ id. true)
 
--- at an event's place the input has what triggers count at this event, or nothing where there is none
+-- at an event's place the input has what triggers count at this event, or nothing if there is none
 abbrev pub HasAt : Triggers → Acts → Pos → Option Traced → Type 0
 HasAt triggers acts pos event = (id : ℕ) → acts (record { pos = pos; trigger = id }) ≡ act_by_id triggers id event
 

@@ -1,4 +1,4 @@
--- Words of private functions: what helps to prove, and nothing that public clauses say.
+-- Definitions for private functions: they help proofs, and no public clause uses them.
 pub mod Changing
 pub mod Edits
 pub mod Joining

@@ -35,7 +35,7 @@ pub struct Attached<'a> {
     pub trigger: &'a Trigger,
 }
 
-/// A trigger counts an event under a key, or does so no more; and where its repair looks things up.
+/// A trigger counts an event under a key, or no longer does; and where its repair looks things up.
 #[derive(Clone, Copy)]
 pub(crate) struct Act<'a> {
     pub(crate) scene: Scene<'a>,

@@ -21,7 +21,7 @@ use ft_shelves::Joining;
 use std::alloc::AllocError;
 
 impl Tables {
-    /// Whether nothing is kept yet of a trigger, nor of what its acts would change beside, so that
+    /// Whether nothing is kept yet of a trigger, and no other trigger reads what it reads, so that
     /// all its acts can come at once.
     pub fn is_bare(&self, id: u32) -> bool
         ensures { IsTrue result → IsBare id self.now }
@@ -55,7 +55,7 @@ impl Tables {
         }
     }
 
-    /// Gives a saver's shelf other operations: those that it had.
+    /// Gives a saver's shelf other operations, and returns those that it had.
     fn swap_ops(&mut self, saver: u32, ops: Pairs) -> Pairs
         ensures swapped { ChangesShelf saver (HasOps ops) self.old self.new }
         ensures had { is_some (map.get self.old saver) ≡ true → (key : List Part) (at : At)

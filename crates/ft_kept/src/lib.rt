@@ -1,8 +1,8 @@
 //! What is kept of attached triggers beside the events that they count, so that an answer needs no
 //! replay: each trigger's table, the saves and reads of each variable, and what each reading found.
-//! As an event is put in or taken away, all of it is repaired where the event touches it, and it is
-//! recorded under which keys hits may have changed. If nothing is kept of a trigger yet, all its events
-//! come at once, each key's part as a whole.
+//! As an event is put in or taken away, all of it is repaired where the event touches it, and the
+//! keys under which hits may have changed are recorded. If nothing is kept of a trigger yet, all
+//! its events come at once, each key's part as a whole.
 //!
 //! ```ignore
 //! let mut tables = Tables::new(alloc);
@@ -29,14 +29,14 @@
 //! Contracts see a *shelf* for each trigger (`ft_shelves/specs/Shelves.antt`). Shelves and held
 //! events tell an *input* (`specs/Input.antt`): which held events each trigger counts, and under
 //! which key. Shelves are *views* of it if they contain what it says (`specs/Views.antt`,
-//! `specs/Entries.antt`). No replay is in it. What answers a `Result` lets through: running out of
-//! memory at any time, except where a clause `memory` shuts it out. Nothing is said of the shelves
-//! then, except by `Tables::add`, which leaves all as it was.
+//! `specs/Entries.antt`). No replay is in it. A function that returns a `Result` lets through:
+//! running out of memory at any time, unless a clause `memory` rules it out. Nothing is said of the
+//! shelves then, except by `Tables::add`, which leaves all as it was.
 //!
 //! - `Tables::apply`, and `apply_to` at one trigger. Lets through: any walks and look-ups, and any
-//!   work on kept readings, which isn't counted; recording no keys, or no readings, any more, at any
-//!   time. That only what an event touches is repaired, and that only running out of memory ends
-//!   the recording, is seen in the source.
+//!   work on kept readings, which isn't counted; giving up the record of keys, or that of readings,
+//!   at any time. That only what an event touches is repaired, and that only running out of memory
+//!   ends the recording, is seen in the source.
 //! - `Tables::join`: no event is tested again (`specs/AtOnce.antt`). Lets through: any number of
 //!   puts.
 //! - `Tables::is_bare`. Lets through: saying no; then the acts come one by one.

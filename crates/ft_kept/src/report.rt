@@ -13,9 +13,9 @@ use ft_hist::{Trigger, Triggers};
 use ft_table::Table;
 use std::alloc::{AllocError, Global};
 
-/// The rows that may differ with an event and without it, where hits may have changed under these
-/// keys: of all attached triggers that count held events, in order of id. What is kept afterwards is
-/// asked. Refused for memory.
+/// The rows that may differ with an event and without it, if hits may have changed under these
+/// keys: those of all attached triggers that count held events, in order of id. It looks at what is
+/// kept afterwards. Refused for memory.
 #[tactic(auto, unfolding(crate::specs::Report::report_of))]
 pub fn changed_rows(
     alloc: Global,
@@ -35,7 +35,7 @@ pub fn changed_rows(
 }
 
 /// The keys of a trigger whose rows may differ: those under which its hits may have changed, and
-/// their rivals in its table; none of one that counts made events. Refused for memory.
+/// their rivals in its table; none of a trigger that counts made events. Refused for memory.
 fn keys_reported(
     alloc: Global,
     tables: &Tables,
@@ -55,7 +55,7 @@ fn keys_reported(
     }
 }
 
-/// The keys that were recorded of some hits, as often as they were. Refused for memory.
+/// The keys that were recorded of some hits, each as often as it was recorded. Refused for memory.
 fn keys_of(alloc: Global, whose: Whose, changes: &[KeyChange]) -> Result<Vec<Key>, AllocError>
     ensures { IfOk result (λ keys. keys.items ≡ keys_of whose changes.now) }
 {

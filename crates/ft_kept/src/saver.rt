@@ -47,7 +47,7 @@ pub(crate) fn change_saving(
 }
 
 /// A saver's hit comes to its shelf or goes, and the operations on what it saves follow the keys of
-/// its table. Answers which keys moved; their readings are not right yet. Refused for memory.
+/// its table. Returns which keys moved; their readings are not right yet. Refused for memory.
 fn change_shelf(
     tables: &mut Tables,
     act: &Act<'_>,
@@ -78,7 +78,7 @@ fn change_shelf(
     }
 }
 
-/// An act that reads nothing as a change of hits. Values are worked out only if it comes.
+/// An act that reads nothing, as a change of hits. Values are worked out only if it comes.
 pub(crate) fn hit_change(act: &Act<'_>) -> HitChange
     requires stamped { act.now.event.now.stamp ≡ act.now.at.pos.stamp }
     ensures { result ≡ change_of act.now }

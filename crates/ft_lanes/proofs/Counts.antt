@@ -142,7 +142,7 @@ slots-unloaded all cpu = at (map.get all cpu) refl
 nothing : (n m : ℕ) → n + m ≡ 0 → m ≡ 0
 nothing n m e = omega arith
 
--- where there are no slots, no store is too short
+-- if there are no slots, no store is too short
 pub within-none : (all : AllSlots) → slots_in all ≡ 0 → AreWithin 0 all
 within-none all none cpu slots is line place there =
     let lane : count slots ≡ 0 = nothing (slots_in (map.remove all cpu)) (count slots) (sym (slots-removed all cpu slots is) ∙ none) in

@@ -107,7 +107,7 @@ lane_of-apart cpu es e ne =
 
 -- ---- the lanes after some events, CPU by CPU
 
--- the old lane, or where an event has the CPU the lane that the events give it
+-- the old lane, or if an event has the CPU, the lane that the events give it
 abbrev pub lane_at : Lanes → List Traced → ℕ → Option Lane
 lane_at lanes es cpu = cond (has_cpu es cpu) (Some (lane_of cpu es)) (map.get lanes cpu)
 
@@ -172,7 +172,7 @@ pub with_lanes-at : (lanes : Lanes) (es : List Traced) (q : ℕ) → map.get (wi
 unfolding with_lanes
 with_lanes-at lanes es q = each_lane es lanes es q
 
--- where the CPUs are free, event by event and lane by lane is one
+-- if the CPUs are free, adding event by event is the same as adding lane by lane
 pub with_lanes-fold : (lanes : Lanes) (es : List Traced) → IsFree lanes es → fold lanes_with lanes es ≡ with_lanes lanes es
 with_lanes-fold lanes es free = same_map nat_cmp_total nat_cmp-IsAntisymmetric _ _ (λ q. lane_at-all lanes lanes [] es es free refl (λ k. refl) q ∙ sym (with_lanes-at lanes es q))
 
@@ -197,7 +197,7 @@ first_held-cpu : (lanes : Lanes) (es : List Traced) → first_held lanes es ≡ 
 unfolding first_held
 first_held-cpu lanes es = refl
 
--- a lane is held where its slots are
+-- a lane is held exactly if its slots are
 pub first_held-slots : (f : ℕ → Traced) (all : AllSlots) (es : List Traced) → first_cpu (map.contains_key all) es ≡ first_held (lanes_by f all) es
 first_held-slots f all es = first_cpu-same _ _ (λ cpu. sym (held-slots_of f all cpu)) es ∙ sym (first_held-cpu (lanes_by f all) es)
 
@@ -205,7 +205,7 @@ free-step : (has : Bool) (cpu : ℕ) (rest : Option ℕ) → cond has (Some cpu)
 free-step true cpu rest none = cc
 free-step false cpu rest none = (refl, none)
 
--- where no event's CPU has an entry, the CPUs are free
+-- if no event's CPU has an entry, the CPUs are free
 pub free-from : {X : Type 0} (m : FinMap nat_cmp X) (es : List Traced) → first_cpu (map.contains_key m) es ≡ None → (q : ℕ) → has_cpu es q ≡ true → map.get m q ≡ None
 free-from m [] none q is = cc
 free-from m (e ∷ es) none q is =
@@ -241,7 +241,7 @@ as_before : (lanes m : AllSlots) (es : List Traced) → IsFreeOf lanes es → Ag
 as_before lanes m es free beside q true is = sym (free q is)
 as_before lanes m es free beside q false is = beside q is
 
--- gives the lanes from before, where the CPUs were free
+-- gives the lanes from before, if the CPUs were free
 pub removed-back : (lanes m : AllSlots) (es : List Traced) → IsFreeOf lanes es → AgreeBeside es lanes m → fold (λ n e. map.remove n e.cpu) m es ≡ lanes
 removed-back lanes m es none beside = same_map nat_cmp_total nat_cmp-IsAntisymmetric _ _ (λ q. remove-at m es q ∙ as_before lanes m es (none) beside q _ refl)
 

@@ -1,4 +1,4 @@
--- Slots by CPU in a list: the map that they give where they are put in, and the slots of a load's events.
+-- Slots by CPU in a list: the map that they give when they are put in, and the slots of a load's events.
 use Rattle.std.proofs.Common.{◌≡◌, ℕ, ◌+◌, ◌<◌, ◌≤◌, zero, suc, Bool, true, false, ◌==◌, if◌then◌else◌, List, [], ◌∷◌, ◌++◌, length, get_or, slice_set, Result, Ok, Err, OnErr, refl, sym, ap, ◌∙◌, subst, Option, Some, None, unwrap_or, ◌⊎◌, inl, inr, ⊎_elim, arith}
 use Rattle.std.specs.Cmp.{nat_cmp_total}
 use Rattle.std.specs.FinMap as map
@@ -14,7 +14,7 @@ use Rattle.ft_maps.specs.Entries.{get-insert_same, get-insert_other}
 
 -- ---- slots put in, CPU by CPU
 
--- the slots of a CPU, or what it had where there are none
+-- the slots of a CPU, or what it had if there are none
 abbrev pub pick : SlotsOf → Option SlotsOf → Option SlotsOf
 pick s o = if s.next == 1 then o else Some s
 

@@ -75,7 +75,7 @@ module _ (rows : List (ℕ × ℕ)) (rise : Rise rows) where
   pub len-places : map.len (places_of rows) ≡ length (held_rows rows)
   len-places = len-entries (places_of rows) ∙ ap length entries-places
 
-  -- a look-up finds the row of the line, where that is held
+  -- a look-up finds the row of the line, if that is held
   pub lookup-held : (line : ℕ) → lookup (is_at (nat_cmp line)) (held_rows rows) ≡ option_filter is_held (lookup (is_at (nat_cmp line)) rows)
   lookup-held line = lookup-filter-values (eq_by_cmp_equiv nat_cmp_total) is_held line rows (IsDistinct-from_sorted nat_cmp (keys_of rows) rise)
 
@@ -118,7 +118,7 @@ module _ (rows : List (ℕ × ℕ)) (rise : Rise rows) (line : ℕ) where
       (below_from_sorted (keys_of rows) k (k + 1) d.0 rise (omega arith) (omega (arith, lt, length-map rows (λ (r : ℕ × ℕ). r.0))))) in
       ap is_lt (turned_back (get_or rows k d).0 (get_or rows (k + 1) d).0 (less _ _ next))
 
-  -- where halving ends with no hit, the line has no row
+  -- if halving ends without finding it, the line has no row
   pub searched-none : (i : ℕ) → i ≤ length rows → (IsNonDecreasingBy (λ (row : ℕ × ℕ). ordering_index (nat_cmp row.0 line)) rows → IsPartitionPoint (λ row. nat_cmp row.0 line ≡ Less) (λ row. nat_cmp row.0 line ≡ Greater) rows i) → lookup (is_at (nat_cmp line)) rows ≡ None
   searched-none i le parted =
       let point = parted (searchable_from_sorted nat_cmp_total (λ (row : ℕ × ℕ). row.0) rows line risen) in
@@ -148,7 +148,7 @@ held_one_more rows line place lt =
     filter-append (λ row. is_held row.1) rows ((line, place) ∷ [])
     ∙ ap (λ b. held_rows rows ++ cond b ((line, place) ∷ []) []) (not_struck place lt)
 
--- and where all are held, so are they with it
+-- and if all are held, they still are with this one added
 pub held_more : (rows : List (ℕ × ℕ)) (line place : ℕ) → place < struck_place → held_rows rows ≡ rows → held_rows (rows ++ (line, place) ∷ []) ≡ rows ++ (line, place) ∷ []
 held_more rows line place lt all = held_one_more rows line place lt ∙ ap (λ l. l ++ (line, place) ∷ []) all
 
@@ -237,7 +237,7 @@ module _ (line place : ℕ) (held : is_held place ≡ true) where
         (λ ne. strike-apart q ne ∙ sym (get-remove_other nat_cmp_total nat_cmp-IsAntisymmetric (places_of rows) line q ne))
         (cases_eq q line))
 
--- where no slot is found, nothing is taken out
+-- if no slot is found, nothing is taken out
 pub remove-missing : (rows : List (ℕ × ℕ)) (line : ℕ) → lookup (is_at (nat_cmp line)) (held_rows rows) ≡ None → places_of rows ≡ map.remove (places_of rows) line
 remove-missing rows line none = sym (remove_none (places_of rows) line (get-places rows line ∙ none))
 

@@ -90,7 +90,7 @@ front (x ∷ xs) ys (suc i) lt = front xs ys i (omega arith)
 pub lanes-appended : (store more : List Traced) (all : AllSlots) → AreWithin (length store) all → lanes_by (stored_at (store ++ more)) all ≡ lanes_by (stored_at store) all
 lanes-appended store more all within = lanes-agree _ _ (length store) (λ place lt. front store more place lt) all within
 
--- where no event is held, the store doesn't matter
+-- if no event is held, the store doesn't matter
 pub lanes-none : (f g : ℕ → Traced) (all : AllSlots) → slots_in all ≡ 0 → lanes_by f all ≡ lanes_by g all
 lanes-none f g all none = lanes-agree f g 0 (λ place lt. absurd (omega arith)) all (within-none all none)
 
@@ -107,7 +107,7 @@ count-at f all cpu = at (map.get all cpu) ∙ ap (option_map (λ lane. map.len l
     at None = refl
     at (Some slots) = ap Some (sym (len-map_by f slots.places))
 
--- and none where there is no lane
+-- and none if there is no lane
 pub count-on : (f : ℕ → Traced) (all : AllSlots) (cpu : ℕ) → option_map_or (λ slots. map.len slots.places) (map.get all cpu) 0 ≡ held_on (lanes_by f all) cpu
 count-on f all cpu = at (map.get all cpu) ∙ ap (λ o. option_map_or (λ (lane : Lane). map.len lane.events) o 0) (sym (lane-found f all cpu))
   where
@@ -115,7 +115,7 @@ count-on f all cpu = at (map.get all cpu) ∙ ap (λ o. option_map_or (λ (lane 
     at None = refl
     at (Some slots) = sym (len-map_by f slots.places)
 
--- a clause on success, where a call did not fail
+-- a clause on success, if a call did not fail
 pub at_ok : {T E P : Type 0} (r : Result T E) → false ≡ is_err r → OnOk r P → P
 at_ok (Ok x) e h = h
 at_ok (Err y) e h = cc
@@ -128,7 +128,7 @@ lane-entries f all cpu = ap (option_map (λ lane. map.entries lane.events)) (lan
     at None = refl
     at (Some slots) = ap Some (entries-map_by f nat_cmp_total slots.places)
 
--- a lane is held where its slots are
+-- a lane is held exactly if its slots are
 pub held-slots_of : (f : ℕ → Traced) (all : AllSlots) (cpu : ℕ) → map.contains_key (lanes_by f all) cpu ≡ map.contains_key all cpu
 held-slots_of f all cpu = ap is_some (lane-found f all cpu) ∙ at (map.get all cpu)
   where

@@ -28,7 +28,7 @@ number_limit = 4294967295
 abbrev pub held_in : Lanes → ℕ
 held_in lanes = sum_by (λ lane. map.len lane.events) (map.values lanes)
 
--- how many events a CPU's lane holds: none where there is no lane
+-- how many events a CPU's lane holds: none if there is no lane
 abbrev pub held_on : Lanes → ℕ → ℕ
 held_on lanes cpu = option_map_or (λ lane. map.len lane.events) (map.get lanes cpu) 0
 
@@ -36,7 +36,7 @@ held_on lanes cpu = option_map_or (λ lane. map.len lane.events) (map.get lanes 
 abbrev pub is_small : Lanes → ℕ → Bool
 is_small lanes cpu = nat_lt (held_on lanes cpu) (held_in (map.remove lanes cpu))
 
--- the event of a lane's line, where there is one
+-- the event of a lane's line, if there is one
 abbrev pub event_at : Lanes → ℕ → ℕ → Option Traced
 event_at lanes cpu line = option_and_then (λ lane. map.get lane.events line) (map.get lanes cpu)
 

@@ -17,7 +17,7 @@ use Rattle.ft_lanes.specs.Held.{Lane}
 unfoldable pub zero_filled : ℕ → ℕ → List ℕ
 zero_filled width n = replicate (width - length (decimal n)) 48 ++ decimal n
 
--- a CPU that a payload names: at least three digits, after a `-` where it is negative (kernel: events.rst, the format of sched_wakeup; the sign is our own choice)
+-- a CPU that a payload names: at least three digits, after a `-` if it is negative (kernel: events.rst, the format of sched_wakeup; the sign is our own choice)
 abbrev pub target_text : ℤ → List ℕ
 target_text (pos n) = zero_filled 3 n
 target_text (negsuc n) = codes "-" ++ zero_filled 3 (suc n)
@@ -48,7 +48,7 @@ next_text turn =
 unfoldable pub turn_text : Turn → List ℕ
 turn_text turn = prev_text turn ++ codes " ==> " ++ next_text turn
 
--- what an event says that the kernel traces; one that triggers make stands in no lane (kernel: events.rst, the events of `sched`)
+-- what an event that the kernel traces says; one that triggers make stands in no lane (kernel: events.rst, the events of `sched`)
 abbrev pub payload_text : Body → List ℕ
 payload_text (bodies.Waking wake) = wake_text wake
 payload_text (bodies.Wakeup wake) = wake_text wake
@@ -61,11 +61,11 @@ payload_text bodies.Other = []
 abbrev pub label_text : List ℕ → List ℕ
 label_text name = codes " " ++ name ++ codes ": "
 
--- the name that a trace line shows: of the four events that the kernel traces (kernel: events.rst, the events of `sched`)
+-- the name that a trace line shows, if it is that of one of the four events that the kernel traces (kernel: events.rst, the events of `sched`)
 abbrev pub shown_name : Name → Option (List ℕ)
 shown_name name = if is_traced name then name_text name else None
 
--- the name that is shown and what the event says; nothing of another event (kernel: ftrace.rst, the trace output)
+-- the name that is shown and what the event says; nothing if no name is shown (kernel: ftrace.rst, the trace output)
 abbrev pub body_text : Body → List ℕ
 body_text body = option_map_or (λ name. label_text name ++ payload_text body) (shown_name (name_of body)) []
 

@@ -1,4 +1,4 @@
--- What a load makes of lanes, and where it can't.
+-- What a load makes of lanes, and when it can't.
 use Rattle.std.specs.Prelude.{ℕ, ◌+◌, ◌==◌, List, length, Option, filter, fold, option_map}
 use Rattle.std.specs.List.{enumerate_from, find}
 use Rattle.std.specs.FinMap as map

@@ -14,8 +14,8 @@ use ft_maps::put;
 use std::alloc::{AllocError, Global};
 use std::collections::BTreeMap;
 
-/// Adds a place to the lane of a CPU, which is made where there is none: the line number. Refused
-/// for memory, and then all is as it was.
+/// Adds a place to the lane of a CPU, which is made if there is none, and returns the line number.
+/// Refused for memory, and then all is as it was.
 pub(crate) fn push_in(
     alloc: Global,
     lanes: &mut BTreeMap<u16, Slots>,
@@ -63,7 +63,7 @@ pub(crate) fn place_in(lanes: &BTreeMap<u16, Slots>, cpu: u16, line: u32) -> Opt
     }
 }
 
-/// Takes the slot of a CPU's line out, if there is one: its place.
+/// Takes the slot of a CPU's line out, if there is one, and returns its place.
 pub(crate) fn take_in(lanes: &mut BTreeMap<u16, Slots>, cpu: u16, line: u32) -> Option<u32>
     ensures value { result ≡ option_and_then (λ slots. map.get slots.places line)
         (map.get (seen nat_cmp lanes.old) cpu) }
@@ -77,7 +77,7 @@ pub(crate) fn take_in(lanes: &mut BTreeMap<u16, Slots>, cpu: u16, line: u32) -> 
     }
 }
 
-/// How many slots a CPU has: none where it has no lane.
+/// How many slots a CPU has: none if it has no lane.
 pub(crate) fn count_in(lanes: &BTreeMap<u16, Slots>, cpu: u16) -> u64
     ensures { result ≡ option_map_or (λ slots. map.len slots.places)
         (map.get (seen nat_cmp lanes.now) cpu) 0 }
@@ -88,7 +88,7 @@ pub(crate) fn count_in(lanes: &BTreeMap<u16, Slots>, cpu: u16) -> u64
     }
 }
 
-/// Takes the lane of a CPU out, if there is one: how many slots it had.
+/// Takes the lane of a CPU out, if there is one, and returns how many slots it had.
 pub(crate) fn take_lane_in(lanes: &mut BTreeMap<u16, Slots>, cpu: u16) -> Option<u64>
     ensures value { result ≡ option_map (λ slots. map.len slots.places)
         (map.get (seen nat_cmp lanes.old) cpu) }

@@ -64,7 +64,7 @@ impl Lanes {
         }
     }
 
-    /// The number of the next line of a CPU, which is 1 where it has no lane.
+    /// The number of the next line of a CPU, which is 1 if it has no lane.
     pub fn next_line(&self, cpu: u16) -> u64
         ensures { result ≡ (unwrap_or (map.get self.now cpu) new_lane).next }
     {
@@ -72,8 +72,8 @@ impl Lanes {
     }
 
     /// Adds an event to the lane of its CPU, at the lane's next number, which is at most
-    /// 4,294,967,295: that number. The first of a new lane is 1. Refused for memory, and then all
-    /// is as it was.
+    /// 4,294,967,295, and returns that number. The first of a new lane is 1. Refused for memory,
+    /// and then all is as it was.
     pub fn push(&mut self, event: Event) -> Result<u32, AllocError>
         requires { (unwrap_or (map.get self.old event.cpu) new_lane).next ≤ number_limit }
         ensures ok { OnOk result (self.new ≡ lanes_with self.old event) }
@@ -175,8 +175,8 @@ impl Lanes {
         ByCpu::new(&self.store, self.lanes.iter())
     }
 
-    /// Takes the event of a CPU's line out, if there is one: that event. No other line changes its
-    /// number, and this one's is not given again.
+    /// Takes the event of a CPU's line out, if there is one, and returns it. No other line changes
+    /// its number, and this one's is not given again.
     pub fn take(&mut self, cpu: u16, line: u32) -> Option<Event>
         ensures value { result ≡ event_at self.old cpu line }
         ensures rest { self.new ≡ lanes_without self.old cpu line }
@@ -188,7 +188,7 @@ impl Lanes {
         event
     }
 
-    /// Takes the lane of a CPU out, if there is one: how many events it had.
+    /// Takes the lane of a CPU out, if there is one, and returns how many events it had.
     pub fn take_lane(&mut self, cpu: u16) -> Option<u64>
         ensures value { result ≡ option_map (λ lane. map.len lane.events) (map.get self.old cpu) }
         ensures rest { self.new ≡ map.remove self.old cpu }
@@ -206,7 +206,7 @@ impl Lanes {
         self.held
     }
 
-    /// How many events a CPU's lane holds: none where there is no lane.
+    /// How many events a CPU's lane holds: none if there is no lane.
     pub fn held_on(&self, cpu: u16) -> u64
         ensures { result ≡ held_on self.now cpu }
     {
@@ -221,15 +221,15 @@ impl Lanes {
         self.store.len()
     }
 
-    /// The CPU of the event that stands at a place, also where that event is no longer held; 0
-    /// after the last place.
+    /// The CPU of the event that stands at a place, even if that event is no longer held; 0 after
+    /// the last place.
     pub fn cpu_at(&self, place: u32) -> u16
         ensures { result ≤ last_cpu }
     {
         self.store.cpu(place as usize)
     }
 
-    /// Clears the store where nothing is held.
+    /// Clears the store if nothing is held.
     fn forget_dead(&mut self)
         ensures { self.new ≡ self.old }
     {
@@ -238,8 +238,8 @@ impl Lanes {
         }
     }
 
-    /// Where the store has no room for so many more events and more of it is dead than held, puts
-    /// the held events in a store of their own. Where memory for that is refused, it stays.
+    /// If the store has no room for so many more events and more of it is dead than held, puts the
+    /// held events in a store of their own. If memory for that is refused, the store stays.
     fn make_room(&mut self, more: usize)
         ensures { self.new ≡ self.old }
     {
@@ -253,7 +253,7 @@ impl Lanes {
         }
     }
 
-    /// The same lanes over a store that has the held events alone. Refused for memory.
+    /// The same lanes over a store that has only the held events. Refused for memory.
     fn rebuilt(&self) -> Result<Lanes, AllocError>
         ensures { IfOk result (λ lanes. lanes ≡ self.now) }
     {

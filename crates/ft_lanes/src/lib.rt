@@ -1,8 +1,8 @@
 //! Held events: lanes by CPU, over one store in which each event stands once.
 //!
 //! Each CPU has at most one lane: its events by line number, from 1. While the lane is held, no number
-//! is given twice, even after its event was taken out. A load makes a lane for each CPU of
-//! its events, at which none may be held. A lane is walked by line number, and shown as a text.
+//! is given twice, even after its event was taken out. A load makes a lane for each CPU of its
+//! events; no such CPU may have one already. A lane is walked by line number, and shown as a text.
 //!
 //! ```ignore
 //! let mut lanes = Lanes::new(rt.alloc());

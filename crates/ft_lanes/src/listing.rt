@@ -102,7 +102,8 @@ fn add_body(text: &mut Vec<u8>, event: &Event) -> Result<(), AllocError>
     }
 }
 
-/// The name that a trace line shows, where it shows one: of the four events that the kernel traces.
+/// The name that a trace line shows, if it is that of one of the four events that the kernel
+/// traces.
 fn shown_name(name: Name) -> Option<&'static [u8]>
     ensures { option_map (λ text. text.now) result ≡ shown_name name }
 {
@@ -118,7 +119,7 @@ fn add_label(text: &mut Vec<u8>, name: &[u8]) -> Result<(), AllocError>
     text.extend_from_slice(b": ")
 }
 
-/// Adds what an event says that the kernel traces. One that triggers make stands in no lane.
+/// Adds what an event that the kernel traces says. One that triggers make stands in no lane.
 fn add_payload(text: &mut Vec<u8>, body: &Body) -> Result<(), AllocError>
     ensures { OnOk result (text.new.items ≡ text.old.items ++ payload_text body.now) }
 {
@@ -172,7 +173,7 @@ fn add_next(text: &mut Vec<u8>, turn: &Turn) -> Result<(), AllocError>
     add_number(text, b" next_prio=", turn.next_prio)
 }
 
-/// Adds a CPU that a payload names: at least three digits, after a `-` where it is negative.
+/// Adds a CPU that a payload names: at least three digits, after a `-` if it is negative.
 fn add_target(text: &mut Vec<u8>, cpu: i32) -> Result<(), AllocError>
     ensures { OnOk result (text.new.items ≡ text.old.items ++ target_text cpu) }
 {

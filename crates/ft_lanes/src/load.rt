@@ -61,7 +61,7 @@ fn push_at(alloc: Global, by_cpu: &mut Vec<Slots>, cpu: u16, place: u32) -> Resu
     Ok(())
 }
 
-/// Puts slots in as those of a CPU, where there are any. Refused for memory, and then all is as it
+/// Puts slots in as those of a CPU, if there are any. Refused for memory, and then all is as it
 /// was.
 fn put_any(lanes: &mut BTreeMap<u16, Slots>, cpu: u16, slots: Slots) -> Result<(), AllocError>
     ensures ok { OnOk result (seen nat_cmp lanes.new ≡ all_put (seen nat_cmp lanes.old) cpu slots) }
@@ -73,7 +73,7 @@ fn put_any(lanes: &mut BTreeMap<u16, Slots>, cpu: u16, slots: Slots) -> Result<(
     put(lanes, cpu, slots)
 }
 
-/// Puts the slots of each CPU in, where there are any. After a refusal for memory some are put in.
+/// Puts the slots of each CPU in, if there are any. After a refusal for memory, some are put in.
 fn put_all(lanes: &mut BTreeMap<u16, Slots>, by_cpu: Vec<Slots>) -> Result<(), AllocError>
     requires few { length by_cpu.items ≤ cpu_limit }
     ensures ok { OnOk result (seen nat_cmp lanes.new ≡ all_merged (seen nat_cmp lanes.old) 0 by_cpu.items) }
@@ -88,8 +88,8 @@ fn put_all(lanes: &mut BTreeMap<u16, Slots>, by_cpu: Vec<Slots>) -> Result<(), A
     Ok(())
 }
 
-/// Adds a slot for each event of a store from a place on, where no event's CPU has slots. After a
-/// refusal for memory some are added.
+/// Adds a slot for each event of a store from a place on. No event's CPU may have slots. After a
+/// refusal for memory, some are added.
 fn push_all(
     alloc: Global,
     lanes: &mut BTreeMap<u16, Slots>,
@@ -115,7 +115,7 @@ fn push_all(
     put_all(lanes, by_cpu)
 }
 
-/// Adds a slot for each event of a store from a place on, where no event's CPU has slots. Refused
+/// Adds a slot for each event of a store from a place on. No event's CPU may have slots. Refused
 /// for memory, and then all is as it was.
 pub(crate) fn push_load(
     alloc: Global,

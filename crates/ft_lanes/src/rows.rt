@@ -16,8 +16,8 @@ pub(crate) const STRUCK: u32 = u32::MAX;
 
 const _: () = prove!(STRUCK == 4_294_967_295);
 
-/// Where a line's row stands: where it would if the lines from the first row's on had no gap, or
-/// else found by halving.
+/// Where a line's row stands: where it would stand if the lines from the first row's on had no gap,
+/// or else where halving finds it.
 fn index_of(rows: &[(u32, u32)], line: u32) -> Option<usize>
     requires { Rise rows.now }
     ensures within { IfSome result (λ i. i < length rows.now) }
@@ -39,7 +39,7 @@ fn index_of(rows: &[(u32, u32)], line: u32) -> Option<usize>
     }
 }
 
-/// The place of a line, where its row is not struck.
+/// The place of a line, if it has a row that is not struck.
 pub(crate) fn place_of(rows: &[(u32, u32)], line: u32) -> Option<u32>
     requires { Rise rows.now }
     ensures { result ≡ lookup (is_at (nat_cmp line)) (held_rows rows.now) }
@@ -49,7 +49,7 @@ pub(crate) fn place_of(rows: &[(u32, u32)], line: u32) -> Option<u32>
     if place == STRUCK { None } else { Some(place) }
 }
 
-/// Strikes the row of a line, if it has one that is not struck: its place.
+/// Strikes the row of a line, if it has one that is not struck, and returns its place.
 pub(crate) fn strike(rows: &mut [(u32, u32)], line: u32) -> Option<u32>
     requires { Rise rows.old }
     ensures value { result ≡ lookup (is_at (nat_cmp line)) (held_rows rows.old) }

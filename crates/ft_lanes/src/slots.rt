@@ -62,8 +62,8 @@ impl Slots {
         }
     }
 
-    /// Adds a place at the next line number, which is at most 4,294,967,295: that number. Refused
-    /// for memory, and then all is as it was.
+    /// Adds a place at the next line number, which is at most 4,294,967,295, and returns that
+    /// number. Refused for memory, and then all is as it was.
     pub(crate) fn push(&mut self, place: u32) -> Result<u32, AllocError>
         requires numbered { self.old.next ≤ number_limit }
         requires placed { place < struck_place }
@@ -85,7 +85,7 @@ impl Slots {
         place_of(&self.rows, line)
     }
 
-    /// Takes the slot of a line out, if there is one: its place.
+    /// Takes the slot of a line out, if there is one, and returns its place.
     pub(crate) fn take(&mut self, line: u32) -> Option<u32>
         ensures value { result ≡ map.get self.old.places line }
         ensures rest { self.new ≡ slots_without self.old line }
@@ -96,7 +96,7 @@ impl Slots {
         place
     }
 
-    /// Takes the struck rows away where they are as many as the others.
+    /// Takes the struck rows away if they are at least as many as the others.
     fn forget_struck(&mut self)
         ensures { self.new ≡ self.old }
     {

@@ -9,7 +9,7 @@ use ft_fields::Event;
 use ft_store::Store;
 use std::alloc::AllocError;
 
-/// The place after the last event of a store. Refused for memory where 32 bits can't number it, or
+/// The place after the last event of a store. Refused for memory if 32 bits can't number it, or
 /// struck rows have that number.
 pub(crate) fn end_of(store: &Store) -> Result<u32, AllocError>
     ensures value { IfOk result (λ place. place ≡ length store.now) }
@@ -21,7 +21,7 @@ pub(crate) fn end_of(store: &Store) -> Result<u32, AllocError>
     }
 }
 
-/// The place after the last event of a store. Refused for memory where 32 bits can't number the
+/// The place after the last event of a store. Refused for memory if 32 bits can't number the
 /// places of so many more.
 pub(crate) fn end_before(store: &Store, more: &Store) -> Result<u32, AllocError>
     ensures value { IfOk result (λ place. place ≡ length store.now) }

@@ -15,7 +15,7 @@ use Rattle.ft_layout.specs.Places.{place_layout}
 use Rattle.ft_layout.specs.declared.events.EventLayout.{EventLayout}
 use Rattle.ft_layout.specs.declared.events.TriggerLayout.{TriggerLayout}
 
--- the number in place of a name where no event is held
+-- the number in place of a name if no event is held
 abbrev pub no_event : ℕ
 no_event = 255
 
@@ -70,7 +70,7 @@ with_body layout bodies.Other = layout
 abbrev pub held_event_layout : Pos → Traced → EventLayout
 held_event_layout at event = with_body (record (none_at at) { name = name_number (name_of event.body); common_pid = event.pid; task = name_layout event.task }) event.body
 
--- the event at a place, where one is held
+-- the event at a place, if one is held
 abbrev pub event_layout : Pos → Option Traced → EventLayout
 event_layout at event = option_map_or (held_event_layout at) event (none_at at)
 

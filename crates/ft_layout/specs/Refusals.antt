@@ -33,11 +33,11 @@ abbrev pub with_reason : RefusalLayout → TriggerFault → RefusalLayout
 with_reason layout (triggers.BadFilter reason) = with_filter_fault layout reason
 with_reason layout other = layout
 
--- with the fault of a trigger's text, and of a filter's fault which one, and where in the filter's text
+-- with the fault of a trigger's text, and if that is a filter's fault, which one, and where in the filter's text
 abbrev pub with_trigger_fault : RefusalLayout → TriggerFault → RefusalLayout
 with_trigger_fault layout reason = with_reason (with_place (record layout { fault = trigger_number reason }) (trigger_place reason)) reason
 
--- with what a refusal says beside its number, which of any other says all
+-- with what a refusal says beside its number; the number of any other refusal says all
 abbrev pub with_detail : RefusalLayout → Refused → RefusalLayout
 with_detail layout (refused.BadLine number reason) = record layout { line = number; fault = line_number reason }
 with_detail layout (refused.LaneHeld number) = record layout { cpu = number }
@@ -48,7 +48,7 @@ with_detail layout (refused.InUse id) = record layout { trigger = id }
 with_detail layout (refused.NameTaken id) = record layout { trigger = id }
 with_detail layout other = layout
 
--- a refusal's number alone
+-- only a refusal's number
 abbrev pub with_number : Refused → RefusalLayout
 with_number why = record no_refusal { number = refused_number why }
 
@@ -65,7 +65,7 @@ numbered items number = if number == 0 then None else slice_get items (number - 
 abbrev pub line_faults : List LineFault
 line_faults = lines.NoTask ∷ lines.BadCpu ∷ lines.BadStamp ∷ lines.BadPayload ∷ lines.NumberRange ∷ lines.NameLong ∷ lines.LineLong ∷ []
 
--- the faults of filters by number, at the place where they have one
+-- the faults of filters by number, at the place if they have one
 abbrev pub filter_faults : RefusalLayout → List FilterFault
 filter_faults layout = filters.Memory ∷ filters.Syntax layout.place ∷ filters.NoField layout.place ∷ filters.WrongKind layout.place ∷ filters.BadGlob layout.place ∷ filters.NumberRange layout.place ∷ filters.TooDeep ∷ []
 
@@ -73,7 +73,7 @@ filter_faults layout = filters.Memory ∷ filters.Syntax layout.place ∷ filter
 abbrev pub filter_fault_of : RefusalLayout → Option FilterFault
 filter_fault_of layout = numbered (filter_faults layout) layout.filter_fault
 
--- the faults of triggers by number, at the place where they have one
+-- the faults of triggers by number, at the place if they have one
 abbrev pub trigger_faults : RefusalLayout → List (Option TriggerFault)
 trigger_faults layout =
     Some triggers.Memory ∷ Some (triggers.Syntax layout.place) ∷ Some triggers.NoField ∷ Some triggers.NotNumeric ∷ Some triggers.TooMany ∷ Some triggers.Duplicate
@@ -83,7 +83,7 @@ trigger_faults layout =
 abbrev pub trigger_fault_of : RefusalLayout → Option TriggerFault
 trigger_fault_of layout = option_flatten (numbered (trigger_faults layout) layout.fault)
 
--- the refusals by number, each with the numbers; none where these have none of that kind
+-- the refusals by number, each with the numbers; none if these have none of that kind
 abbrev pub refusals : RefusalLayout → List (Option Refused)
 refusals layout =
     Some refused.Memory ∷ Some refused.NoFile ∷ option_map (λ reason. refused.BadLine layout.line reason) (numbered line_faults layout.fault)
@@ -106,6 +106,6 @@ both false false = true
 abbrev pub is_same : RefusalLayout → RefusalLayout → Bool
 is_same a b = (a.number == b.number) && (a.fault == b.fault) && (a.filter_fault == b.filter_fault) && (a.cpu == b.cpu) && (a.trigger == b.trigger) && both a.has_place b.has_place && (a.line == b.line) && (a.place == b.place)
 
--- the refusal that C has so: the one with the numbers, where what doesn't belong to its number is 0
+-- the refusal that C has so: the one with the numbers, if what doesn't belong to its number is 0
 abbrev pub refusal_in : RefusalLayout → Option Refused
 refusal_in layout = option_and_then (λ why. if is_same layout (refusal_layout (Some why)) then Some why else None) (likely layout)

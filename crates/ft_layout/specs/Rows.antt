@@ -45,10 +45,10 @@ row_layout row = record { key = key_layout row.key; hitcount = row.hitcount; sum
 abbrev pub changed_layout : Changed → ChangedLayout
 changed_layout changed = record { id = changed.id; key = key_layout changed.key }
 
--- how many rows are told of, where they are
+-- how many rows are told of, if they are; else 0
 abbrev pub count_of : Option (List Changed) → ℕ
 count_of rows = option_map_or (λ told. length told) rows 0
 
--- how many rows an edit may have changed, where that is told
+-- how many rows an edit may have changed, if that is told
 abbrev pub report_layout : Option (List Changed) → Option (List Changed) → ReportLayout
 report_layout rows made = record { has_rows = is_some rows; has_made = is_some made; rows = count_of rows; made = count_of made }

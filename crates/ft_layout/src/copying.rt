@@ -118,8 +118,8 @@ fn held_at(lanes: &Lanes, at: &Pos) -> Option<Event>
     }
 }
 
-/// Copies the items from the one of this number on, counted from 0: as many as there are and as have
-/// room. How many that is; none where the number is past the end.
+/// Copies the items from the one of this number on, counted from 0: as many as there are and as
+/// have room. How many that is; none if the number is past the end.
 pub fn copy_part<Item, W: Shows<Item>>(
     way: &W,
     all: &[Item],
@@ -137,7 +137,7 @@ pub fn copy_part<Item, W: Shows<Item>>(
     count
 }
 
-/// The items from the one of this number on; none where it is past the end.
+/// The items from the one of this number on; none if it is past the end.
 fn rest_from<Item>(all: &[Item], from: u64) -> &[Item]
     ensures { result.now ≡ drop from all.now }
 {
@@ -171,8 +171,8 @@ pub fn copy_places(all: &[Pos], from: u64, to: &mut [PlaceLayout]) -> usize
     copy_part(&ByItself, all, from, to)
 }
 
-/// Copies the events that the lanes hold at places, from the place of this number on, as `copy_part`
-/// does: no event for a place where none is held, or one of another stamp.
+/// Copies the events that the lanes hold at places, from the place of this number on, as
+/// `copy_part` does: no event for a place where none is held, or where one of another stamp is.
 pub fn copy_events(lanes: &Lanes, places: &[Pos], from: u64, to: &mut [EventLayout]) -> usize
     ensures part { to.new ≡ copied (event_in lanes.now) from places.now to.old }
     ensures count { result ≡ min (length to.old) (length places.now - from) }

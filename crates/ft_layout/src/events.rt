@@ -14,7 +14,7 @@ use ft_fields::{Body, Event, Pos, Turn, Wake};
 pub struct EventLayout {
     /// The place.
     pub place: PlaceLayout,
-    /// The number of its name, or `EventLayout::NONE` where no event is held there.
+    /// The number of its name, or `EventLayout::NONE` if no event is held there.
     pub name: u32,
     /// The PID of the task that ran.
     pub common_pid: i32,
@@ -49,11 +49,11 @@ pub struct TriggerLayout {
 }
 
 impl EventLayout {
-    /// The number in place of a name where no event is held.
+    /// The number in place of a name if no event is held.
     pub const NONE: u32 = 255;
 
-    /// The event that is held at the place as C has it. Of one that a trigger made, which is never
-    /// held, what all events have is there.
+    /// The event that is held at the place as C has it. For one that a trigger made, which is never
+    /// held, it has what all events have.
     pub fn of(pos: &Pos, event: Option<Event>) -> EventLayout
         ensures { result ≡ event_layout pos.now event }
     {

@@ -14,14 +14,15 @@
 //! - `RowLayout::of` and the other layouts: each struct is a function of the value that it shows
 //!   (`specs/Rows.antt`, `specs/Events.antt`, `specs/Places.antt`, `specs/Refusals.antt`).
 //!   `name_number`, `name_numbered`: a name's number and back.
-//! - `copy_part`, `copy_rows` and the other copies: as many items from a number on as there are and
+//! - `copy_part`, `copy_rows` and the other copies: as many items as there are from a number on and
 //!   as have room are shown at the front of the caller's array, the rest of which stays, and the
-//!   answer is how many (`specs/Copied.antt`); exact. `copy_events` shows at each place the event that
-//!   the lanes hold there, on the CPU's line and with the stamp, or that there is none (`event_in`).
-//! - `refusal_in`, law `numbers_of_refusals`: the refusal that numbers are of, where they are of
-//!   one; that of a refusal's layout is the refusal. Law `numbers_of_names`: the same of names.
+//!   answer is how many (`specs/Copied.antt`); exact. `copy_events` shows at each place the event
+//!   that the lanes hold there, on the CPU's line and with the stamp, or that there is none
+//!   (`event_in`).
+//! - `refusal_in`, law `numbers_of_refusals`: the refusal that numbers are of, if they are of one;
+//!   that of a refusal's layout is the refusal. Law `numbers_of_names`: the same of names.
 //! - `refusal_text`, `refusal_words`: the line that a script prints of it, without its line break,
-//!   exact; its words, which have no clause, and none where the numbers are of no refusal. Lets
+//!   exact; its words, which have no clause, and none if the numbers are of no refusal. Lets
 //!   through: running out of memory at any time.
 #![tactic(auto)]
 

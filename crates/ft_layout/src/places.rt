@@ -37,7 +37,7 @@ pub struct LatencyLayout {
     pub saved: PlaceLayout,
     /// The place of the event that read it.
     pub read: PlaceLayout,
-    /// The microseconds from the saving to the reading; 0 where the reading has the lower stamp.
+    /// The microseconds from the saving to the reading; 0 if the reading has the lower stamp.
     pub micros: u64,
 }
 

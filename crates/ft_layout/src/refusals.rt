@@ -12,7 +12,7 @@ use ft_hist::TriggerFault;
 #[repr(C)]
 #[derive(Clone, Copy, Debug)]
 pub struct RefusalLayout {
-    /// The refusal's number, as `Refused::number` has it; 0 where nothing was refused.
+    /// The refusal's number, as `Refused::number` has it; 0 if nothing was refused.
     pub number: u32,
     /// The number of the fault of a trace line, or of a trigger's text.
     pub fault: u32,
@@ -68,7 +68,7 @@ impl RefusalLayout {
         }
     }
 
-    /// The refusal's number alone.
+    /// Only the refusal's number.
     fn numbered(refused: Refused) -> RefusalLayout
         ensures { result ≡ with_number refused }
     {
@@ -154,7 +154,7 @@ impl RefusalLayout {
             && self.place == other.place
     }
 
-    /// The faults of filters, at its place where they have one, in the order of their numbers.
+    /// The faults of filters, at its place if they have one, in the order of their numbers.
     fn filter_faults(&self) -> [FilterFault; 7]
         ensures { result ≡ filter_faults self.now }
     {
@@ -177,8 +177,8 @@ impl RefusalLayout {
         item_numbered(&self.filter_faults(), self.filter_fault)
     }
 
-    /// The faults of triggers, at its place where they have one, in the order of their numbers; none
-    /// where it has no fault of a filter.
+    /// The faults of triggers, at its place if they have one, in the order of their numbers; the
+    /// last is none if it has no fault of a filter.
     fn trigger_faults(&self) -> [Option<TriggerFault>; 11]
         ensures { result ≡ trigger_faults self.now }
     {
@@ -205,7 +205,7 @@ impl RefusalLayout {
         item_numbered(&self.trigger_faults(), self.fault).flatten()
     }
 
-    /// The refusals in the order of their numbers, each with its numbers; none where it has none of
+    /// The refusals in the order of their numbers, each with its numbers; none if it has none of
     /// that kind.
     fn refusals(&self) -> [Option<Refused>; 17]
         ensures { result ≡ refusals self.now }
@@ -232,7 +232,7 @@ impl RefusalLayout {
         ]
     }
 
-    /// The refusal with its numbers, where what doesn't belong to its number is 0.
+    /// The refusal with its numbers, if what doesn't belong to its number is 0.
     fn refused(&self) -> Option<Refused>
         ensures { result ≡ refusal_in self.now }
     {

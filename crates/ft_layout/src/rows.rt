@@ -67,7 +67,7 @@ pub struct ChangedLayout {
     pub key: KeyLayout,
 }
 
-/// How many rows an accepted insert or strike may have changed, where that is told.
+/// How many rows an accepted insert or strike may have changed, if that is told.
 #[repr(C)]
 #[derive(Clone, Copy, Debug, PartialEq, Eq)]
 pub struct ReportLayout {
@@ -201,8 +201,8 @@ impl ChangedLayout {
 }
 
 impl ReportLayout {
-    /// How many rows there are, of triggers that count held events and of those that count made ones,
-    /// where each is told.
+    /// How many rows there are, of triggers that count held events and of those that count made
+    /// ones, if each is told.
     pub fn of(rows: Option<&[Changed]>, made: Option<&[Changed]>) -> ReportLayout
         ensures { result
             ≡ report_layout (option_map (λ rows. rows.now) rows.entry) (option_map (λ made. made.now) made.entry) }

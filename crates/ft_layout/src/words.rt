@@ -8,8 +8,8 @@ use crate::refusals::{RefusalLayout, refusal_in};
 use ft_script::refused_line;
 use std::alloc::{AllocError, Global};
 
-/// The text that a script's run prints of the refusal, without its line break; empty where the
-/// numbers are of no refusal.
+/// The text that a script's run prints of the refusal, without its line break; empty if the numbers
+/// are of no refusal.
 pub fn refusal_text(alloc: Global, layout: &RefusalLayout) -> Result<Vec<u8>, AllocError>
     ensures { IfOk result (λ text. text.items ≡ refusal_text layout.now) }
 {
@@ -27,7 +27,7 @@ fn without_last(mut text: Vec<u8>) -> Vec<u8>
     text
 }
 
-/// What the refusal means, in words; empty where the numbers are of no refusal.
+/// What the refusal means, in words; empty if the numbers are of no refusal.
 pub fn refusal_words(alloc: Global, layout: &RefusalLayout) -> Result<Vec<u8>, AllocError>
     ensures { refusal_in layout.now ≡ None → IfOk result (λ words. words.items ≡ []) }
 {

@@ -72,14 +72,14 @@ ends-more front line done ended opens rest =
     ap lines_of (append_assoc front (line ++ 10 ∷ []) rest) ∙ ended ((line ++ 10 ∷ []) ++ rest)
     ∙ ap (λ (t : List ℕ). done ++ lines_of t) (append_assoc line (10 ∷ []) rest) ∙ ap (λ (ls : List (List ℕ)). done ++ ls) (opens rest) ∙ sym (append_assoc done (line ∷ []) (lines_of rest))
 
--- where a line ends that a line break ends
+-- where a line ends, if a line break ends it
 end-broken : (size start : ℕ) (front text line behind : List ℕ) → size ≡ length (front ++ text) → start ≡ length front → text ≡ line ++ 10 ∷ behind → end_of size start line ≡ length (front ++ (line ++ 10 ∷ []))
 end-broken size start front text line behind sized begun same =
     let whole = sized ∙ ap length (split front text line behind same) ∙ length-append (front ++ (line ++ 10 ∷ [])) behind in
     let long = length-front front line in
     omega (arith, begun, whole, long)
 
--- where the last line ends that none ends
+-- where the last line ends, if no line break ends it
 end-whole : (size start : ℕ) (front text line : List ℕ) → size ≡ length (front ++ text) → start ≡ length front → text ≡ line → end_of size start line ≡ length (front ++ text)
 end-whole size start front text line sized begun same =
     let all = length-append front text in

@@ -12,11 +12,11 @@ use Rattle.ft_lines.specs.declared.line.TextLine.{TextLine}
 
 -- ---- lines
 
--- the number in place of an event's name, of a line that is skipped
+-- the number in place of an event's name, for a line that is skipped
 abbrev pub skipped : ℕ
 skipped = 253
 
--- the same of a line that can't be read
+-- the same for a line that can't be read
 abbrev pub bad : ℕ
 bad = 254
 
@@ -36,7 +36,7 @@ text_line_layout line = kind_layout line.end line.kind
 
 -- ---- losses
 
--- what a text without the kernel's header tells of the buffers
+-- what a text without the kernel's header reports of the buffers
 abbrev pub no_buffers : Buffers
 no_buffers = record { held = 0; written = 0 }
 

@@ -18,7 +18,8 @@ pub struct TextLineLayout {
     pub stamp: u64,
     /// The CPU of its event; 0 if it has none.
     pub cpu: u32,
-    /// The number of its event's name; 253 of a line that is skipped, 254 of one that can't be read.
+    /// The number of its event's name; 253 for a line that is skipped, 254 for one that can't be
+    /// read.
     pub event: u32,
     /// The number of its fault if it can't be read, else 0.
     pub fault: u32,
@@ -36,14 +37,14 @@ pub struct LossesLayout {
     pub held: u64,
     /// How many events were written to them; 0 if the text has no header.
     pub written: u64,
-    /// Whether the text has the kernel's header, which tells what the buffers held.
+    /// Whether the text has the kernel's header, which reports what the buffers held.
     pub has_written: bool,
 }
 
-/// The number in place of an event's name, of a line that is skipped.
+/// The number in place of an event's name, for a line that is skipped.
 const SKIPPED: u32 = 253;
 
-/// The same of a line that can't be read.
+/// The same for a line that can't be read.
 const BAD: u32 = 254;
 
 impl TextLineLayout {
@@ -82,7 +83,7 @@ impl TextLineLayout {
     }
 }
 
-/// What the kernel's header tells; zeros if the text has none.
+/// What the kernel's header reports; zeros if the text has none.
 fn buffers_or_none(buffers: Option<Buffers>) -> Buffers
     ensures { result ≡ unwrap_or buffers no_buffers }
 {

@@ -58,7 +58,7 @@ fn name_of(body: &BodyRef<'_>) -> Name
 }
 
 impl LineEvent {
-    /// What is told of an event.
+    /// What is reported of an event.
     #[inline(always)]
     fn of(event: &EventRef<'_>) -> LineEvent
         ensures { result ≡ line_event (event_told event.now) }

@@ -7,7 +7,7 @@ use crate::line::{LineKind, TextLine};
 use ft_text::next_line;
 use std::alloc::{AllocError, Global};
 
-/// So many bytes of a text make a line, more or less: the kernel's own lines are a little longer.
+/// How many bytes of a text make a line, more or less: the kernel's own lines are a little longer.
 const LINE_BYTES: usize = 128;
 
 /// Where a line ends that begins at this byte of a text of this size: behind its line break, or with the text.

@@ -153,7 +153,7 @@ nothing-lost cpu (suc n) before low none =
     here None h = refl
     here (Some loss) h = absurd (cc)
 
--- no CPU has lost events since its last one
+-- no CPU has lost events since its last event
 pub none-lost : (before : List Note) → any_lost before ≡ false → (cpu : ℕ) → cpu ≤ last_cpu → lost_since cpu before ≡ None
 none-lost before none cpu fits = nothing-lost cpu 8192 before (omega (arith, fits)) none
 

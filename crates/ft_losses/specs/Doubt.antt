@@ -24,7 +24,7 @@ ends_after (Some before) began = nat_lt began before
 abbrev pub spans : ℕ → ℕ → Hole → Bool
 spans began ended hole = begins_before hole.after ended && ends_after hole.before began
 
--- whether any hole, and whether one of a CPU, is in a wait's time
+-- whether any hole, and whether any hole of a CPU, is in a wait's time
 abbrev pub any_spans : List Hole → ℕ → ℕ → Bool
 any_spans holes began ended = list_any (spans began ended) holes
 

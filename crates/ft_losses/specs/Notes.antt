@@ -1,4 +1,4 @@
--- What the lines of a text report of a CPU's events: that one was there, or that some were lost. Notes stand newest first, one for each line.
+-- What the lines of a text report of a CPU's events: that there was one, or that some were lost. Notes stand newest first, one for each line.
 use Rattle.std.specs.Prelude.{◌≡◌, ℕ, List, [], ◌∷◌, Option, Some, None, Result, Ok, Err}
 use Rattle.ft_event.specs.Line.{line_of}
 use Rattle.ft_event.specs.Marks.{MarkIs}

@@ -65,7 +65,7 @@ impl Doubts {
         any_in(&self.rows, None, began, ended)
     }
 
-    /// Whether one of a CPU is.
+    /// Whether any hole of a CPU is in a wait's time.
     fn any_spans_on(&self, cpu: u16, began: u64, ended: u64) -> bool
         ensures { result ≡ any_spans_on cpu self.now began ended }
     {
@@ -78,7 +78,7 @@ impl Doubts {
         ensures { result ≡ doubt self.now began ended }
     {
         let (from, to) = (began.stamp, ended.stamp);
-        // Mostly no hole is in a wait's time, and one question tells.
+        // Mostly no hole is in a wait's time, and one question shows it.
         if !self.any_spans(from, to) {
             return Doubt::Sure;
         }

@@ -23,7 +23,7 @@ fn either(first: bool, second: bool) -> bool
     first || second
 }
 
-/// Whether any CPU lost events since its last one.
+/// Whether any CPU lost events since its last event.
 fn any_lost(lanes: &[Lane]) -> bool
     ensures { result ≡ list_any (λ cpu. is_some (lane_in lanes.now cpu).lost) (cpus_below 8192) }
 {
@@ -122,15 +122,17 @@ fn join_lanes(lanes: &mut Vec<Lane>, part: &[Lane], lines: u64)
 }
 
 impl Losses {
-    /// Whether any CPU lost events since its last one: a hole has begun, and no event has ended it.
+    /// Whether any CPU lost events since its last event: a hole has begun, and no event has ended
+    /// it.
     pub fn is_open(&self) -> bool
         ensures { (notes : List Note) → Keeps self.now notes → result ≡ any_lost notes }
     {
         any_lost(&self.lanes)
     }
 
-    /// Joins a part that was read apart, as if its lines had followed the lines so far, of which there are
-    /// so many, and no hole has begun that has not ended. Fails only for memory.
+    /// Joins a part that was read apart, as if its lines had followed the lines so far. `lines` is
+    /// how many lines there are so far, and no hole has begun in them that has not ended. Fails
+    /// only for memory.
     pub fn join(&mut self, part: Losses, lines: u64) -> Result<(), AllocError>
         ensures { OnOk result (Joins lines self.old part self.new) }
     {

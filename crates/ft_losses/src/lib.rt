@@ -1,5 +1,5 @@
-//! Losses: where events of a recording were lost, as the lines of its text report it, and how sure a wait is in whose
-//! time that was.
+//! Losses: where events of a recording were lost, as the lines of its text report it, and how sure
+//! a wait is if events were lost in its time.
 //!
 //! ```ignore
 //! let mut losses = Losses::new(alloc)?;
@@ -17,23 +17,27 @@
 //!
 //! # Contracts
 //!
-//! - `Losses::new`, `pass`, `skip`, `finish`: after one call for each line, the holes are those that the lines report:
-//!   `holes` (`specs/Holes.antt`) of what each line reports (`specs/Notes.antt`). A hole stands between two events of a
-//!   CPU, if a line between them reports a loss: several lines there are one hole. If only the header says that
-//!   events were overwritten, and no line says of which CPUs, each CPU that begins after another one has a hole before its
-//!   first event. `finish` has the counts of the kernel's header too. Fails only for memory. Lets through:
-//!   running out of memory at any time.
-//! - `Losses::is_open`, `join`: a part that was read apart, from `Losses::new` on, keeps, joined to what the lines before
-//!   it report, what its lines report behind those, if no hole has begun before it that has not ended: `Joins`
-//!   (`specs/Joining.antt`). `join` fails only for memory. Lets through: running out of memory at any time; what is
-//!   kept then.
+//! - `Losses::new`, `pass`, `skip`, `finish`: after one call for each line, the holes are those
+//!   that the lines report: `holes` (`specs/Holes.antt`) of what each line reports
+//!   (`specs/Notes.antt`). A hole stands between two events of a CPU, if a line between them
+//!   reports a loss: several lines there are one hole. If only the header says that events were
+//!   overwritten, and no line says of which CPUs, each CPU that begins after another one has a hole
+//!   before its first event. `finish` reports the counts of the kernel's header too. Fails only for
+//!   memory. Lets through: running out of memory at any time.
+//! - `Losses::is_open`, `join`: a part that was read apart, from `Losses::new` on, is joined to the
+//!   lines before it: what is kept then is what those lines report, and behind that what its own
+//!   lines report, if no hole has begun before it that has not ended: `Joins`
+//!   (`specs/Joining.antt`). `join` fails only for memory. Lets through: running out of memory at
+//!   any time; what is kept then.
 //! - `Doubts::of`, `holes`: an index of holes is seen as the list of these holes, in their order. Fails
 //!   only for memory. Lets through: running out of memory at any time.
-//! - `Doubts::doubt`: how sure a wait from a place to another is; exact, `doubt` (`specs/Doubt.antt`). Any
-//!   hole in its time makes it likely at most, and one of the CPU on which it began or ended, doubtful.
-//! - `Doubts::wait`, `wait_of`: the wait that a dispatch ends, and how sure it is; exact, `wait_of_both` and
-//!   `wait_of` (`specs/Doubt.antt`). If a task waits since the CPU was taken from it, and that isn't sure, it
-//!   counts as waiting since it was woken or created, if that is.
+//! - `Doubts::doubt`: how sure a wait from a place to another is; exact, `doubt`
+//!   (`specs/Doubt.antt`). Any hole in its time makes it likely at most, and a hole of the CPU on
+//!   which it began or ended makes it doubtful.
+//! - `Doubts::wait`, `wait_of`: the wait that a dispatch ends, and how sure it is; exact,
+//!   `wait_of_both` and `wait_of` (`specs/Doubt.antt`). If a task waits since the CPU was taken
+//!   from it, and that wait isn't sure, it counts as waiting since it was woken or created, if that
+//!   wait is sure.
 //! - `Doubt::is_sure`: exact, `is_sure` (`specs/Doubt.antt`).
 #![tactic(auto)]
 

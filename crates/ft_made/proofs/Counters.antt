@@ -135,7 +135,7 @@ module _ (triggers : Triggers) (events : Events) (e : Pos × Traced) (t : ℕ ×
   unfolding made_at
   made_at-is = rw (there, attached) (ap (option_and_then (made_of t.1 e.0 e.1)) saving-is)
 
-  -- where the turn finds what stands in front, it makes what is made there
+  -- if the turn finds what stands in front, it makes what is made there
   made_now-is : (state : State) → state ≡ state_before triggers events at → made_now triggers (map.get state.variables) e t ≡ made_there triggers events spot
   made_now-is state before =
       ap (λ (s : State). made_now triggers (map.get s.variables) e t) before
@@ -192,7 +192,7 @@ module _ (triggers : Triggers) (events : Events) where
   unfolding replay_making made_list spots
   made-is = all_events [] (map.entries events) refl (entries_found pos_cmp pos_cmp_total events) _ refl
 
--- ---- where none is made
+-- ---- if none is made
 
 module _ (triggers : Triggers) (events : Events) (none : MakeNone triggers) where
   none_listed : (all : List Spot) → filter_map (made_there triggers events) all ≡ []
@@ -206,7 +206,7 @@ module _ (triggers : Triggers) (events : Events) (none : MakeNone triggers) wher
   unfolding made_list
   none-made = made-is triggers events ∙ ap (fold (goes_past triggers) (started triggers)) (none_listed (spots triggers events))
 
--- ---- an event on whose name no trigger is changes nothing
+-- ---- an event changes nothing if no trigger is on its name
 
 module _ (triggers : Triggers) where
   idle : (entry : Pos × Traced) (state : StateMaking) (attached : ℕ × Hist) → same_name attached.1.event (name_of entry.1.body) ≡ false → act_making triggers entry state attached ≡ state

@@ -59,7 +59,7 @@ use Rattle.ft_made.proofs.Views.{nothing}
 abbrev pub hit_under : Hist → Spot → Traced → List Part → TriggerHit
 hit_under hist spot event key = record { spot = spot; key = key; saved = None; values = values_at hist spot.pos event None }
 
--- what a hit adds under a key, where that is the hit's
+-- what a hit adds under a key, if that is the hit's
 abbrev adds_under : List Part → TriggerHit → Option (List ℤ)
 adds_under key found = if same_key key found.key then Some found.values else None
 
@@ -106,7 +106,7 @@ module _ (hist : Hist) (spot : Spot) where
   abbrev at_key : List Part → Mark
   at_key key = record { spot = spot; key = key }
 
-  -- a table comes to hold at the spot what a hit adds, or nothing where there is none, and stays as it was elsewhere
+  -- a table comes to hold at the spot what a hit adds, or nothing if there is none, and stays as it was elsewhere
   abbrev Becomes : Option TriggerHit → Tabled → Tabled → Type 0
   Becomes o before after =
       (after.size ≡ before.size)
@@ -119,7 +119,7 @@ module _ (hist : Hist) (spot : Spot) where
   not_at : (mark : Mark) (key : List Part) → (mark.spot ≡ spot → ⊥) → mark ≡ at_key key → ⊥
   not_at mark key apart same = apart (ap (λ (m : Mark). m.spot) same)
 
-  -- marks of the spot tie just where their keys do
+  -- marks of the spot tie if and only if their keys do
   tied_at : (a b : List Part) → eq_by_cmp mark_cmp (at_key a) (at_key b) ≡ same_key a b
   tied_at a b = ap (λ o. is_eq (ordering_then o (key_cmp a b))) (tied_itself spot_cmp_total spot)
 
@@ -227,7 +227,7 @@ module _ (triggers : Triggers) (events : Events) (hist : Hist) where
           ),
         )
 
-  -- where no change is left, it is made of what readings find
+  -- if no change is left, it is made of what readings find
   pub way_done : (now : Findings) (table : Tabled) → IsOnTheWay [] now table → IsMadeTable triggers events now hist table
   way_done now table (between, (same, made)) = record {
     size = made.size;
@@ -314,13 +314,13 @@ same_readings readings = same_map pos_cmp_total pos_same _ _ (λ pos.
 
 -- ---- one trigger's readings
 
--- nothing is kept where one is found, and where none is
+-- nothing is kept, whether one is found or none is
 none_of : (o : Option Pos) → option_map_or (λ (saved : Pos). None) o o ≡ None
 none_of None = refl
 none_of (Some saved) = refl
 
 module _ (id : ℕ) (now : Findings) where
-  -- what readings find, where those of the trigger at these places find nothing yet
+  -- what readings find, if those of the trigger at these places find nothing yet
   abbrev without : List (Pos × Pos) → Findings
   without es q pos = if q == id then option_map_or (λ (saved : Pos). None) (find pos_cmp pos es) (now q pos) else now q pos
 
@@ -363,7 +363,7 @@ module _ (triggers : Triggers) (pairs : ℕ → List Pair) where
   abbrev pub all_found : Findings
   all_found id pos = option_and_then (λ hist. map.get (making (id, hist)) pos) (map.get triggers id)
 
-  -- the same, where those of these triggers find nothing yet
+  -- the same, if those of these triggers find nothing yet
   abbrev not_yet : List (ℕ × Hist) → Findings
   not_yet ts id pos = option_map_or (λ (hist : Hist). None) (find nat_cmp id ts) (all_found id pos)
 

@@ -28,7 +28,7 @@ use Rattle.ft_replay.specs.Merged.{Events}
 use Rattle.ft_made.specs.MadeEvents.{made_at, spots_at, spots, made_list, made_events}
 use Rattle.ft_made.proofs.Views.{only_both}
 
--- ---- keys in order, with what stands at each where something does
+-- ---- keys in order, with what stands at each, if something does
 
 module _ {K X : Type 0} (R : K → K → Ordering) (f : K → Option X) where
   -- a key with what stands there, if something does
@@ -99,7 +99,7 @@ place_sorted e (t ∷ ts) h = (
 )
 
 module _ (triggers : Triggers) where
-  -- of each spot at an event, where it holds whatever the trigger
+  -- what holds for every trigger holds of each spot at an event
   each_spot : (P : Spot → Type 0) (e : Pos × Traced) → ((t : ℕ × Hist) → P (spot_at e t)) → AllByRecursion P (spots_at triggers e)
   each_spot P e h = all_list_map P (spot_at e) (map.entries triggers) (all_of _ h (map.entries triggers))
 

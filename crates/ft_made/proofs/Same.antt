@@ -14,7 +14,7 @@ use Rattle.ft_made.specs.MadeEvents.{made_by, made_at}
 use Rattle.ft_made.specs.Laws.{FoundMakeAll, MakeNone}
 use Rattle.ft_made.proofs.Views.{nothing, same_then}
 
--- what is made at a spot, where its reading finds this
+-- what is made at a spot if its reading finds this
 abbrev pub makes : Triggers → Events → Spot → Option Pos → Option Traced
 makes triggers events spot saved = made_by triggers events (λ id pos. saved) spot
 
@@ -29,7 +29,7 @@ module _ (triggers : Triggers) (events : Events) (spot : Spot) where
   pub makes_none : makes triggers events spot None ≡ None
   makes_none = nothing _ (map.get events spot.pos) (λ event held. nothing _ (map.get triggers spot.maker) (λ hist attached. refl))
 
-  -- nothing is made where no trigger makes events
+  -- nothing is made if no trigger makes events
   pub none_makes : MakeNone triggers → (found : Option Pos) → makes triggers events spot found ≡ None
   none_makes none found = nothing _ (map.get events spot.pos) (λ event held. nothing _ (map.get triggers spot.maker)
       (λ hist attached. nothing _ found (λ saved is. ap (option_map (made_event spot.pos event saved)) (none spot.maker hist attached))))

@@ -4,7 +4,7 @@ use Rattle.std.specs.Prelude.{◌&&◌, fold, is_some, option_and_then}
 use Rattle.std.specs.List.{cons_option}
 use Rattle.std.specs.Option.{option_map_or}
 
--- a view of a fold, where the view of each step is a step of the view
+-- a view of a fold, if the view of each step is a step of the view
 pub seen_fold : {S T X : Type 0} (p : S → T) (f : S → X → S) (g : T → X → T) → ((s : S) (x : X) → p (f s x) ≡ g (p s) x) → (s : S) (xs : List X) → p (fold f s xs) ≡ fold g (p s) xs
 seen_fold p f g same s [] = refl
 seen_fold p f g same s (x ∷ xs) = seen_fold p f g same (f s x) xs ∙ ap (λ t. fold g t xs) (same s x)
@@ -24,12 +24,12 @@ pub same_then : {A B : Type 0} (f g : A → Option B) (o : Option A) → ((a : A
 same_then f g None h = refl
 same_then f g (Some a) h = h a refl
 
--- nothing comes of an option where there is nothing
+-- nothing comes of an option that has nothing
 pub only_some : {A B : Type 0} (f : A → Option B) (o : Option A) → cond (is_some o) (option_and_then f o) None ≡ option_and_then f o
 only_some f None = refl
 only_some f (Some a) = refl
 
--- nor of two where either is missing
+-- nor of two if either is missing
 pub only_both : {A B C : Type 0} (f : A → B → Option C) (o : Option A) (p : Option B)
     → cond (is_some o && is_some p) (option_and_then (λ a. option_and_then (f a) p) o) None ≡ option_and_then (λ a. option_and_then (f a) p) o
 only_both f None p = refl

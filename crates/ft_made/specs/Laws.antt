@@ -56,17 +56,17 @@ MadeAreTallied = (triggers : Triggers) (events : Events) (id : ℕ) (hist : Hist
 abbrev pub OthersCountNone : Type 0
 OthersCountNone = (triggers : Triggers) (events : Events) (id : ℕ) → map.get triggers id ≡ None → map.get (replay_making triggers events).made id ≡ None
 
--- where no attached trigger makes an event, nothing but held events is counted
+-- if no attached trigger makes an event, only held events are counted
 abbrev pub NoneIsMade : Type 0
 NoneIsMade = (triggers : Triggers) (events : Events) → MakeNone triggers → (replay_making triggers events).made ≡ started triggers
 
--- an event on whose name no trigger is makes none, and changes nothing
+-- if no trigger is on an event's name, the event makes none, and changes nothing
 abbrev pub NamedMakeAll : Type 0
 NamedMakeAll = (triggers : Triggers) (events : Events) → replay_making triggers (named triggers events) ≡ replay_making triggers events
 
 -- ---- which events are made
 
--- at each spot it is the event that the reading there makes, and there is no other (kernel: histogram.rst, `onmatch`)
+-- the made event at each spot is the one that the reading there makes, and there is no other (kernel: histogram.rst, `onmatch`)
 abbrev pub MadeBySpot : Type 0
 MadeBySpot = (triggers : Triggers) (events : Events) (spot : Spot) → map.get (made_events triggers events) spot ≡ made_at triggers events spot
 
@@ -78,7 +78,7 @@ MadeInOrder = (triggers : Triggers) (events : Events) → map.entries (made_even
 abbrev pub SpotsAreDistinct : Type 0
 SpotsAreDistinct = (triggers : Triggers) (events : Events) → IsStrictlySortedBy spot_cmp (keys_of (made_list triggers events))
 
--- ---- where readings find the same
+-- ---- readings that find the same
 
 -- the spot of the event that is made where a trigger acts
 abbrev pub spot_of : At → Spot
@@ -101,7 +101,7 @@ FoundMakeAll = (triggers : Triggers) (events : Events) (found : Findings) → Ar
 
 -- ---- maps that are kept beside the events
 
--- a trigger's hits are at each spot and key what its hit there adds (kernel: histogram.rst, `values`)
+-- the map of a trigger's hits holds at each spot and key what its hit there adds (kernel: histogram.rst, `values`)
 abbrev pub MadeHitsAre : Type 0
 MadeHitsAre = (triggers : Triggers) (events : Events) (hist : Hist) (mark : Mark)
     → map.get (made_hits_of triggers events hist) mark ≡ values_made triggers events hist mark
@@ -112,7 +112,7 @@ KeptAreTallied = (triggers : Triggers) (events : Events) (id : ℕ) (hist : Hist
     → (values : Hits) → ((mark : Mark) → map.get values mark ≡ values_made triggers events hist mark)
     → map.get (replay_making triggers events).made id ≡ Some (tally_of (table_for hist values) [])
 
--- savings that are what the attached triggers' readings find, and a map that holds what the events made of them add, give it too
+-- if savings are what the attached triggers' readings find, a map that holds what the events made of them add gives it too
 abbrev pub ReadingsAreTallied : Type 0
 ReadingsAreTallied = (triggers : Triggers) (events : Events) (found : Findings) → AreFound triggers events found
     → (id : ℕ) (hist : Hist) → map.get triggers id ≡ Some hist
@@ -141,30 +141,30 @@ ReplayedAreTallied = (triggers : Triggers) (events : Events) (pairs : ℕ → Li
 abbrev pub MadeTablesFit : Type 0
 MadeTablesFit = (triggers : Triggers) (events : Events) (found : Findings) (hist : Hist) (table : Tabled) → IsMadeTable triggers events found hist table → AllFit table hist
 
--- a table that is one stays one as what is made at one spot changes, where what it holds there is changed
+-- a table of made events stays one when what is made at one spot changes, if what it holds there is changed too
 abbrev pub MadeTablesChange : Type 0
 MadeTablesChange = (triggers others : Triggers) (events more : Events) (found later : Findings) (hist : Hist) (spot : Spot) (before after : Tabled)
     → IsMadeTable triggers events found hist before → ChangesMade hist spot (made_by others more later spot) before after
     → ((other : Spot) → (other ≡ spot → ⊥) → made_by others more later other ≡ made_by triggers events found other)
     → IsMadeTable others more later hist after
 
--- a made event's hit that is put in where none stands changes the table at its spot alone
+-- a made event's hit that is put in where none stands changes the table only at its spot
 abbrev pub PutMadeChanges : Type 0
 PutMadeChanges = (hist : Hist) (spot : Spot) (made : Option Traced) (table : Tabled) → IsFreeAt spot table → ChangesMade hist spot made table (with_made hist spot made table)
 
--- and so does one that is taken out, where a table holds at the spot just what the event adds: then no hit stands there
+-- and so does one that is taken out, if a table holds at the spot just what the event adds: then no hit stands there
 abbrev pub TakeMadeChanges : Type 0
 TakeMadeChanges = (hist : Hist) (spot : Spot) (made : Option Traced) (table : Tabled) → HoldsMade hist spot made table → ChangesMade hist spot None table (without_made hist spot made table)
 
 -- ---- keys of tables that are updated
 
--- what readings make by what they found, and by what they find later, makes tables that differ by hits of such keys alone
+-- the tables of what readings make by what they found, and by what they find later, differ only by hits of such keys
 abbrev pub UpdatedButForKeys : Type 0
 UpdatedButForKeys = (triggers : Triggers) (events : Events) (found later : Findings) (hist : Hist) (keys : List (List Part)) (before after : Tabled)
     → IsMadeTable triggers events found hist before → IsMadeTable triggers events later hist after → HaveChangedKeys triggers events found later hist keys
     → AreTablesButFor keys before after
 
--- where changes lead from what readings found to what they find, the keys of the changes are such keys
+-- if changes lead from what readings found to what they find, the keys of the changes are such keys
 abbrev pub KeysAreUpdated : Type 0
 KeysAreUpdated = (triggers : Triggers) (events : Events) (hist : Hist) (changes : List ReadingChange) (found now : Findings) → Lead changes found now
     → HaveChangedKeys triggers events found now hist (changed_keys triggers events hist changes)

@@ -16,7 +16,7 @@ use Rattle.ft_replay.specs.Found.{saving_found}
 abbrev pub Made : Type 0
 Made = FinMap spot_cmp Traced
 
--- the event that is made at a spot, where readings find these savings, by trigger and place (kernel: histogram.rst, `onmatch`)
+-- the event that is made at a spot if readings find these savings, by trigger and place (kernel: histogram.rst, `onmatch`)
 abbrev pub made_by : Triggers → Events → (ℕ → Pos → Option Pos) → Spot → Option Traced
 made_by triggers events found spot =
     option_and_then (λ event. option_and_then (λ hist. option_and_then (made_of hist spot.pos event) (found spot.maker spot.pos)) (map.get triggers spot.maker)) (map.get events spot.pos)

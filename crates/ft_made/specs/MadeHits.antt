@@ -30,10 +30,10 @@ made_hits triggers events hist = filter_map (made_hit_at triggers events hist) (
 unfoldable pub made_hits_of : Triggers → Events → Hist → Hits
 made_hits_of triggers events hist = map.from_entries (list_map entry_of (made_hits triggers events hist))
 
--- what the event made at a mark's spot, if one is, adds to the sums of the mark's key, where it is a hit of it (kernel: histogram.rst, `values`)
+-- what the event made at a mark's spot, if one is made, adds to the sums of the mark's key, if it is a hit of that key (kernel: histogram.rst, `values`)
 abbrev pub values_of_made : Hist → Mark → Option Traced → Option (List ℤ)
 values_of_made hist mark made = option_and_then (λ found. if same_key mark.key found.key then Some found.values else None) (option_and_then (made_hit hist mark.spot) made)
 
--- what the trigger's hit at a spot under a key adds to the sums, where there is one (kernel: histogram.rst, `values`)
+-- what the trigger's hit at a spot under a key adds to the sums, if there is one (kernel: histogram.rst, `values`)
 unfoldable pub values_made : Triggers → Events → Hist → Mark → Option (List ℤ)
 values_made triggers events hist mark = values_of_made hist mark (made_at triggers events mark.spot)

@@ -62,11 +62,11 @@ with_made hist spot made table =
 abbrev pub without_made : Hist → Spot → Option Traced → Tabled → Tabled
 without_made hist spot made table = option_map_or (λ found. without_hit table (record { spot = spot; key = found.key })) (option_and_then (made_hit hist spot) made) table
 
--- a table holds at a spot just what an event made there adds, or nothing where none is
+-- a table holds at a spot just what an event made there adds, or nothing if none is made
 abbrev pub HoldsMade : Hist → Spot → Option Traced → Tabled → Type 0
 HoldsMade hist spot made table = (key : List Part) → map.get table.hits (record { spot = spot; key = key }) ≡ values_of_made hist (record { spot = spot; key = key }) made
 
--- a table comes to hold at a spot what the event made there adds, or nothing where none is, and stays as it was elsewhere
+-- a table comes to hold at a spot what the event made there adds, or nothing if none is made, and stays as it was elsewhere
 pub record ChangesMade (hist : Hist) (spot : Spot) (made : Option Traced) (before after : Tabled) : Type 0 where
   pub size : after.size ≡ before.size
   pub here : HoldsMade hist spot made after

@@ -23,11 +23,11 @@ use Rattle.ft_replay.specs.Tally.{Tally, tell}
 abbrev pub saving_read : Role → (Variable → Option Pos) → List Part → Option Pos
 saving_read role found key = option_and_then (λ saved. saved) (read_as role found key)
 
--- the place of the saving that a trigger reads at an event, where the variables are these (kernel: histogram.rst, inter-event hist triggers)
+-- the place of the saving that a trigger reads at an event, if the variables are these (kernel: histogram.rst, inter-event hist triggers)
 abbrev pub saving_now : Triggers → (Variable → Option Pos) → Pos × Traced → ℕ × Hist → Option Pos
 saving_now triggers found entry attached = option_and_then (saving_read (role_of triggers attached.1.variable) found) (hit attached.1 entry.1)
 
--- the event that it makes of it then, with its spot (kernel: histogram.rst, `onmatch`)
+-- the event that it then makes of the saving, with its spot (kernel: histogram.rst, `onmatch`)
 abbrev pub made_now : Triggers → (Variable → Option Pos) → Pos × Traced → ℕ × Hist → Option (Spot × Traced)
 made_now triggers found entry attached =
     option_map (λ made. (record { pos = entry.0; maker = attached.0 }, made)) (option_and_then (made_of attached.1 entry.0 entry.1) (saving_now triggers found entry attached))
@@ -42,11 +42,11 @@ MakeNone triggers = (id : ℕ) (hist : Hist) → map.get triggers id ≡ Some hi
 abbrev pub tell_made : Hist → Spot × Traced → List Part → Tally → Tally
 tell_made hist made key tally = tell hist.size (growth_by hist made.0.pos made.1 key) made.0.pos key None tally
 
--- a tally with a made event, where that is a hit (kernel: histogram.rst, synthetic events)
+-- a tally with a made event, if that is a hit (kernel: histogram.rst, synthetic events)
 abbrev pub count_made : Hist → Tally → Spot × Traced → Tally
 count_made hist tally made = option_map_or (λ key. tell_made hist made key tally) (hit hist made.1) tally
 
--- a made event at one attached trigger: it is counted where it is a hit and the trigger has a tally (kernel: histogram.rst, synthetic events)
+-- a made event at one attached trigger: it is counted if it is a hit and the trigger has a tally (kernel: histogram.rst, synthetic events)
 unfoldable pub count_at : Spot × Traced → Tallies → ℕ × Hist → Tallies
 count_at made tallies attached =
     option_map_or (λ key. option_map_or (λ tally. map.insert tallies attached.0 (tell_made attached.1 made key tally)) (map.get tallies attached.0) tallies)

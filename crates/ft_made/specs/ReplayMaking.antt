@@ -10,12 +10,12 @@ use Rattle.ft_replay.specs.Merged.{Events}
 use Rattle.ft_replay.specs.Replay.{Tallies, State, act_at, started}
 use Rattle.ft_made.specs.Making.{made_now, goes_past}
 
--- what replaying has come to: what the held events have, and what each trigger has counted of the made ones
+-- what replaying has come to: the state after the held events, and what each trigger has counted of the made ones
 pub record StateMaking : Type 0 where
   pub first : State
   pub made : Tallies
 
--- one event at one attached trigger: the event that its reading makes goes past first, also where the trigger's own hit is dropped; then it acts (kernel: histogram.rst, `onmatch`; what comes first is our own choice)
+-- one event at one attached trigger: the event that its reading makes goes past first, even if the trigger's own hit is dropped; then the trigger acts (kernel: histogram.rst, `onmatch`; what comes first is our own choice)
 unfoldable pub act_making : Triggers → Pos × Traced → StateMaking → ℕ × Hist → StateMaking
 act_making triggers entry state attached = record {
   first = act_at triggers entry state.first attached;

@@ -25,7 +25,7 @@ pub record CanUpdate (triggers : Triggers) (events : Events) (changes : List Rea
   pub lead : Lead changes found now
   pub made : IsMadeTable triggers events found hist table
 
--- whatever readings found of which it was made, it is made of what the changes lead to
+-- whatever readings found, a table that was made of it is made of what the changes lead to afterwards
 abbrev pub IsUpdated : Triggers → Events → List ReadingChange → Hist → Tabled → Tabled → Type 0
 IsUpdated triggers events changes hist old new =
     (found now : Findings) → Lead changes found now → IsMadeTable triggers events found hist old → IsMadeTable triggers events now hist new
@@ -36,7 +36,7 @@ IsUpdated triggers events changes hist old new =
 abbrev pub change_spot : ReadingChange → Spot
 change_spot change = record { pos = change.pos; maker = change.id }
 
--- the event that is made there, where the reading finds this saving, or none (kernel: histogram.rst, `onmatch`)
+-- the event that is made there if the reading finds this saving, or none (kernel: histogram.rst, `onmatch`)
 abbrev pub made_as : Triggers → Events → ReadingChange → Option Pos → Option Traced
 made_as triggers events change found = made_by triggers events (λ id pos. found) (change_spot change)
 
@@ -56,7 +56,7 @@ changed_keys triggers events hist changes = flat_map (keys_at triggers events hi
 abbrev pub HaveKey : Hist → Option Traced → List (List Part) → Type 0
 HaveKey hist made keys = (key : List Part) → option_and_then (hit hist) made ≡ Some key → is_of keys key ≡ true
 
--- keys have those under which a trigger counts what readings make by what they found, and by what they find later, wherever these make different events
+-- the keys include those under which a trigger counts what readings make by what they found, and by what they find later, wherever these make different events
 abbrev pub HaveChangedKeys : Triggers → Events → Findings → Findings → Hist → List (List Part) → Type 0
 HaveChangedKeys triggers events found later hist keys =
     (spot : Spot) → (made_by triggers events later spot ≡ made_by triggers events found spot) ⊎ (HaveKey hist (made_by triggers events found spot) keys × HaveKey hist (made_by triggers events later spot) keys)

@@ -1,2 +1,2 @@
--- Words of private functions: tables of made events, filled from nothing.
+-- Definitions for private functions: tables of made events, filled from nothing.
 pub mod First

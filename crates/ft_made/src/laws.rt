@@ -6,9 +6,9 @@ ghost use Rattle.ft_made.specs.Laws.{MadeTablesFit, NamedMakeAll, NoneIsMade, Ot
 ghost use Rattle.ft_made.specs.Laws.{SameIsMade, PutMadeChanges, SpotsAreDistinct, TablesAreTallied};
 ghost use Rattle.ft_made.specs.Laws.{ReplayedAreInOrder, ReplayedAreTallied, TakeMadeChanges, UpdatedButForKeys};
 
-/// A law: replaying with made events comes apart into two replays. Held events and variables are as
-/// in the one that makes none; beside them each attached trigger, and no other id, counts the made
-/// events in order of their spots.
+/// A law: replaying with made events is two replays, one after the other. Held events are counted,
+/// and variables set, as if no event were made; beside that, each attached trigger, and no other
+/// id, counts the made events in order of their spots.
 pub fn made_counters()
     ensures first { HeldAreCounted }
     ensures second { MadeAreCounted }
@@ -17,16 +17,17 @@ pub fn made_counters()
     ensures idle { NoneIsMade }
 {}
 
-/// A law: the made events are a finite map from spots, with what a trigger makes there of the event
-/// and of the saving that its reading finds; in order, no two at one spot.
+/// A law: the made events are a finite map from spots: each is what a trigger makes there of the
+/// event and of the saving that its reading finds. They stand in order of their spots, no two at
+/// one spot.
 pub fn made_by_spot()
     ensures events { MadeBySpot }
     ensures order { MadeInOrder }
     ensures distinct { SpotsAreDistinct }
 {}
 
-/// A law: what is made depends on what readings find alone, at a place that keeps its event, its
-/// trigger and the trigger's role. So what is kept of readings makes what the replay makes.
+/// A law: at a place that keeps its event, its trigger and the trigger's role, what is made depends
+/// only on what readings find. So what is kept of readings makes what the replay makes.
 pub fn same_made()
     ensures local { SameIsMade }
     ensures kept { FoundMakeAll }
@@ -35,7 +36,8 @@ pub fn same_made()
 }
 
 /// A law: what an attached trigger counts of made events is the tally of the table that its hits
-/// among them make, as any map gives it that holds at each spot and key what the hit there adds.
+/// among them make. Any map that holds at each spot and key what the hit there adds gives this
+/// tally.
 pub fn made_tallies()
     ensures tally { MadeAreTallied }
     ensures hits { MadeHitsAre }
@@ -45,9 +47,9 @@ pub fn made_tallies()
     ft_table::laws::one_more_hit();
 }
 
-/// A law: a table that holds just what the events made of kept readings add has the tally that
-/// replaying gives its trigger, where what is kept is what readings find. Its keys fit the trigger,
-/// and as what is made at one spot changes, the table need only change there.
+/// A law: if what is kept of readings is what they find, a table that holds just what the events
+/// made of it add has the tally that replaying gives its trigger. Its keys fit the trigger, and
+/// when what is made at one spot changes, the table need only change there.
 pub fn made_tables()
     ensures tally { TablesAreTallied }
     ensures fit { MadeTablesFit }
@@ -69,9 +71,10 @@ pub fn replayed_pairs()
     made_tables();
 }
 
-/// A law: what readings make by what they found, and by what they find later, makes tables that
-/// differ by hits of those keys alone under which the made events are counted that differ. Where
-/// changes lead from the ones to the others, the keys of the changes have these.
+/// A law: take the table of what readings make by what they found, and the table of what they make
+/// by what they find later. The two differ only by hits of keys under which made events that differ
+/// are counted. If changes lead from what readings found to what they find later, the keys of the
+/// changes include these.
 pub fn changed_keys()
     ensures tables { UpdatedButForKeys }
     ensures keys { KeysAreUpdated }

@@ -32,8 +32,8 @@ pub trait KeptReadings {
 
 impl Counting<'_> {
     /// The trigger's table: of the events that the attached triggers make of held events, if their
-    /// readings found what is kept of them. If no trigger makes events, it takes no step. Refused for
-    /// memory.
+    /// readings found what is kept of them. If no trigger makes events, it takes no step. Refused
+    /// for memory.
     pub fn made_table<R: KeptReadings>(
         &self,
         alloc: Global,

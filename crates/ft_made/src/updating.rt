@@ -27,10 +27,10 @@ pub struct Counting<'a> {
 }
 
 impl Counting<'_> {
-    /// Updates the table of a trigger that counts made events from what readings had found to what they
-    /// find, one change after the other: the hit of the event that the reading made is taken out, and
-    /// that of the event that it makes now is put in. If nothing changed, it takes neither memory nor
-    /// steps. Refused for memory, and then the table must not be used.
+    /// Updates the table of a trigger that counts made events from what readings had found to what
+    /// they find, one change after the other: the hit of the event that the reading made is taken
+    /// out, and that of the event that it makes now is put in. If there are no changes, it takes
+    /// neither memory nor steps. Refused for memory, and then the table must not be used.
     pub fn update_made(
         &self,
         table: &mut Table,
@@ -58,9 +58,10 @@ impl Counting<'_> {
         Ok(())
     }
 
-    /// Adds the keys under which a trigger counts what changed readings make: of the events that they made
-    /// of what they had found, and of those that they make of what they find, one for each event. Hits
-    /// under other keys stay when the trigger's table is updated. Refused for memory.
+    /// Adds the keys under which a trigger counts what changed readings make: of the events that
+    /// they made of what they had found, and of those that they make of what they find, one for
+    /// each of these that is a hit. Hits under other keys stay when the trigger's table is updated.
+    /// Refused for memory.
     pub fn put_changed_keys(
         &self,
         keys: &mut Vec<Key>,
@@ -80,8 +81,8 @@ impl Counting<'_> {
         Ok(())
     }
 
-    /// The event that a changed reading makes if it finds this saving, or none: it has the place's stamp.
-    /// If it finds none, or its trigger has no onmatch part, no event is looked up.
+    /// The event that a changed reading makes if it finds this saving, or none: it has the place's
+    /// stamp. If it finds none, or its trigger has no onmatch part, no event is looked up.
     fn made_of_change(&self, change: &ReadingChange, found: Option<Pos>) -> Option<Event>
         ensures made { result ≡ made_as self.now.triggers.now (merged self.now.lanes.now) change.now found }
         ensures stamped { IfSome result (λ made. change.now.pos.stamp ≡ made.stamp) }
@@ -117,9 +118,9 @@ fn put_key(
     Ok(())
 }
 
-/// Puts the event made at a spot into a trigger's table, if one is made and is a hit of the trigger.
-/// The table must have no hit at the spot. Tests the event only if the trigger is on its name.
-/// Refused for memory, and then the table is as it was.
+/// Puts the event made at a spot into a trigger's table, if one is made and is a hit of the
+/// trigger. The table must have no hit at the spot. Tests the event only if the trigger is on its
+/// name. Refused for memory, and then the table is as it was.
 pub fn put_made(
     table: &mut Table,
     trigger: &Trigger,

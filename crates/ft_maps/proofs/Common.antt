@@ -1,4 +1,4 @@
--- Small laws of truth values, options and lists, which the standard library has not.
+-- Small laws of truth values, options and lists, which the standard library doesn't have.
 use Rattle.std.proofs.Common.{◌≡◌, Bool, true, false, cond, List, [], ◌∷◌, Option, Some, None, refl}
 use Rattle.std.specs.Prelude.{◌&&◌, is_some, option_and_then}
 use Rattle.std.specs.List.{filter, AllByRecursion}
@@ -44,7 +44,7 @@ none_then f (Some x) none = absurd cc
 
 -- ---- lists
 
--- what follows from what all have, all have
+-- if all have a property, all have what follows from it
 pub all_map : {X : Type 0} (P Q : X → Type 0) → ((x : X) → P x → Q x) → (xs : List X) → AllByRecursion P xs → AllByRecursion Q xs
 all_map P Q f [] p = tt
 all_map P Q f (x ∷ xs) p = (f x p.0, all_map P Q f xs p.1)

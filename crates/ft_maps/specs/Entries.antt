@@ -1,4 +1,4 @@
--- What follows of a finite map's entries and look-ups: laws that the standard library leaves to its users.
+-- Laws of a finite map's entries and look-ups, which the standard library leaves to its users.
 use Rattle.std.specs.Prelude.{◌≡◌, ◌&&◌, Bool, true, false, List, [], ◌∷◌, length, Some, None}
 use Rattle.std.specs.List.{AllByRecursion}
 use Rattle.std.specs.List.Sorted.{IsStrictlySortedBy}
@@ -37,7 +37,7 @@ equal_from_tie Less e = absurd (subst T (sym e) tt)
 equal_from_tie Equal e = refl
 equal_from_tie Greater e = absurd (subst T (sym e) tt)
 
--- where only equal keys tie, keys that tie are equal
+-- if only equal keys tie, keys that tie are equal
 pub same_from_tie : {K : Type 0} {R : K → K → Ordering} → IsAntisymmetric R → (x y : K) → eq_by_cmp R x y ≡ true → x ≡ y
 same_from_tie {R = R} same x y e = same x y (equal_from_tie (R x y) e)
 
@@ -100,6 +100,6 @@ module _ {K X : Type 0} {R : K → K → Ordering} (total : IsTotalOrder R) wher
     at_key m k v is q true e = sym (ap (finite.get m) (same_from_tie same q k e) ∙ is)
     at_key m k v is q false e = refl
 
-    -- what a key has, inserted there again, changes nothing
+    -- inserting at a key what it has changes nothing
     pub insert_same : (m : FinMap R X) (k : K) (v : X) → finite.get m k ≡ Some v → finite.insert m k v ≡ m
     insert_same m k v is = same_map total same _ _ (λ q. get-insert total m k v q ∙ at_key m k v is q (eq_by_cmp R q k) refl)

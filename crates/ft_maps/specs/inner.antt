@@ -1,2 +1,2 @@
--- Words of private functions and types, which no public clause says.
+-- Definitions for private functions and types, which no public clause uses.
 pub mod Chain

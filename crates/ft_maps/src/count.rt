@@ -6,7 +6,7 @@ use std::marker::Model;
 use std::mem;
 use std::snapshot::Snapshot;
 
-/// A number of any size that contracts alone see. At run time it is nothing.
+/// A number of any size that only contracts see. At run time it is nothing.
 #[derive(Drop)]
 pub struct Count {
     last: Snapshot<Seen>,

@@ -1,8 +1,8 @@
-//! Finite maps, as which contracts see a `BTreeMap`, and counts, which they alone see.
+//! Finite maps, the form in which contracts see a `BTreeMap`, and counts, which only contracts see.
 //!
-//! A contract says of a `BTreeMap` which finite map it is seen as, and of an edit which key it puts
-//! in or takes out. An edit needs that keys which tie are equal, so that look-ups tell maps apart.
-//! Of numbers, and of structs of numbers with a derived order, a caller's check finds that by itself.
+//! A contract says which finite map a `BTreeMap` is seen as, and which key an edit puts in or takes
+//! out. An edit requires that keys which tie are equal, so that look-ups tell maps apart. For
+//! numbers, and for structs of numbers with a derived order, a caller's check finds that by itself.
 //!
 //! A count is a number of any size, which begins at 0 and is raised by one. At run time it is
 //! nothing, so that counting calls or steps costs nothing.

@@ -223,7 +223,7 @@ module _ {U : Type 0} where
     pub none_next : (after : Option At) → IsFirstOf saves after None → IsFirstOf reads after None → IsNext ops after None
     none_next after save read q behind = none_at q (save q behind) (read q behind)
 
-    -- a read is next, where no save stands before it
+    -- a read is next, if no save stands before it
     pub read_next : (after : Option At) (read : At) → IsFirst reads after read → ((q : At) → IsBehind after q → at_cmp q read ≡ Less → is_place saves q ≡ false) → IsNext ops after (Some (read, Read))
     read_next after read is none = record {
       there = read_at read is.there;
@@ -231,7 +231,7 @@ module _ {U : Type 0} where
       none = λ q behind before. none_at q (none q behind before) (is.none q behind before);
     }
 
-    -- a save is next, where no read stands before it or there
+    -- a save is next, if no read stands before it or there
     pub save_next : (after : Option At) (save : At) → IsFirst saves after save → is_place reads save ≡ false
         → ((q : At) → IsBehind after q → at_cmp q save ≡ Less → is_place reads q ≡ false) → IsNext ops after (Some (save, Save))
     save_next after save is apart none = record {

@@ -39,7 +39,7 @@ kept m key edit is k at = by (same_key k key) refl
     by true tie = let one = same_from_tie key_same k key tie in ap (λ (x : List Part). ops_of m x at) one ∙ is at ∙ ap (λ (x : List Part). edit (ops_of m x) at) (sym one)
     by false apart = refl
 
--- a change of what stands nowhere else
+-- a key without operations is taken out, and the operations of all keys stay
 pub cleared : (m : OpsByKey) (key : List Part) → map.get m key ≡ Some map.empty → (k : List Part) (at : At) → ops_of (map.remove m key) k at ≡ ops_of m k at
 cleared m key is k at = ap (λ held. found_in held at) (get-remove key_cmp_total m key k) ∙ by (same_key k key) refl
   where
@@ -55,7 +55,7 @@ inserted m key ops at op same q = get-insert at_cmp_total ops at op q ∙ ap (co
 pub removed : (m : OpsByKey) (key : List Part) (ops : KeyOps) (at : At) → ((q : At) → map.get ops q ≡ ops_of m key q) → (q : At) → map.get (map.remove ops at) q ≡ without_op at (ops_of m key) q
 removed m key ops at same q = get-remove at_cmp_total ops at q ∙ ap (cond (same_at q at) None) (same q)
 
--- where nothing stands, none is taken
+-- if nothing stands there, nothing is taken
 none_taken : (b : Bool) (o : Option Op) → o ≡ None → o ≡ (if b then None else o)
 none_taken true o is = is
 none_taken false o is = refl

@@ -61,7 +61,7 @@ module _ (p q : At → Bool) (under : (x : At) → p x ≡ true → q x ≡ true
     by_first e es rest true tie found = here e es (same_from_tie at_same n e.0 tie) (no_more es) (p e.0) (q e.0) refl refl
     by_first e es rest false apart found = later e es (rest found) (p e.0) (q e.0) refl refl
 
-    -- fewer pass it, where an entry passes the wider one alone
+    -- fewer pass it, if an entry passes only the wider one
     fewer : (es : List (At × Op)) → find at_cmp n es ≡ Some op → Fewer es
     fewer [] found = absurd (true≢false (sym (ap is_some found)))
     fewer (e ∷ es) found = by_first e es (fewer es) (same_at n e.0) refl found

@@ -1,4 +1,4 @@
--- What a reading finds depends on the operations before it alone, back to the last one that stays.
+-- What a reading finds depends only on the operations before it, back to the last one that stays.
 use Rattle.std.proofs.Common.{◌≡◌, refl, sym, ap, subst, ◌∙◌, Some, None, Option, inl, inr}
 use Rattle.std.specs.Prelude.{is_some}
 use Rattle.std.proofs.lemmas.Bool.{true≢false}

@@ -1,4 +1,4 @@
--- What stands where some reads were put, and others not.
+-- What stands after some reads were put, and others not.
 use Rattle.std.proofs.Common.{◌≡◌, ◌⊎◌, ℕ, ◌<◌, Bool, true, false, cond, List, length, sym, ap, subst, ◌∙◌, refl, get_or, Some, Option, Result, Ok, Err, inl, inr}
 use Rattle.std.specs.Prelude.{OnOk, OnErr}
 use Rattle.std.specs.FinMap as map
@@ -21,7 +21,7 @@ use Rattle.ft_pairs.proofs.Found.{found_in}
 
 -- ---- whatever is answered
 
--- what holds holds where all went well
+-- what holds, holds if all went well
 pub on_ok : {T E P : Type 0} (r : Result T E) → P → OnOk r P
 on_ok (Ok x) p = p
 on_ok (Err e) p = tt
@@ -52,7 +52,7 @@ one_more old ops reads i d lt put q = by (same_at q (get_or reads i d)) refl
 abbrev Either : OpsByKey → List Part → (Ops → Ops) → At → Option Op → List Part → Type 0
 Either m key edit at o k = (o ≡ ops_of m k at) ⊎ ((k ≡ key) × (o ≡ edit (ops_of m k) at))
 
--- where each place of what one key has is as it was or as an edit makes it, each of the key is, and those of others stay
+-- if each place of what one key has is as it was or as an edit makes it, so is each place of the key, and those of other keys stay
 pub partly_changed : (m : OpsByKey) (key : List Part) (ops : KeyOps) (edit : Ops → Ops)
     → ((q : At) → (map.get ops q ≡ ops_of m key q) ⊎ (map.get ops q ≡ edit (ops_of m key) q)) → PartlyChangesKey key edit m (map.insert m key ops)
 partly_changed m key ops edit is k at = by (same_key k key) refl

@@ -48,6 +48,6 @@ module _ (ops : Ops) where
               let place : read ≡ slice_index_or reads i d = is ∙ get_or_default reads (length found) read d more ∙ ap (λ (k : ℕ). slice_index_or reads k d) last in
               subst (IsSource ops (slice_index_or reads i d)) (sym (get_or_at found one [] None i last)) (subst (λ p. IsSource ops p one) place finds)
 
-  -- where as many are found as there are places, each is
+  -- if as many are found as there are places, each is
   pub each_found : (reads : List At) (found : List (Option At)) → length reads ≤ length found → FindFirst ops reads found → FindEach ops reads found
   each_found reads found all firsts = record { many = omega (arith, all, firsts.few); each = λ i d lt. firsts.each i d (omega (arith, all, lt)) }

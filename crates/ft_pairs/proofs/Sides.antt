@@ -79,7 +79,7 @@ module _ {U : Type 0} where
       ∙ find-before Read reads (as_ops Save saves) q
       ∙ ap (λ o. if is_place reads q then Some Read else o) (find-alone Save saves q)
 
-  -- operations are those of saves and reads where each place has what these have
+  -- operations are those of saves and reads if each place has what these have
   pub both_is : (saves reads : List (At × U)) (ops : KeyOps) → ((q : At) → op_at (is_place saves q) (is_place reads q) ≡ map.get ops q) → both saves reads ≡ ops
   both_is saves reads ops same = same_map at_cmp_total at_same _ _ (λ q. get-both saves reads q ∙ same q)
 
@@ -139,7 +139,7 @@ module _ {U : Type 0} where
       by true rest = refl
       by false rest = rest
 
-  -- reads at places come where no reads were
+  -- reads at places come, if there were no reads
   pub both-reads_come : (saves places : List (At × U)) (q : At) → map.get (both saves places) q ≡ with_reads (keys_of places) (map.get (both saves [])) q
   both-reads_come saves places q =
       get-both saves places q

@@ -1,4 +1,4 @@
--- Which operations may find another saving, where operations change.
+-- Which operations may find another saving, if operations change.
 use Rattle.std.proofs.Common.{◌≡◌, ◌⊎◌, Bool, true, false, cond, List, refl, sym, ap, subst, ◌∙◌, Some, None, Option, inl, inr, unwrap_or}
 use Rattle.std.specs.Prelude.{is_some}
 use Rattle.std.proofs.lemmas.Bool.{true≢false}
@@ -55,7 +55,7 @@ module _ (old new : Ops) (at : At) (elsewhere : (q : At) → (q ≡ at → ⊥) 
     by_next None none = absurd (there_not_none new q op there (none q behind))
     by_next (Some next) is = is_behind_next next is
 
-  -- each operation finds what it found, but the next one after the place
+  -- each operation finds what it found, except perhaps the next one after the place
   pub but_next : (next : Option (At × Op)) → IsNext new (Some at) next → (q : At) (op : Op) → new q ≡ Some op → next ≡ Some (q, op) ⊎ KeepsSource old new q
   but_next next is q op there = elim (at_cmp at q) as (λ o. at_cmp at q ≡ o → next ≡ Some (q, op) ⊎ KeepsSource old new q) [
     | Less ↦ λ less. by_next q op there less next is

@@ -27,7 +27,7 @@ ops_of pairs key at = option_and_then (λ ops. map.get ops at) (map.get pairs ke
 abbrev pub ChangesKey : List Part → (Ops → Ops) → OpsByKey → OpsByKey → Type 0
 ChangesKey key edit old new = (k : List Part) (at : At) → ops_of new k at ≡ (if same_key k key then edit (ops_of old k) at else ops_of old k at)
 
--- each place of one key has what it had or what an edit makes of it, and those of other keys have what they had
+-- each place of one key has what it had or what an edit makes of it, and each place of other keys has what it had
 abbrev pub PartlyChangesKey : List Part → (Ops → Ops) → OpsByKey → OpsByKey → Type 0
 PartlyChangesKey key edit old new = (k : List Part) (at : At) → (ops_of new k at ≡ ops_of old k at) ⊎ ((k ≡ key) × (ops_of new k at ≡ edit (ops_of old k) at))
 

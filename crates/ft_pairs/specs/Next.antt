@@ -26,7 +26,7 @@ abbrev pub IsNext : Ops → Option At → Option (At × Op) → Type 0
 IsNext ops after (Some next) = IsFirstBehind ops after next.0 next.1
 IsNext ops after None = HasNoneBehind ops after
 
--- a walk from a place: each operation is the next one after the one before it, and after the last stands none
+-- a walk from a place: each operation is the next one after the one before it, and none stands after the last
 abbrev pub IsWalk : Ops → Option At → List (At × Op) → Type 0
 IsWalk ops after [] = IsNext ops after None
 IsWalk ops after (next ∷ rest) = IsNext ops after (Some next) × IsWalk ops (Some next.0) rest

@@ -13,7 +13,7 @@ use Rattle.ft_pairs.specs.Variables.{variable_cmp}
 abbrev pub Admits : Type 0
 Admits = ℕ → List Part → Bool
 
--- what a trigger with this role does to a variable at an event with this key: a saver saves its own where the key is admitted, a reader reads its saver's (kernel: histogram.rst, inter-event hist triggers)
+-- what a trigger with this role does to a variable at an event with this key: a saver saves its own if the key is admitted, a reader reads its saver's (kernel: histogram.rst, inter-event hist triggers)
 abbrev pub op_as : Admits → Role → Variable → ℕ → List Part → Option Op
 op_as admitted Plain variable id key = None
 op_as admitted Saves variable id key =

@@ -17,7 +17,7 @@ ops_listed run ops at = let listed : KeyOps = map.from_entries run in map.get li
 abbrev pub with_reads : List At → Ops → Ops
 with_reads reads ops at = if list_any (same_at at) reads then Some Read else ops at
 
--- the operations where some of these reads were put, and others not: each place has what it had, or what it has with all of them
+-- some of these reads were put, and others not: each place has what it had, or what it has with all of them
 abbrev pub SomeReads : List At → Ops → Ops → Type 0
 SomeReads reads old new = (at : At) → (new at ≡ old at) ⊎ (new at ≡ with_reads reads old at)
 

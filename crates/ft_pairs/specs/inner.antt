@@ -1,3 +1,3 @@
--- Words of private functions.
+-- Definitions for private functions.
 pub mod Met
 pub mod Sides

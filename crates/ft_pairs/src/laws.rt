@@ -15,7 +15,7 @@ ghost use Rattle.ft_pairs.specs.ByKey.{OpsByKey, ChangesKey, ops_of};
 
 use crate::at::At;
 
-/// A law: triggers act in order of place, then of id, and where they tie they are one.
+/// A law: triggers act in order of place, then of id, and acts that tie are one.
 pub fn one_act_order()
     ensures order { (p q : At) → ⟦<At as Ord>⟧.cmp p q ≡ at_cmp p q }
     ensures ties { (p q : At) → at_cmp p q ≡ Equal → p ≡ q }
@@ -27,9 +27,9 @@ pub fn one_source()
         → IsSource ops at a → IsSource ops at b → a ≡ b }
 {}
 
-/// A law: what a reading finds depends on no operation but those in front of it, back to the last
-/// one that stays. So where operations change, the next reading on the variable after a change may
-/// find another saving, and none after that one.
+/// A law: what a reading finds depends only on the operations before it, back to the last one that
+/// stays. So if operations change, the next reading on the variable after a change may find another
+/// saving, but no reading after that one.
 pub fn local_sources()
     ensures front { (old new : Ops) (at : At)
         → ((q : At) → at_cmp q at ≡ Less → new q ≡ old q)
@@ -40,14 +40,14 @@ pub fn local_sources()
         → (found : Option At) → IsSource old at found → IsSource new at found }
 {}
 
-/// A law: after a place stands one next operation or none, and not two.
+/// A law: after a place there is one next operation or none, and not two.
 pub fn one_next()
     ensures { (ops : Ops) (after : Option At) (a b : Option (At × Op))
         → IsNext ops after a → IsNext ops after b → a ≡ b }
 {}
 
-/// A law: what a reading of a key finds, and which operation of a key is next, depends on the
-/// operations of that key alone.
+/// A law: what a reading of a key finds, and which operation of a key is next, depends only on the
+/// operations of that key.
 pub fn own_operations()
     ensures sources { (old new : OpsByKey) (key : List Part)
         → ((q : At) → ops_of new key q ≡ ops_of old key q)
@@ -58,9 +58,9 @@ pub fn own_operations()
         → IsNext (ops_of old key) after next → IsNext (ops_of new key) after next }
 {}
 
-/// A law: where the operations on a variable change at one place, each of them finds what it found,
-/// but the next one after that place. So an operation of a key that comes or goes changes what the
-/// next one on that key finds at most, and no other.
+/// A law: if the operations on a variable change at only one place, each of them finds what it
+/// found, except perhaps the next one after that place. So if an operation of a key comes or goes,
+/// only the next one on that key may find something else.
 pub fn one_operation()
     ensures place { (old new : Ops) (at : At) (next : Option (At × Op))
         → ((q : At) → (q ≡ at → ⊥) → new q ≡ old q) → IsNext new (Some at) next
@@ -76,8 +76,8 @@ pub fn one_operation()
         → ((k ≡ key) × (next ≡ Some (q, op))) ⊎ KeepsSource (ops_of old k) (ops_of new k) q }
 {}
 
-/// A law: where the saves of a key go, no operation but the reads of that key may find another
-/// saving than before, and these find none.
+/// A law: if the saves of a key go, each operation finds what it found, except the reads of that
+/// key, which find nothing.
 pub fn reads_of_one_key()
     ensures others { (old new : OpsByKey) (key : List Part) → ChangesKey key reads_alone old new
         → (k : List Part) (q : At) (op : Op) → ops_of new k q ≡ Some op
@@ -86,7 +86,7 @@ pub fn reads_of_one_key()
         → (at : At) (found : Option At) → IsSource (ops_of new key) at found → found ≡ None }
 {}
 
-/// A law: a walk from one operation to the next goes up, and has just the operations after the
+/// A law: a walk from one operation to the next goes up, and has exactly the operations after the
 /// place where it starts, each once.
 pub fn whole_walks()
     ensures order { (ops : Ops) (after : Option At) (walk : List (At × Op)) → IsWalk ops after walk

@@ -64,7 +64,7 @@ impl Pairs {
         self.by_key.len() == 0
     }
 
-    /// Puts an operation of a key at a place, where none stands. Counts one put in `work`, refused
+    /// Puts an operation of a key at a place where none stands. Counts one put in `work`, refused
     /// or not. Refused for memory, and then all is as it was.
     pub fn insert(&mut self, key: Key, at: At, op: Op, work: &mut Work) -> Result<(), AllocError>
         requires { ops_of self.old key at ≡ None }
@@ -96,9 +96,9 @@ impl Pairs {
         put_run(self.alloc, &mut self.by_key, key, run)
     }
 
-    /// Puts reads of a key at places, in place of what stands there: what each of them finds then,
-    /// in their order. Counts a put in `work` for each, refused or not. Refused for memory, and then
-    /// some of them may stand, and all else is as it was.
+    /// Puts reads of a key at places, in place of what stands there, and returns what each of them
+    /// finds then, in their order. Counts a put in `work` for each, refused or not. Refused for
+    /// memory, and then some of them may stand, and all else is as it was.
     pub fn put_reads(
         &mut self,
         key: Key,
@@ -155,8 +155,8 @@ impl Pairs {
         }
     }
 
-    /// The first operation of a key after a place, or its first of all. After it fewer are left
-    /// than after that place, so that a walk ends.
+    /// The first operation of a key after a place, or the first of all, if no place is given. After
+    /// it fewer are left than after that place, so that a walk ends.
     pub fn next_op(&self, key: &Key, after: Option<At>) -> Option<(At, Op)>
         ensures next { IsNext (ops_of self.now key.now) after result }
         ensures fewer { IfSome result (λ next.
@@ -212,7 +212,7 @@ fn take_saves(alloc: Global, by_key: &mut BTreeMap<Key, Sequence>, key: &Key)
     }
 }
 
-/// Takes a key out that has no operations, so that it takes no memory.
+/// Takes out a key that has no operations, so that it takes no memory.
 fn clear_out(by_key: &mut BTreeMap<Key, Sequence>, key: &Key)
     ensures { (k : List Part) (at : At)
         → ops_of (seen key_cmp by_key.new) k at ≡ ops_of (seen key_cmp by_key.old) k at }
@@ -258,8 +258,8 @@ fn put_run(
     put(by_key, key, sequence)
 }
 
-/// Puts reads of a key at places: what each of them finds. Refused for memory, and then some of them
-/// may stand, and all else is as it was.
+/// Puts reads of a key at places, and returns what each of them finds. Refused for memory, and then
+/// some of them may stand, and all else is as it was.
 fn read_key(
     alloc: Global,
     by_key: &mut BTreeMap<Key, Sequence>,

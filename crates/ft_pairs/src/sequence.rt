@@ -104,8 +104,8 @@ impl Sequence {
         }
     }
 
-    /// Puts reads at places, in place of what stands there: what each of them finds then. Refused for
-    /// memory, and then some of them may stand.
+    /// Puts reads at places, in place of what stands there, and returns what each of them finds
+    /// then. Refused for memory, and then some of them may stand.
     pub(crate) fn put_reads(
         &mut self,
         alloc: Global,
@@ -129,8 +129,8 @@ impl Sequence {
         }
     }
 
-    /// Puts reads at places among others, in place of what stands there: what each of them finds then.
-    /// Refused for memory, and then some of them may stand.
+    /// Puts reads at places among others, in place of what stands there, and returns what each of
+    /// them finds then. Refused for memory, and then some of them may stand.
     fn put_among(&mut self, alloc: Global, reads: &[At]) -> Result<Vec<Option<At>>, AllocError>
         ensures ops { OnOk result ((at : At)
             → map.get self.new at ≡ with_reads reads.now (map.get self.old) at) }
@@ -172,7 +172,7 @@ impl Sequence {
         self.reads.remove(&at);
     }
 
-    /// Takes all operations but the reads. It needs no memory.
+    /// Takes all operations except the reads. It needs no memory.
     pub(crate) fn keep_reads(&mut self, alloc: Global)
         ensures { (at : At) → map.get self.new at ≡ if_read (map.get self.old at) }
     {

@@ -33,7 +33,7 @@ not_equal false false unequal same = true≢false unequal
 not_equal true false unequal same = true≢false same
 not_equal false true unequal same = true≢false (sym same)
 
--- something was found where a copy of it was
+-- something was found exactly if a copy of it was
 pub copied_some : (found : Option (Bor Traced)) → is_some (option_copied found) ≡ is_some found
 copied_some None = refl
 copied_some (Some event) = refl

@@ -26,7 +26,7 @@ fn has_keys(map: &Blocks<u32, u64>, want: &[u32]) -> bool {
     at == want.len()
 }
 
-/// Whether the map has the three, and its calls tell of them.
+/// Whether the map has the three, and its calls report them.
 fn has_three(map: &Blocks<u32, u64>) -> bool {
     has_keys(map, &[3, 5, 7])
         && map.get(&7) == Some(&71)
@@ -97,7 +97,7 @@ fn a_block_goes_with_its_last_entry(rt: HostRuntime) {
     assert!(rt; changes(evens(rt.alloc()), loses_a_block));
 }
 
-/// Moves the entry of a key to a later key, if none stands there: whether it was so.
+/// Moves the entry of a key to a later key, if none stands there, and returns whether that was so.
 fn moves(alloc: Global, map: &mut Blocks<u32, u64>, from: u32, to: u32) -> bool {
     match (from.cmp(&to), map.get(&to)) {
         (Ordering::Less, None) => {
@@ -108,7 +108,7 @@ fn moves(alloc: Global, map: &mut Blocks<u32, u64>, from: u32, to: u32) -> bool 
     }
 }
 
-/// Takes what a key has, and puts it at another, asked again where memory ran out.
+/// Takes what a key has, and puts it at another. It is asked again if memory ran out.
 fn is_put_again(alloc: Global, map: &mut Blocks<u32, u64>, from: u32, to: u32) -> bool {
     match map.remove(&from) {
         None => true,

@@ -40,7 +40,7 @@ fn names_hold_31_bytes(rt: HostRuntime) {
     assert!(rt; Comm::of(&[b'a'; 32]).is_none());
 }
 
-/// Whether two names are ordered so, and are equal where they should be.
+/// Whether two names are ordered so, and are equal exactly if they should be.
 fn are_ordered(left: &[u8], right: &[u8], want: Ordering) -> bool {
     let (Some(one), Some(other)) = (Comm::of(left), Comm::of(right)) else {
         return false;

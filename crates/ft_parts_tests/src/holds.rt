@@ -1,5 +1,5 @@
-//! What is asked of something that is made. As its type is any here, no check of a test shows anew
-//! how it is freed.
+//! What is asked of something that is made. Since its type is generic here, no check of a test
+//! shows again how it is freed.
 
 /// Whether it was made and is so.
 pub(crate) fn holds<T: Drop, E: Drop, F: FnOnce(&T) -> bool>(made: Result<T, E>, is: F) -> bool

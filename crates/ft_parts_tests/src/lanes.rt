@@ -9,7 +9,7 @@ use ft_store::Store;
 use std::alloc::{AllocError, Global};
 use std::test::*;
 
-/// An event of no named kind, told from others by its stamp. None where no event is so.
+/// An event of no named kind, told from others by its stamp. None if no event is so.
 fn event_at(cpu: u16, stamp: u64) -> Option<Event> {
     if u32::from(cpu) > Event::LAST_CPU || stamp > 4_294_967_295_999_999 {
         return None;
@@ -23,7 +23,7 @@ fn event_at(cpu: u16, stamp: u64) -> Option<Event> {
     })
 }
 
-/// Pushes an event: its line. None where memory ran out, or the lane's numbers.
+/// Pushes an event, and returns its line. None if memory ran out, or the lane's numbers.
 fn pushed(lanes: &mut Lanes, event: Option<Event>) -> Option<u32> {
     let event = event?;
     if lanes.next_line(event.cpu) > 4_294_967_295 {
@@ -96,7 +96,7 @@ fn a_lane_that_is_held_is_not_loaded_again(rt: HostRuntime) {
     assert!(rt; loads_once(rt.alloc(), &mut lanes));
 }
 
-/// Lanes of both loads. None where memory ran out.
+/// Lanes of both loads. None if memory ran out.
 fn lanes_of_both(alloc: Global) -> Option<Lanes> {
     let mut lanes = Lanes::new(alloc);
     loaded(alloc, &mut lanes, &FIRST)?;

@@ -29,7 +29,7 @@ fn turn() -> Option<Turn> {
     })
 }
 
-/// Something traced of each kind, by number. From 5 on nothing known.
+/// Something traced of each kind, by number. From 5 on, it is of no known kind.
 fn body_of(kind: usize) -> Option<Body> {
     Some(match kind {
         0 => Body::Waking(wake_of(b"migration/3")?),
@@ -60,8 +60,7 @@ fn event_of(kind: usize) -> Option<Event> {
     })
 }
 
-/// A store of an event of each of the first kinds, of which there are six. None where memory ran
-/// out.
+/// A store of an event of each of the first kinds, of which there are six. None if memory ran out.
 fn store_of(alloc: Global, kinds: usize) -> Option<Store> {
     let mut store = Store::new(alloc);
     for kind in 0..kinds {

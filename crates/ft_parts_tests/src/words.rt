@@ -1,12 +1,12 @@
-//! What lists of words name.
+//! What lists of arguments name.
 
 use ft_script::{WordsFault, read_words};
 use std::alloc::Global;
 
-/// The script, if it is no standard input, and the traces.
+/// The script, unless it is standard input, and the traces.
 type Named = (Option<&'static str>, &'static [&'static str]);
 
-/// Lists of words that are read, each with what it names.
+/// Lists of arguments that are accepted, each with what it names.
 fn accepted() -> [(&'static [&'static str], Named); 5] {
     [
         (&["histdesk"], (None, &[])),
@@ -20,7 +20,7 @@ fn accepted() -> [(&'static [&'static str], Named); 5] {
     ]
 }
 
-/// Whether words are read, and name that.
+/// Whether arguments are accepted, and name that.
 fn is_named(alloc: Global, words: &'static [&'static str], (script, traces): Named) -> bool {
     match read_words(alloc, words) {
         Ok(named) => named.script == script && named.traces.as_slice() == traces,
@@ -35,7 +35,7 @@ fn names_script_and_traces(rt: HostRuntime) {
     }
 }
 
-/// Lists of words that are refused: before `--` one looks like an option.
+/// Lists of arguments that are refused: before `--`, one looks like an option.
 fn refused() -> [&'static [&'static str]; 4] {
     [
         &["histdesk", "--help"],

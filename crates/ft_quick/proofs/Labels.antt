@@ -6,7 +6,7 @@ use Rattle.std.proofs.lemmas.List.{take-append-drop, drop-drop, length-take}
 pub last_cut : (text label front rest : List ℕ) (n : ℕ) → front ≡ take n text → rest ≡ drop n text → rest ≡ label → text ≡ front ++ label
 last_cut text label front rest n f r same = sym (take-append-drop n text) ∙ ap₂ (λ (x y : List ℕ). x ++ y) (sym f) (sym r ∙ same)
 
--- a text that is taken is as short as it was to be
+-- at most 31 bytes of a text have at most 31 bytes
 pub taken_short : (n : ℕ) (text : List ℕ) → n ≤ 31 → length (take n text) ≤ 31
 taken_short n text few = let whole = length-take n text in omega arith
 

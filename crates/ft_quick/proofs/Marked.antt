@@ -64,7 +64,7 @@ from_start k = omega arith
 pub first_of_many : (line : List ℕ) → 64 ≤ length line → IsFirst line (take 64 (drop 0 line))
 first_of_many line many = record { long = length-chunk 0 64 line many; each = λ k within. get_or-chunk 0 64 line k 0 within ∙ ap (λ (n : ℕ). get_or line n 0) (from_start k) }
 
--- after the line's end stand zeros, as a read there gives
+-- zeros stand after the line's end, as a read there gives
 pub first_of_few : (line now : List ℕ) → length line < 64 → now ≡ line → IsFirst line (take 64 (drop 0 (now ++ drop (length line) (replicate 64 0))))
 first_of_few line now few same =
     let zeros : List ℕ = replicate (64 - length line) 0 in

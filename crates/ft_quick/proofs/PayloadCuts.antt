@@ -138,7 +138,7 @@ arrow_at before behind front back bare cut later =
     let here : get_or text at 0 ≡ get_or behind place 0 = get_or-append_right (before ++ codes " ==> next_comm=") behind _ at 0 refl (omega arith) in
     bare (place, within, get_or_default behind place 61 0 within ∙ sym here ∙ there)
 
--- the arrow stands at its last place, where no `=` stands after it
+-- the arrow stands at its last place, if no `=` stands after it
 last_arrow : (before behind : List ℕ) → (Contains behind 61 → ⊥) → IsLastArrow (before ++ codes " ==> next_comm=" ++ behind) before behind
 last_arrow before behind bare = record {
   joined = refl;

@@ -68,14 +68,14 @@ pub no_run_at : (p : ℕ → Bool) (line : List ℕ) (from at : ℕ) → at ≤ 
     → list_any p (take (at - from) (drop from line)) ≡ false
 no_run_at p line from at within each = let len = length-drop from line in run_fails p (drop from line) (at - from) (omega arith) (seen_from p false line from at each)
 
--- a run ends within the line, where a 0, as a read after the line gives, does not pass
+-- a run ends within the line, if a 0, which a read after the line gives, does not pass
 pub run_within : (p : ℕ → Bool) (line : List ℕ) (from at : ℕ) → p 0 ≡ false → from ≤ length line → ((k : ℕ) → from ≤ k → k < at → p (get_or line k 0) ≡ true) → at ≤ length line
 run_within p line from at none begins each = elim (cases_lt (length line) at) [
   | inl past ↦ let hit : p 0 ≡ true = ap p (sym (get_or_past line (length line) 0 (omega arith))) ∙ each (length line) begins past in absurd (differ (sym hit ∙ none))
   | inr within ↦ within
 ]
 
--- what passes, as a 0 does not, stands within the line
+-- what passes stands within the line, if a 0 does not pass
 pub stands_within : (p : ℕ → Bool) (line : List ℕ) (at : ℕ) → p 0 ≡ false → p (get_or line at 0) ≡ true → at < length line
 stands_within p line at none here = elim (cases_lt at (length line)) [
   | inl within ↦ within

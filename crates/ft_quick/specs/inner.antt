@@ -1,4 +1,4 @@
--- Words of private functions.
+-- Definitions for private functions.
 pub mod Columns
 pub mod Cuts
 pub mod Lines

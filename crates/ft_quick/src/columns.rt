@@ -20,7 +20,7 @@ pub(crate) fn is_plain(line: &[u8]) -> bool
     if line.len() < 4 || line.len() > 4096 {
         return false;
     }
-    // Lost events are told after `CPU:`.
+    // Lost events are reported after `CPU:`.
     line[0] != b'#' && line[3] != b':'
 }
 
@@ -36,7 +36,7 @@ fn ends_word(line: &[u8], at: usize) -> bool
     }
 }
 
-/// A line, and where in its first 64 bytes those stand that tell columns apart.
+/// A line, and where the bytes that tell columns apart stand in its first 64 bytes.
 #[derive(Clone, Copy)]
 pub(crate) struct Columns<'a> {
     line: &'a [u8],
@@ -122,7 +122,7 @@ impl<'a> Columns<'a> {
         Some((pid, cpu, at))
     }
 
-    /// The place after spaces and LETTERS, where these stand here.
+    /// The place after spaces and LETTERS, if these stand here.
     #[inline(always)]
     fn behind_letters(&self, at: usize) -> Option<usize>
         requires marked { AreMarked self.now }

@@ -63,7 +63,7 @@ fn number_by_bytes(line: &[u8], from: usize) -> Option<(u32, usize)>
     Some((number, stop))
 }
 
-/// The number that stands here, of one to seven digits, and the place after it, where this is not near
+/// The number that stands here, of one to seven digits, and the place after it, if this is not near
 /// the line's end.
 #[inline(always)]
 fn number_at_once(line: &[u8], from: usize) -> Option<(u32, usize)>

@@ -1,4 +1,4 @@
-//! Lines of the kernel's `trace` file as events, fast where a line is of the usual form.
+//! Lines of the kernel's `trace` file as events, fast if a line is of the usual form.
 //!
 //! That is the form that the kernel gives the lines of events, with columns of any width within the first
 //! 64 bytes and no thread groups: TASK, PID and CPU, perhaps LETTERS, STAMP, one space, and a named event
@@ -19,9 +19,9 @@
 //!
 //! # Contracts
 //!
-//! - `cut_line`, and `put_line` in place: where it gives an event, that is the line's, by both clauses of
-//!   `ft_event::read_cut_line`. Lets through: for which lines it gives none; a body that gave none for
-//!   any would meet it. A test has lines of the usual form.
+//! - `cut_line`, and `put_line` in place: if it gives an event, that is the line's event, by both
+//!   clauses of `ft_event::read_cut_line`. Lets through: for which lines it gives none; a body that
+//!   gave none for any would meet it. A test has lines of the usual form.
 //!
 //! A line of the usual form is cut from the left, and each cut is an equation of texts. Together
 //! they are a cut as the line relation asks for; by `ft_event`'s law `one_answer` its answer is

@@ -1,4 +1,4 @@
-//! One line of a trace, fast where it is of the usual form.
+//! One line of a trace, fast if it is of the usual form.
 
 ghost use Rattle.std.specs.Prelude.{◌≡◌, ◌==◌, ◌≤◌, true, false, length, Ok, IfSome};
 ghost use Rattle.std.specs.List.{list_any};
@@ -14,7 +14,7 @@ use crate::payload::put_event;
 use ft_event::one_answer;
 use ft_fields::{BodyRef, EventRef, NameRef};
 
-/// The columns of a line, where they are of the usual form.
+/// The columns of a line, if they are of the usual form.
 #[inline(never)]
 fn front_of(line: &[u8]) -> Option<Front<'_>>
     requires { list_any (λ b. b == 10) line.now ≡ false }
@@ -42,8 +42,8 @@ fn front_of(line: &[u8]) -> Option<Front<'_>>
     })
 }
 
-/// The event of a line that was cut at its line break, its names where they lie in the line: where the
-/// line is of the usual form, and else none, also where it holds an event.
+/// The event of a line that was cut at its line break; its names stay where they lie in the line.
+/// `None` if the line is not of the usual form, even if it holds an event.
 pub fn cut_line(line: &[u8]) -> Option<EventRef<'_>>
     requires { list_any (λ b. b == 10) line.now ≡ false }
     // The line's answer, as the function that the definitions compute.
@@ -62,8 +62,8 @@ pub fn cut_line(line: &[u8]) -> Option<EventRef<'_>>
     }
 }
 
-/// The same in place: puts the event of such a line, if the line is of the usual form, and whether it
-/// is. An event is large to move.
+/// The same in place: puts the event of such a line, if the line is of the usual form, and answers
+/// whether it is. An event is large to move.
 #[inline(always)]
 pub fn put_line<'a>(line: &'a [u8], event: &mut EventRef<'a>) -> bool
     requires { list_any (λ b. b == 10) line.now ≡ false }

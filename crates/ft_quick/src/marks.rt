@@ -1,4 +1,4 @@
-//! Which of a line's first 64 bytes are of a kind, all told at once: bit k of a number tells of byte k.
+//! Which of a line's first 64 bytes are of a kind, all found at once: bit k is for byte k.
 
 ghost use Rattle.std.specs.Prelude.{◌≡◌, ◌==◌, ◌≤◌, ◌<◌, ◌+◌, ◌-◌, ℕ, if◌then◌else◌, true, length, slice_index, take, drop, IfSome};
 ghost use Rattle.std.specs.Int.{bit_at};
@@ -19,7 +19,7 @@ fn padded(line: &[u8]) -> u8x64
     u8x64::from_slice(&bytes)
 }
 
-/// A line's first 64 bytes, with zeros after them where it has fewer.
+/// A line's first 64 bytes, with zeros after them if it has fewer.
 #[inline(always)]
 pub(crate) fn first_bytes(line: &[u8]) -> u8x64
     ensures { IsFirst line.now result }

@@ -10,7 +10,7 @@ const ZEROS: u64 = 0x3030_3030_3030_3030;
 /// Bytes 0 and 4 of a word.
 const BYTES: u64 = 0x0000_00ff_0000_00ff;
 
-/// The number that one to eight digits write, all read at once, where eight bytes or more stand there.
+/// The number that one to eight digits write, all read at once, if eight bytes or more stand there.
 #[inline(always)]
 fn at_once(line: &[u8], from: usize, end: usize) -> Option<u32>
     requires some { from < end }
@@ -49,7 +49,7 @@ fn one_by_one(line: &[u8], from: usize, end: usize) -> Option<u32>
     Some(number)
 }
 
-/// The number that these digits write, where they are one to nine.
+/// The number that these digits write, if there are one to nine of them.
 #[inline(always)]
 pub(crate) fn number_of(line: &[u8], from: usize, end: usize) -> Option<u32>
     requires behind { from ≤ end }

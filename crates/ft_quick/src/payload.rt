@@ -23,7 +23,7 @@ enum WakeName {
 }
 
 impl WakeName {
-    /// What was traced, where the event says this.
+    /// What was traced, if the event says this.
     #[inline(always)]
     fn body<'a>(self, wake: WakeRef<'a>) -> BodyRef<'a>
         ensures { owned_body result ≡ body_named self (waked wake.entry) }
@@ -76,7 +76,7 @@ fn task_of<'a, const N: usize, const M: usize>(
     Some((comm, pid, prio, at))
 }
 
-/// What the payload of a wake event says, where one stands here and ends the line.
+/// What the payload of a wake event says, if one stands here and ends the line.
 #[inline(always)]
 fn wake_of(line: &[u8], at: usize) -> Option<WakeRef<'_>>
     requires { at ≤ length line.now }
@@ -96,7 +96,7 @@ fn wake_of(line: &[u8], at: usize) -> Option<WakeRef<'_>>
     })
 }
 
-/// What the payload of a switch says, where one stands here and ends the line.
+/// What the payload of a switch says, if one stands here and ends the line.
 #[inline(always)]
 fn turn_of(line: &[u8], at: usize) -> Option<TurnRef<'_>>
     requires { at ≤ length line.now }
@@ -131,7 +131,8 @@ fn turn_of(line: &[u8], at: usize) -> Option<TurnRef<'_>>
 }
 
 /// Puts the wake event of this name, if its payload is of the usual form: whether it is.
-// Apart from the columns, each keeps its registers. The event is put in place: it is large to move.
+// A call of its own, so that registers are shared with no other part. The event is put in place,
+// since it is large to move.
 #[inline(never)]
 fn put_wake<'a>(
     front: &Front<'a>,
@@ -167,8 +168,8 @@ fn put_turn<'a>(front: &Front<'a>, line: &'a [u8], at: usize, event: &mut EventR
     }
 }
 
-/// Whether an event without a name surely begins here: `wakeup_latency`, which no line names, is asked
-/// of the general reader.
+/// Whether an event without a name surely begins here. A text that begins with `w` is left to the
+/// general reader: it might be `wakeup_latency`.
 #[inline(always)]
 fn is_unlabelled(line: &[u8], at: usize) -> bool
     requires { at ≤ length line.now }

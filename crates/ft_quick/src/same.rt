@@ -1,4 +1,5 @@
-//! Whether two short texts of one length are the same: by words, which is faster than byte by byte.
+//! Whether two short texts of one length are the same. They are compared word by word, which is
+//! faster than byte by byte.
 
 ghost use Rattle.std.specs.Prelude.{◌≡◌, ◌≤◌, true, IfSome};
 

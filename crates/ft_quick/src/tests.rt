@@ -1,5 +1,5 @@
-//! What no clause says: that lines of the usual forms go the quick way. And both readers over lines that
-//! are changed at random.
+//! What no clause says: lines of the usual forms go the quick way. Also, both readers read lines
+//! that are changed at random.
 
 use crate::cut_line;
 use ft_fields::{BodyRef, Event, EventRef, NameRef, TurnRef, WakeRef};
@@ -18,7 +18,7 @@ const USUAL: [&[u8]; 8] = [
     b"-7 [0] 0.000000: sched_switch: prev_comm= prev_pid=-1 prev_prio=0 prev_state=D|K ==> next_comm= next_pid=0 next_prio=0",
 ];
 
-/// The event of a line that goes the quick way; none where a line break stands in it.
+/// The event of a line that goes the quick way; none if a line break stands in it.
 fn read(line: &[u8]) -> Option<EventRef<'_>> {
     if line.contains(&b'\n') {
         return None;
@@ -112,7 +112,7 @@ fn is_same_event(a: &EventRef<'_>, b: &EventRef<'_>) -> bool {
         && is_same_body(&a.body, &b.body)
 }
 
-/// Whether the general reader gives the same event, where the line goes the quick way.
+/// Whether the general reader gives the same event, if the line goes the quick way.
 fn is_same(line: &[u8]) -> bool {
     if line.contains(&b'\n') {
         return true;
@@ -151,7 +151,7 @@ fn next(seed: u64) -> u64 {
     seed ^ (seed << 17)
 }
 
-/// Puts a byte into the line at a place, both told by the number.
+/// Puts a byte into the line at a place, both given by the number.
 fn change(line: &mut Vec<u8>, number: u64) {
     let at = (number >> 8) as usize % (line.len() + 1);
     if at < line.len() {

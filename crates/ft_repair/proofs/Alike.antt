@@ -1,4 +1,4 @@
--- What is kept of all triggers but one, where their shelves stay as they are.
+-- What is kept of all triggers but one, if their shelves stay as they are.
 use Rattle.std.proofs.Common.{◌≡◌, ℕ, Bool, true, false, cond, List, [], refl, sym, ap, subst, ◌∙◌, Option, Some, None}
 use Rattle.std.specs.Prelude.{ℤ, option_map, option_and_then}
 use Rattle.std.specs.FinMap as map
@@ -52,7 +52,7 @@ no_act_of triggers events at none = ap (λ (hist : Option Hist). option_and_then
 
 -- ---- operations
 
--- an operation goes by its saver's keys alone
+-- an operation depends only on its saver's keys
 op_as_same : (old new : Admits) (role : Role) (variable : Variable) (id : ℕ) → (role ≡ Saves → id ≡ variable.saver → (key : List Part) → new id key ≡ old id key) → (key : List Part) → op_as new role variable id key ≡ op_as old role variable id key
 op_as_same old new Plain variable id same key = refl
 op_as_same old new Saves variable id same key =
@@ -66,7 +66,7 @@ op_as_same old new (Reads saver) variable id same key = refl
 abbrev by_act : Admits → Role → Variable → At → List Part × Traced → Option Op
 by_act admits role variable at act = op_as admits role variable at.trigger act.0
 
--- an act that stays is the same operation, where its trigger does the same
+-- an act that stays is the same operation, if its trigger does the same
 pub op_stays_there : (role more : ℕ → Role) (old new : Admits) (acts others : Acts) (variable : Variable) (at : At) → more at.trigger ≡ role at.trigger → others at ≡ acts at
     → (role at.trigger ≡ Saves → at.trigger ≡ variable.saver → (key : List Part) → new at.trigger key ≡ old at.trigger key)
     → op_of more new others variable at ≡ op_of role old acts variable at
@@ -125,7 +125,7 @@ pub same_values : (old new : Triggers) (id : ℕ) → map.get new id ≡ map.get
 unfolding values_by
 same_values old new id same pos event saved = ap (λ (o : Option Hist). option_map_or (λ (h : Hist). values_at h pos event saved) o []) same
 
--- a trigger that stays keeps its entries, where it keeps its shelf and the operations on what it reads stay
+-- a trigger that stays keeps its entries, if it keeps its shelf and the operations on what it reads stay
 pub right_moves : (triggers others : Triggers) (acts more : Acts) (old new : Shelves) (at : At)
     → map.get others at.trigger ≡ map.get triggers at.trigger → role_at others at.trigger ≡ role_at triggers at.trigger → more at ≡ acts at → map.get new at.trigger ≡ map.get old at.trigger
     → ((saver : ℕ) → role_at triggers at.trigger ≡ Reads saver → (key : List Part) → (kept_on new).ops (record { saver = saver; key = key }) ≡ (kept_on old).ops (record { saver = saver; key = key }))
@@ -135,7 +135,7 @@ right_moves triggers others acts more old new at hist role act shelf ops is =
     (λ i. ((sym role i, sym act i), (λ key. sym (same_hits old new at.trigger shelf (record { spot = traced at.pos; key = key })) i, sym (same_read old new at.trigger shelf at.pos) i)))
     (entry_moves at (values_by triggers) (values_by others) (same_values triggers others at.trigger hist) (kept_on old).ops (kept_on new).ops (hits_here (kept_on old) at) (read_here (kept_on old) at) (role_at triggers at.trigger) (acts at) ops is)
 
--- where no trigger acts and nothing is kept, that is right
+-- if no trigger acts and nothing is kept, that is right
 pub right_none : (role : ℕ → Role) (values : ValuesBy) (acts : Acts) (kept : Kept) (at : At) → acts at ≡ None → read_here kept at ≡ None → ((key : List Part) → hits_here kept at key ≡ None) → IsRight role values acts kept at
 right_none role values acts kept at none read hits =
     subst (λ (act : Option (List Part × Traced)). IsEntry values kept.ops at (role at.trigger) act (hits_here kept at) (read_here kept at)) (sym none) (read, hits)

@@ -149,7 +149,7 @@ module _ {triggers : Triggers} {lanes : Lanes} {mine : ℕ → Bool} {sign : Sig
 -- ---- at one trigger
 
 module _ (triggers : Triggers) (id : ℕ) (hist : Hist) (attached : map.get triggers id ≡ Some hist) where
-  -- setting its act is changing the event at it alone
+  -- setting its act is changing the event only at it
   set_alone : (input : Acts) (pos : Pos) (event : Option Traced) → set input (record { pos = pos; trigger = id }) (option_and_then (act_under hist) event) ≡ with_some triggers input pos event (is_one id)
   set_alone input pos event i q = (ap (λ (b : Bool). cond b (option_and_then (act_under hist) event) (input q)) same ∙ by (eq_by_cmp pos_cmp q.pos pos) (is_one id q.trigger) refl) i
     where

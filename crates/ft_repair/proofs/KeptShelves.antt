@@ -84,7 +84,7 @@ module _ (triggers : Triggers) (events : Events) (id : ℕ) where
   pub hits_traced : AreTraced (replayed_hits triggers events id)
   hits_traced m made = get-replayed_hits triggers events id m ∙ none_made m made
 
-  -- hits of events of the trace are the replay's, where they are at their spots
+  -- hits of events of the trace are the replay's, if they are so at their spots
   pub hits_are : (hits : Hits) → AreTraced hits → ((pos : Pos) (key : List Part) → map.get hits (mark_at pos key) ≡ values_found triggers events id (mark_at pos key)) → hits ≡ replayed_hits triggers events id
   hits_are hits are_traced at = values-are triggers events id hits (each_mark (λ m. map.get hits m ≡ values_found triggers events id m) at (λ m made. are_traced m made ∙ sym (none_made m made)))
 
@@ -201,7 +201,7 @@ one_entry one values ops at (Reads saver) (Some act) hits others read found is w
     let same : found ≡ read = after.1.1 ∙ ap (option_map (λ (saved : At). saved.pos)) source ∙ sym before.1.1 in
     (same, λ key. will.1 key ∙ ap (λ (o : Option Pos). one_hit act.0 (option_map (λ (saved : Pos). values at.trigger at.pos act.1 (Some saved)) o) key) same ∙ sym (is.1 key))
 
--- a trigger that acts alike at a place, with its role, has the same there, where the operations on what it reads are the same
+-- a trigger that acts alike at a place, with its role, has the same there, if the operations on what it reads are the same
 pub one_right : OneSource → (triggers others : Triggers) (acts more : Acts) (kept will : Kept) (at : At)
     → map.get others at.trigger ≡ map.get triggers at.trigger → role_at others at.trigger ≡ role_at triggers at.trigger → more at ≡ acts at
     → ((saver : ℕ) → role_at triggers at.trigger ≡ Reads saver → (key : List Part) → will.ops (record { saver = saver; key = key }) ≡ kept.ops (record { saver = saver; key = key }))
@@ -335,7 +335,7 @@ module _ (grounds : Grounds) (triggers others : Triggers) (events : Events) wher
         ∙ (λ i. is_in (table_for hist (same_hits i)) key)
         ∙ sym (admitted-in grounds.rows grounds.totals grounds.members triggers events id hist stays.had key)
 
-  -- one that reads nothing stays alone
+  -- one that reads nothing stays by itself
   pub quiet_stays : (id : ℕ) (hist : Hist) → map.get triggers id ≡ Some hist → map.get others id ≡ Some hist → is_reader hist.variable ≡ false → Stays id hist
   quiet_stays id hist attached still quiet = record {
     had = attached;

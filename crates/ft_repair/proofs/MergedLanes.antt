@@ -77,7 +77,7 @@ event_without lanes cpu line c l =
 
 -- ---- places
 
--- a place ties where its stamp, its CPU and its line do
+-- a place ties exactly if its stamp, its CPU and its line do
 pub tie_at : (q pos : Pos) → eq_by_cmp pos_cmp q pos ≡ (is_eq (nat_cmp q.stamp pos.stamp) && (eq_by_cmp nat_cmp q.cpu pos.cpu && eq_by_cmp nat_cmp q.line pos.line))
 tie_at q pos =
     sym (tied_then (nat_cmp q.stamp pos.stamp) (ordering_then (nat_cmp q.cpu pos.cpu) (nat_cmp q.line pos.line)))
@@ -146,7 +146,7 @@ module _ (base : Base) (reachable : IsReachable base) (event : Traced) where
         ] refl
       ] refl
 
-  -- so it alone was lacking
+  -- so only it was lacking
   pub merged_one_more : merged base.lanes ≡ map.remove (merged (lanes_with base.lanes event)) (record { stamp = event.stamp; cpu = event.cpu; line = new_line })
   merged_one_more = lacking (lanes_with base.lanes event) event.cpu new_line event (new_line_has base event) base.lanes (λ c l.
       free (on_line event.cpu new_line c l) (event_at base.lanes c l) (λ tie. at_line base.lanes event.cpu new_line c l tie ∙ free_line)

@@ -142,7 +142,7 @@ module _ {base : Base} {triggers : Triggers} {lanes : Lanes} {sign : Sign} {pos 
   kept_after new forms views = subst (λ (b : Base). AreKeptAfter sign b pos new) may.same
       (events_none triggers lanes sign before after refl (changing_fewer moving new forms views))
 
-  -- where its hits are plain, its acts are
+  -- if its hits are plain, its acts are
   pub plain_acts : IsPlainHit base.triggers event → memory.AllActPlainly triggers shelves event
   plain_acts plain id hist attached key found = plain_shelf triggers shelves may.kept.each id hist attached (subst (λ (b : Base). IsPlainHit b.triggers event) (sym may.same) plain id hist attached key found)
 
@@ -183,7 +183,7 @@ module _ {base : Base} {triggers : Triggers} {lanes : Lanes} {sign : Sign} {pos 
     value Insert = Some (values_at hist pos event None)
     value Retract = None
 
-    -- what stands under a mark afterwards, where the hit has this key, if it is one, and its mark ties so
+    -- what stands under a mark afterwards: what is put if there is a hit and the mark of its key ties, else what stood there
     abbrev put_at : Option (List ℤ) → (List Part → Bool) → Option (List Part) → Option (List ℤ) → Option (List ℤ)
     put_at new ties own was = option_map_or (λ key. cond (ties key) new was) own was
 
@@ -207,7 +207,7 @@ module _ {base : Base} {triggers : Triggers} {lanes : Lanes} {sign : Sign} {pos 
           | Some key ↦ (refl, get-remove mark_cmp_total table.hits (mark_at pos key))
         ]
 
-    -- the marks of places tie where both the places and the keys do
+    -- the marks of places tie exactly if both the places and the keys do
     ties_at : (q : Pos) (key : List Part) (b : Bool) → eq_by_cmp pos_cmp q pos ≡ b → (own : List Part) → ties_with (mark_at q key) own ≡ (b && same_key key own)
     ties_at q key b tie own =
         ap (λ o. is_eq (ordering_then o (key_cmp key own))) (traced-cmp q pos) ∙ sym (tied_then (pos_cmp q pos) (key_cmp key own)) ∙ ap (λ c. c && same_key key own) tie
@@ -255,7 +255,7 @@ module _ {base : Base} {triggers : Triggers} {lanes : Lanes} {sign : Sign} {pos 
 
   -- ---- what it costs
 
-  -- where savers keep their keys, none moves
+  -- if savers keep their keys, none moves
   none_moves : Grounds → SaversStay triggers before after → SomeSaverMoves (table_edit sign pos event) triggers shelves → ⊥
   none_moves grounds stay some =
       let id = some.id in

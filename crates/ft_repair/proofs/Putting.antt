@@ -53,7 +53,7 @@ use Rattle.ft_shelves.specs.Joining.{AreGroupsOf, acts_with}
 -- ---- new shelves, one by one
 
 module _ (triggers : Triggers) (family : ℕ → Bool) (old : Shelves) where
-  -- all of the family but those that are left have new shelves
+  -- all of the family, except those that are left, have new shelves
   pub record AreRenewedBut (rest : List (ℕ × Hist)) (now : Shelves) : Type 0 where
     pub stay : (id : ℕ) → family id ≡ false → map.get now id ≡ map.get old id
     pub none : (id : ℕ) → map.get triggers id ≡ None → map.get now id ≡ map.get old id

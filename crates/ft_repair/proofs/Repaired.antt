@@ -3,7 +3,7 @@ use Rattle.std.proofs.Common.{◌≡◌, false, refl, sym, ap, ◌∙◌, Option
 use Rattle.std.specs.Option.{IfSome, is_none}
 use Rattle.ft_kept.specs.Shelves.{Shelves}
 
--- where tables are given up only if there were none, they are there if there were some
+-- if there are no tables only if there were none before, there are some if there were some
 pub still_there : (old new : Option Shelves) → (new ≡ None → old ≡ None) → is_none old ≡ false → is_none new ≡ false
 still_there old None back there = ap is_none (sym (back refl)) ∙ there
 still_there old (Some tables) back there = refl

@@ -16,6 +16,6 @@ AreKeptBut id base shelves = AreKept (map.remove base.triggers id) (merged base.
 abbrev pub AwaitFilter : ℕ → Base → Shelves → Type 0
 AwaitFilter id base shelves = (new : Base) → GetsFilter id base new → AreKeptOutside (is_in_family new.triggers id) new.triggers new.lanes shelves
 
--- all shelves but one trigger's stay as they are
+-- all shelves except one trigger's stay as they are
 abbrev pub OtherShelvesStay : ℕ → Shelves → Shelves → Type 0
 OtherShelvesStay id old new = (other : ℕ) → (other ≡ id → ⊥) → map.get new other ≡ map.get old other

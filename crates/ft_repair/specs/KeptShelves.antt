@@ -11,7 +11,7 @@ use Rattle.ft_base.specs.Base.{Base, Triggers}
 use Rattle.ft_replay.specs.Merged.{Events, merged}
 use Rattle.ft_base.specs.Roles.{role_of, role_at}
 
--- a shelf has the role and the size of a trigger, and hits of events of the trace alone
+-- a shelf has the role and the size of a trigger, and only hits of events of the trace
 pub record IsShelfOf (triggers : Triggers) (hist : Hist) (shelf : Shelved) : Type 0 where
   pub role : shelf.role ≡ role_of triggers hist.variable
   pub size : shelf.table.size ≡ hist.size
@@ -27,7 +27,7 @@ pub record AreKept (triggers : Triggers) (events : Events) (shelves : Shelves) :
   pub each : (id : ℕ) → HasItsShelf triggers (map.get triggers id) (map.get shelves id)
   pub kept : IsKept (role_at triggers) (values_by triggers) (admits_on shelves) (acts_of triggers events) (kept_on shelves)
 
--- what holds of each attached trigger's shelf, where the shelves are kept of triggers and events
+-- what holds of each attached trigger's shelf, if the shelves are kept of triggers and events
 abbrev pub OnEachShelf : (Triggers → Events → ℕ → Hist → Shelved → Type 0) → Type 0
 OnEachShelf Holds =
     (triggers : Triggers) (events : Events) (shelves : Shelves) → AreKept triggers events shelves → (id : ℕ) (hist : Hist) (shelf : Shelved)

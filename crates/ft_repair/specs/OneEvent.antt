@@ -12,7 +12,7 @@ use Rattle.ft_answers.specs.Deferral.{IsNoHit, IsPlainHit}
 use Rattle.ft_replay.specs.Merged.{Events, merged}
 use Rattle.ft_repair.specs.KeptShelves.{AreKept}
 
--- of these events those that are kept before the one at a place comes or goes
+-- the ones among these events that are kept before the one at a place comes or goes
 abbrev pub events_before : Sign → Events → Pos → Events
 events_before Insert events pos = map.remove events pos
 events_before Retract events pos = events
@@ -22,19 +22,19 @@ abbrev pub events_after : Sign → Events → Pos → Events
 events_after Insert events pos = events
 events_after Retract events pos = map.remove events pos
 
--- the shelves are kept of a base's triggers, of all its events but that at a place, and of this one where it has still to go
+-- the shelves are kept of a base's triggers, of all its events except the one at a place, and of that one if it has still to go
 abbrev pub AreKeptBefore : Sign → Base → Pos → Shelves → Type 0
 AreKeptBefore sign base pos shelves = AreKept base.triggers (events_before sign (merged base.lanes) pos) shelves
 
--- and of this one where it has come
+-- and of that one if it has come
 abbrev pub AreKeptAfter : Sign → Base → Pos → Shelves → Type 0
 AreKeptAfter sign base pos shelves = AreKept base.triggers (events_after sign (merged base.lanes) pos) shelves
 
--- what it costs that an event, which a base holds at a place, comes to tables or goes from them
+-- what it costs if an event that a base holds at a place comes to tables or goes from them
 abbrev pub ChangeCosts : Sign → Base → Pos → Traced → Steps → Steps → Type 0
 ChangeCosts sign base pos event old new = CostsOf base.triggers event (events_before sign (merged base.lanes) pos) (events_after sign (merged base.lanes) pos) old new
 
--- no memory is needed for an event: what comes is no hit of any trigger, what goes is a hit of triggers without a variable alone
+-- no memory is needed for an event: one that comes is no hit of any trigger, one that goes is a hit only of triggers without a variable
 abbrev pub EventNeedsNoMemory : Sign → Triggers → Traced → Type 0
 EventNeedsNoMemory Insert triggers event = IsNoHit triggers event
 EventNeedsNoMemory Retract triggers event = IsPlainHit triggers event

@@ -11,7 +11,7 @@ use Rattle.ft_base.specs.Roles.{role_of}
 use Rattle.ft_replay.specs.Merged.{merged}
 use Rattle.ft_repair.specs.KeptFor.{AreKeptFor}
 
--- the acts of triggers at all held events, but not those of some
+-- the acts of triggers at all held events, except those of some triggers
 abbrev pub acts_outside : (ℕ → Bool) → Triggers → Lanes → Acts
 acts_outside family triggers lanes at = if family at.trigger then None else acts_of triggers (merged lanes) at
 

@@ -1,2 +1,2 @@
--- Words of private functions: what is kept while triggers join or leave.
+-- Definitions for private functions: what is kept while triggers join or leave.
 pub mod Joining

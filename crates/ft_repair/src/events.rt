@@ -65,8 +65,8 @@ pub fn let_change(
         work.old work.new }
     ensures grow { StepsGrow work.old work.new }
 {
-    // How many steps it takes is told by the keys of savers in a replay, which these laws bind to
-    // those of the tables.
+    // The keys of savers in a replay tell how many steps it takes. These laws bind them to those of
+    // the tables.
     ft_table::laws::one_more_hit();
     ft_pairs::laws::one_source();
     let Some(mut tables) = kept.take() else {
@@ -99,8 +99,8 @@ pub fn cpus_before(
     Ok(Some(cpus))
 }
 
-/// The events of all lanes but those of some CPUs, which the tables have, come to the tables, in
-/// merged order, and what that changes is recorded. If memory runs out, the tables are given up.
+/// The events of all lanes, except those of some CPUs, which the tables have, come to the tables,
+/// in merged order, and what that changes is recorded. If memory runs out, the tables are given up.
 pub fn let_lanes_come(
     kept: &mut Option<Tables>,
     content: &Content,

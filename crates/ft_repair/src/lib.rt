@@ -19,17 +19,17 @@
 //!
 //! # Contracts
 //!
-//! The shelves are an `Option<Tables>`. For which triggers and events they are kept, before a repair
-//! and after it, is said of the base (`AreKeptOf`, `specs/KeptShelves.antt`, and its like). The law
-//! `kept_shelves` leads from there to the replay.
+//! The shelves are an `Option<Tables>`. Contracts say of the base for which triggers and events
+//! they are kept, before a repair and after it (`AreKeptOf`, `specs/KeptShelves.antt`, and its
+//! like). The law `kept_shelves` leads from there to the replay.
 //!
 //! The contracts let through:
 //!
-//! - giving the shelves up at any time, except where a clause `now` says that no memory is needed;
-//! - any number of puts, except where a clause `costs` or `none` says how many, and any number of
-//!   tests in `rebuilt`, `make_way` and `leave`, except where they have a clause `none`;
+//! - giving the shelves up at any time, unless a clause `now` says that no memory is needed;
+//! - any number of puts, unless a clause `costs` or `none` says how many, and any number of tests
+//!   in `rebuilt`, `make_way` and `leave`, unless they have a clause `none`;
 //! - any change of the other readers of a variable as one reader comes, goes or gets another
-//!   filter, since what this one reads, they miss (`readers_stay`).
+//!   filter, since they miss what this one reads (`readers_stay`).
 #![tactic(auto)]
 
 mod events;

@@ -238,8 +238,8 @@ fn take_reads(
     reader.move_acts(tables, Sign::Retract, &events, work)
 }
 
-/// What a trigger read goes from the tables, since by a new filter it is not known any more what that
-/// was. Nothing else of it needs to go before: it joins again with its readers.
+/// What a trigger read goes from the tables, since with a new filter it is no longer known what
+/// that was. Nothing else of it needs to go first: it joins again with its readers.
 pub fn make_way(kept: &mut Option<Tables>, content: &Content, id: u32, work: &mut Work)
     requires { IfSome kept.old (AreKeptOf content.now) }
     ensures waits { IfSome kept.new (AwaitFilter id content.now) }

@@ -101,7 +101,7 @@ module _ (triggers : Triggers) where
     | Some key ↦ (h.0 key, block Q entry ts h.1)
   ]
 
-  -- of each act at an event, where it holds whatever the trigger and the key
+  -- of each act at an event, if it holds whatever the trigger and the key
   pub each_at : (Q : Act → Type 0) (entry : Pos × Traced) → ((id : ℕ) (key : List Part) → Q (made entry id key)) → AllByRecursion Q (acts_at triggers entry)
   each_at Q entry h = block Q entry (map.entries triggers) (all_of _ (λ t. h t.0) (map.entries triggers))
 

@@ -74,7 +74,7 @@ module _ (rows : RowsGrow) (totals : TotalsGrow) (members : InGrows) where
     tells : (read : Option Pos) → tally_in (counter_with mark read (values read) counter) ≡ tell counter.table.size (growth_by hist at.pos event key) at.pos key read (tally_in counter)
     tells read = tally_grows_with rows totals members counter.table mark (values read) last at.pos read counter.pairs
 
-    -- its key is then in just where the hit had a place
+    -- its key is then in the table exactly if the hit had a place
     admits : is_in (with_hit counter.table mark (values None)) key ≡ has_place counter.table.size (tally_in counter).table key
     admits = in_where_counted rows totals members counter.table mark (values None) last ∙ sym (place_is_counted counter.table counter.pairs key)
 

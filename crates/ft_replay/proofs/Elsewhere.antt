@@ -1,4 +1,4 @@
--- What stays as it was where triggers or events change elsewhere.
+-- What stays as it was if triggers or events change elsewhere.
 use Rattle.std.proofs.Common.{◌≡◌, ℕ, true, false, cond, List, refl, sym, ap, ◌∙◌, Some, None, Option}
 use Rattle.std.specs.Prelude.{option_map, option_and_then}
 use Rattle.std.specs.Option.{option_map_or}
@@ -129,7 +129,7 @@ place_back : (variable : Variable) (o : Option Pos) → option_map (λ at. at.po
 place_back variable None = refl
 place_back variable (Some place) = refl
 
--- two replays find the same at a place, where the source there in the one is that in the other
+-- two replays find the same at a place, if the source there in the one is that in the other
 pub same_found : ((ops : Ops) (at : At) (a b : Option At) → IsSource ops at a → IsSource ops at b → a ≡ b)
     → (triggers others : Triggers) (events more : Events) (variable : Variable) (at : At)
     → ((found : Option At) → IsSource (ops_on triggers events variable) at found → IsSource (ops_on others more variable) at found)

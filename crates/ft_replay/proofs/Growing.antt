@@ -76,7 +76,7 @@ module _ (table : Tabled) (pairs : List Pair) where
   unfolding tally_of
   get-tally key = get-rows_by table.hits (keys_in table) key
 
-  -- the tally has a row just for the keys in the table
+  -- the tally has a row for exactly the keys in the table
   pub contains-tally : (key : List Part) → map.contains_key (tally_of table pairs).table key ≡ is_in table key
   contains-tally key = ap is_some (get-tally key) ∙ some_where (is_in table key) (counted_row table.hits key)
 
@@ -85,7 +85,7 @@ module _ (table : Tabled) (pairs : List Pair) where
   unfolding tally_of
   len-tally = len-rows_by table.hits (keys_in table) (keys_distinct table)
 
-  -- a hit of a key has a place just where it is counted
+  -- a hit of a key has a place exactly if it is counted
   pub place_is_counted : (key : List Part) → has_place table.size (tally_of table pairs).table key ≡ is_counted table key
   place_is_counted key = (λ i. contains-tally key i || nat_lt (len-tally i) table.size)
 
@@ -133,7 +133,7 @@ module _ (rows : RowsGrow) (totals : TotalsGrow) (members : InGrows) (table : Ta
   abbrev after : Tabled
   after = with_hit table m v
 
-  -- its key is then in just where it is counted
+  -- its key is then in the table exactly if it is counted
   pub in_where_counted : is_in (with_hit table m v) m.key ≡ is_counted table m.key
   in_where_counted = members table m v m.key last ∙ ap (λ b. if b then is_counted table m.key else is_in table m.key) (same_itself m.key)
 

@@ -75,7 +75,7 @@ module _ (g : Spot → Option TriggerHit) (here : (at : Spot) → IfSome (g at) 
       from None is rest = rest
       from (Some found) is rest = (subst (λ p. AreBehind p (filter_map g spots)) (sym is) (made_behind at spots sorted.0), rest)
 
-  -- the hit at a spot is what is made of it, where it is one of the spots
+  -- the hit at a spot is what is made of it, if it is one of the spots
   pub made_in : (at : Spot) (spots : List Spot) → hit_in (filter_map g spots) at ≡ cond (list_any (eq_by_cmp spot_cmp at) spots) (g at) None
   made_in at [] = refl
   made_in at (p ∷ spots) = from (eq_by_cmp spot_cmp at p) refl (g p) refl (here p) (made_in at spots)
@@ -99,11 +99,11 @@ module _ (g : Spot → Option TriggerHit) (here : (at : Spot) → IfSome (g at) 
 
 -- ---- what the map of some hits holds
 
--- what a hit adds, where it is of a key
+-- what a hit adds, if it is of a key
 abbrev pub values_under : List Part → Option TriggerHit → Option (List ℤ)
 values_under key found = option_and_then (λ found. if same_key key found.key then Some found.values else None) found
 
--- the values by a mark are those of the hit at its spot, where that is of its key
+-- the values by a mark are those of the hit at its spot, if that is of its key
 pub find-entries : (m : Mark) (hits : List TriggerHit) → Ascend hits → find mark_cmp m (list_map entry_of hits) ≡ values_under m.key (hit_in hits m.spot)
 find-entries m [] up = refl
 find-entries m (found ∷ hits) up =

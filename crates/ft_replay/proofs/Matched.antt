@@ -50,7 +50,7 @@ module _ (triggers : Triggers) (events : Events) where
   abbrev admitted : ℕ → List Part → Bool
   admitted = admits (size_at triggers) (role_at triggers) (growth_at triggers) acts
 
-  -- a saver's key is admitted, by its own hits alone, just where it is in the saver's table
+  -- a saver's key is admitted, by the saver's own hits alone, exactly if it is in the saver's table
   admitted-is : (id : ℕ) (hist : Hist) → map.get triggers id ≡ Some hist → role_at triggers id ≡ Saves → (key : List Part) → admitted id key ≡ is_admitted (replay triggers events) id key
   unfolding admits is_admitted
   admitted-is id hist attached saves key = sym (

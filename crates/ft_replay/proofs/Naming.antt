@@ -1,4 +1,4 @@
--- An event on whose name no trigger is changes nothing.
+-- An event whose name no trigger is on changes nothing.
 use Rattle.std.proofs.Common.{◌≡◌, ℕ, Bool, true, false, cond, List, [], ◌∷◌, refl, sym, ap, subst, ◌∙◌, None}
 use Rattle.std.specs.Prelude.{◌&&◌, fold, filter, if◌then◌else◌}
 use Rattle.std.specs.List.{list_any, AllByRecursion}
@@ -57,7 +57,7 @@ module _ (names : Name → Bool) where
   pub on_all : (P : Pos × Traced → Type 0) (events : Events) → AllByRecursion P (map.entries events) → AllByRecursion P (map.entries (events_on names events))
   on_all P events h = subst (AllByRecursion P) (sym (entries-on events)) (kept_all P (map.entries events) h)
 
--- ---- those on whose name some trigger is
+-- ---- those whose name some trigger is on
 
 module _ (triggers : Triggers) where
   -- a trigger that is not on the event's name doesn't act
@@ -80,7 +80,7 @@ module _ (triggers : Triggers) where
   unfolding step is_on
   unnamed_step state entry none = all_idle entry state (map.entries triggers) none
 
-  -- an entry on whose name some trigger is
+  -- an entry whose name some trigger is on
   abbrev pub is_kept : Pos × Traced → Bool
   is_kept entry = is_named triggers entry.1
 
@@ -108,7 +108,7 @@ module _ (triggers : Triggers) where
   unfolding replay
   replay-named events = ap (fold (step triggers) _) (entries-named events) ∙ some_named _ (map.entries events)
 
--- where no entry passes, none is left
+-- if no entry passes, none is left
 pub none_left : {X : Type 0} (fits : X → Bool) (xs : List X) → ((x : X) → fits x ≡ false) → filter fits xs ≡ []
 none_left fits [] none = refl
 none_left fits (x ∷ xs) none = ap (λ (b : Bool). cond b (x ∷ filter fits xs) (filter fits xs)) (none x) ∙ none_left fits xs none

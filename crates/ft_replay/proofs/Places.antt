@@ -37,7 +37,7 @@ none_later q e es sorted at =
     subst (λ k. find nat_cmp k es ≡ None) (sym (same_from_tie nat_cmp-IsAntisymmetric q e.0 at)) (none_above e.0 es (sorted_head nat_cmp e.0 (keys_of es) sorted))
 
 module _ (pos : Pos) where
-  -- an event, where its stamp is the place's
+  -- an event, if its stamp is the place's
   abbrev on_stamp : Traced → Option Traced
   on_stamp e = if e.stamp == pos.stamp then Some e else None
 

@@ -212,6 +212,6 @@ module _ (names : Name → Bool) (lanes : Lanes) where
       entries-moved pos_cmp_total pos_same (events_on names (merged lanes)) (filter (has_one names) by_lane) (entries_by g events) find-kept moved kept
       (subst (IsStrictlySortedBy pos_cmp) (sym (keys_of-map_values g events)) (ascends pos_cmp_total pos_same events up last))
 
--- what the events have at a place on whose name some trigger is
+-- what the events whose name some trigger is on have at a place
 pub get-named : (triggers : Triggers) (lanes : Lanes) (events : Events) (q : Pos) → map.get (named triggers events) q ≡ option_filter (is_named triggers) (map.get events q)
 get-named triggers lanes events q = ap (λ (m : Events). map.get m q) (named-on triggers events) ∙ get-on (is_on triggers) lanes events q

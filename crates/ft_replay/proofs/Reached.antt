@@ -56,7 +56,7 @@ module _ (triggers : Triggers) (at : At) where
   abbrev pub is_earlier : Pos × Traced → Bool
   is_earlier e = is_lt (pos_cmp e.0 at.pos)
 
-  -- the triggers that act before, where the event is the place's own
+  -- the triggers that act before, if the event is the place's own
   abbrev is_lower : ℕ × Hist → Bool
   is_lower t = nat_lt t.0 at.trigger
 
@@ -93,7 +93,7 @@ module _ (triggers : Triggers) (at : At) where
             ]
       ] refl
 
-  -- where all events stand after the place, no act is before it
+  -- if all events stand after the place, no act is before it
   later_acts : (es : List (Pos × Traced)) → AllByRecursion (λ e. pos_cmp e.0 at.pos ≡ Greater) es → filter (is_before at) (flat_map (acts_at triggers) es) ≡ []
   later_acts [] h = refl
   later_acts (e ∷ es) h =
@@ -107,7 +107,7 @@ module _ (triggers : Triggers) (at : At) where
   behind : (e : Pos × Traced) (es : List (Pos × Traced)) → pos_cmp e.0 at.pos ≡ Equal → AllByRecursion (λ q. pos_cmp e.0 q.0 ≡ Less) es → AllByRecursion (λ q. pos_cmp q.0 at.pos ≡ Greater) es
   behind e es tie h = all_map _ _ (λ q less. ap (pos_cmp q.0) (sym (pos_same e.0 at.pos tie)) ∙ pos_cmp_total.antisymm q.0 e.0 ∙ ap ordering_reverse less) es h
 
-  -- the place's own event is there where its place ties
+  -- the place's own event is there if its place ties
   tied : (e : Pos × Traced) (o : Ordering) → pos_cmp e.0 at.pos ≡ o → is_eq (pos_cmp at.pos e.0) ≡ is_eq (ordering_reverse o)
   tied e o is = ap is_eq (pos_cmp_total.antisymm at.pos e.0 ∙ ap ordering_reverse is)
 

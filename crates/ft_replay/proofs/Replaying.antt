@@ -39,14 +39,14 @@ module _ (rows : RowsGrow) (totals : TotalsGrow) (members : InGrows) (triggers :
   tally-kept values hits readings pairs =
       tally-replayed ∙ (λ i. Some (tally_of (table_for hist (sym (values-are triggers events id values hits) i)) (sym (pairs-are triggers events id readings pairs) i)))
 
-  -- a key is admitted where it is in the trigger's table
+  -- a key is admitted exactly if it is in the trigger's table
   pub admitted-in : (key : List Part) → is_admitted (replay triggers events) id key ≡ is_in (table_for hist (replayed_hits triggers events id)) key
   unfolding is_admitted
   admitted-in key =
       ap (λ o. option_map_or (λ (tally : Tally). map.contains_key tally.table key) o false) tally-replayed
       ∙ contains-tally (table_for hist (replayed_hits triggers events id)) (pairs_of triggers events id) key
 
-  -- a key is admitted just where fewer than `size` other keys have an earlier first hit
+  -- a key is admitted exactly if it has a hit and fewer than `size` other keys have an earlier first one
   pub admitted-rank : InByRank → (key : List Part) → IsTrue (is_admitted (replay triggers events) id key) ↔ IsAmongFirst (table_for hist (replayed_hits triggers events id)) key
   admitted-rank rank key =
       let in_first = rank (table_for hist (replayed_hits triggers events id)) key in

@@ -73,7 +73,7 @@ module _ (size : ℕ → ℕ) (growth : Act → RowGrowth) where
         | false ↦ λ _. h
       ] refl)
 
-  -- a hit finds room just where its key is in the table at the end
+  -- a hit finds room exactly if its key is in the table at the end
   pub has_place-is : (a : Act) (t : Tally) (xs : List Act)
       → has_place (size a.at.trigger) t.table a.key ≡ map.contains_key (fold (told_plain size growth a.at.trigger) (tell_act size growth a None t) xs).table a.key
   has_place-is a t xs = elim (has_place (size a.at.trigger) t.table a.key) as (λ b. has_place (size a.at.trigger) t.table a.key ≡ b

@@ -62,7 +62,7 @@ module _ (op : Act → Option Op) where
     | Some b ↦ λ found _. found_above a acts h q (ap is_some found)
   ] refl is
 
-  -- places above the first act see the others alone
+  -- places above the first act see only the others
   behind : (a : Act) (acts : List Act) (q : At) → at_cmp a.at q ≡ Less → ops_in (a ∷ acts) q ≡ ops_in acts q
   behind a acts q h = ap (λ b. option_and_then op (cond b (Some a) (find at_cmp q (by_place acts)))) (above-is at_cmp at_cmp_total a.at q h)
 

@@ -29,7 +29,7 @@ pub traced-before : (a b : Spot) → IsTraced a → IsTraced b → spot_cmp a b 
 traced-before a b first second less =
     sym (traced-cmp a.pos b.pos) ∙ ap (spot_cmp (traced a.pos)) (sym second) ∙ ap (λ s. spot_cmp s b) (sym first) ∙ less
 
--- one ties with that of a place just where the places do
+-- one ties with that of a place exactly if the places do
 pub traced-tie : (at : Pos) (s : Spot) → IsTraced s → eq_by_cmp spot_cmp (traced at) s ≡ eq_by_cmp pos_cmp at s.pos
 traced-tie at s is = ap (λ x. is_eq (spot_cmp (traced at) x)) is ∙ ap is_eq (traced-cmp at s.pos)
 
@@ -43,7 +43,7 @@ unfolding IsStrictlySortedBy
 traced_ascend [] sorted = tt
 traced_ascend (p ∷ places) sorted = (traced_behind p places sorted.0, traced_ascend places sorted.1)
 
--- one is among those of places just where its place is among these
+-- one is among those of places exactly if its place is among these
 pub traced_among : (p : Pos) (places : List Pos) → list_any (eq_by_cmp spot_cmp (traced p)) (list_map traced places) ≡ list_any (eq_by_cmp pos_cmp p) places
 traced_among p [] = refl
 traced_among p (q ∷ places) = (λ i. is_eq (traced-cmp p q i) || traced_among p places i)

@@ -32,7 +32,7 @@ use Rattle.ft_replay.proofs.Earlier.{act_of, never_before, place_before}
 
 -- ---- one by one
 
--- what holds of each mark that has a hit holds with one more, where it holds of that one's
+-- what holds of each mark that has a hit holds with one more, if it holds of that one's
 pub each_hit : (P : Mark → Type 0) (hits : Hits) (mark : Mark) (v : List ℤ) → ((m : Mark) → IsSome (map.get hits m) → P m) → P mark → (m : Mark) → IsSome (map.get (map.insert hits mark v) m) → P m
 each_hit P hits mark v all own m there =
     elim (eq_by_cmp mark_cmp m mark) as (λ b. eq_by_cmp mark_cmp m mark ≡ b → P m) [
@@ -40,7 +40,7 @@ each_hit P hits mark v all own m there =
       | false ↦ λ apart. all m (subst IsSome (get-insert mark_cmp_total hits mark v m ∙ ap (λ b. cond b (Some v) (map.get hits m)) apart) there)
     ] refl
 
--- what holds of each counter holds with another one put in, where it holds of that one
+-- what holds of each counter holds with another one put in, if it holds of that one
 pub each_counter : (P : ℕ → Counting → Type 0) (counters : Counters) (id : ℕ) (new : Counting) → ((q : ℕ) (s : Counting) → map.get counters q ≡ Some s → P q s) → P id new
     → (q : ℕ) (s : Counting) → map.get (map.insert counters id new) q ≡ Some s → P q s
 each_counter P counters id new all own q s there =

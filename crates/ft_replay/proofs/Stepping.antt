@@ -2,7 +2,7 @@
 use Rattle.std.proofs.Math.Nat.{le_refl, le_trans}
 use Rattle.ft_hist.specs.Steps.{Steps, StepsGrow}
 
--- where no step is taken, no count falls
+-- if no step is taken, no count falls
 pub grow_none : (steps : Steps) → StepsGrow steps steps
 grow_none steps = record { evals = le_refl steps.evals; puts = le_refl steps.puts }
 

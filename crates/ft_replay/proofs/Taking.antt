@@ -63,7 +63,7 @@ module _ (fits : Pos × Traced → Bool) where
   pub listed_one : (b : Bool) (xs ys : List (Pos × Traced)) (e : Pos × Traced) → fits e ≡ b → IsPermutation (xs ++ cond b (e ∷ []) []) ys → IsPermutation (xs ++ filter fits (e ∷ [])) ys
   listed_one b xs ys e is moved = subst (λ (c : Bool). IsPermutation (xs ++ cond c (e ∷ []) []) ys) (sym is) moved
 
--- where an element is put in, all are those before and it
+-- wherever an element is put in, all elements are those before and it
 pub put_in : {X : Type 0} (xs : List X) (i : ℕ) (x : X) → IsPermutation (xs ++ x ∷ []) (insert xs i x)
 put_in xs i x = IsPermutation-trans _ _ _ (IsPermutation-to_front xs x) (IsPermutation-insert xs i x)
 

@@ -41,7 +41,7 @@ AllBefore hits found = AllByRecursion (λ found. AreBefore hits (mark_of found))
 
 -- ---- a map that grows at its end
 
--- where all hits stand before a mark, a hit there comes last
+-- if all hits stand before a mark, a hit there comes last
 comes_last : (table : Tabled) (m : Mark) → AreBefore table.hits m → ComesLast table m
 comes_last table m before = record { absent = from (map.get table.hits m) refl; last = before }
   where

@@ -92,7 +92,7 @@ module _ (size : ℕ → ℕ) (role : ℕ → Role) (growth : Act → RowGrowth)
     savers_told id is t [] = refl
     savers_told id is t (x ∷ xs) = savers_told id is (tells id t x) xs ∙ ap (λ (u : Tally). fold (told_plain size growth id) u xs) (saver_told id is t x)
 
-    -- a saver's hit finds room just where its key is admitted
+    -- a saver's hit finds room exactly if its key is admitted
     admits-is : (front : List Act) (a : Act) (rest : List Act) → acts ≡ front ++ a ∷ rest → role a.at.trigger ≡ Saves
         → has_place (size a.at.trigger) (fold (tells a.at.trigger) empty_tally front).table a.key ≡ admits size role growth acts a.at.trigger a.key
     unfolding admits

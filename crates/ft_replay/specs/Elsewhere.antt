@@ -17,7 +17,7 @@ pub record IsSameAct (triggers others : Triggers) (events more : Events) (at : A
   pub trigger : map.get others at.trigger ≡ map.get triggers at.trigger
   pub role : role_at others at.trigger ≡ role_at triggers at.trigger
 
--- a reading at the place, where there is one, finds the same in both replays
+-- a reading at the place, if there is one, finds the same in both replays
 abbrev pub FindsTheSame : Triggers → Triggers → Events → Events → At → Type 0
 FindsTheSame triggers others events more at =
     (variable : Variable) → ops_on triggers events variable at ≡ Some Read → found_at others more variable at ≡ found_at triggers events variable at

@@ -11,12 +11,12 @@ use Rattle.ft_base.specs.Base.{Triggers}
 use Rattle.ft_replay.specs.Merged.{Events}
 use Rattle.ft_replay.specs.Hits.{hit_at, hit_on}
 
--- what the trigger's hit at a spot under a key adds to the sums, where there is one (kernel: histogram.rst, `values`)
+-- what the trigger's hit at a spot under a key adds to the sums, if there is one (kernel: histogram.rst, `values`)
 unfoldable pub values_found : Triggers → Events → ℕ → Mark → Option (List ℤ)
 values_found triggers events id mark =
     option_and_then (λ found. if same_key mark.key found.key then Some found.values else None) (hit_on triggers events id mark.spot)
 
--- the place of the saving that the trigger's hit at a place read, where there is one and it read (kernel: histogram.rst, inter-event hist triggers)
+-- the place of the saving that the trigger's hit at a place read, if there is one and it read (kernel: histogram.rst, inter-event hist triggers)
 unfoldable pub saving_found : Triggers → Events → ℕ → Pos → Option Pos
 saving_found triggers events id at = option_and_then (λ found. found.saved) (hit_at triggers events id at)
 

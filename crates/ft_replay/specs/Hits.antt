@@ -42,7 +42,7 @@ pub record TriggerHit : Type 0 where
   pub saved : Option Pos
   pub values : List ℤ
 
--- what a hit of a key reads, if it is one: a trigger that reads no variable reads nothing; a reader has a hit only where its variable is found set (kernel: histogram.rst, inter-event hist triggers)
+-- what a hit of a key reads, if it is one: a trigger that reads no variable reads nothing; a reader has a hit only if its variable is found set (kernel: histogram.rst, inter-event hist triggers)
 abbrev pub read_as : Role → (Variable → Option Pos) → List Part → Option (Option Pos)
 read_as Plain found key = Some None
 read_as Saves found key = Some None
@@ -76,7 +76,7 @@ replayed_hits triggers events id = map.from_entries (list_map entry_of (trigger_
 abbrev pub table_for : Hist → Hits → Tabled
 table_for hist hits = record { hits = hits; size = hist.size }
 
--- the pair of a hit, where it read
+-- the pair of a hit, if it read
 abbrev pub pair_of : TriggerHit → Option Pair
 pair_of found = option_map (λ saved. record { saved = saved; read = found.spot.pos }) found.saved
 

@@ -1,4 +1,4 @@
--- Events on whose name some trigger is: no other event is a hit.
+-- Events whose name some trigger is on: no other event is a hit.
 use Rattle.std.specs.Prelude.{Bool, filter}
 use Rattle.std.specs.List.{list_any}
 use Rattle.std.specs.FinMap as map
@@ -18,7 +18,7 @@ is_on triggers name = list_any (λ attached. same_name attached.1.event name) (m
 abbrev pub is_named : Triggers → Traced → Bool
 is_named triggers event = is_on triggers (name_of event.body)
 
--- the events on whose name some attached trigger is
+-- the events whose name some attached trigger is on
 unfoldable pub named : Triggers → Events → Events
 named triggers events = map.from_entries (filter (λ entry. is_named triggers entry.1) (map.entries events))
 

@@ -16,7 +16,7 @@ use Rattle.ft_pairs.specs.Roles.{op_as}
 unfoldable pub is_admitted : State → ℕ → List Part → Bool
 is_admitted state id key = option_map_or (λ tally. map.contains_key tally.table key) (map.get state.tallies id) false
 
--- the operations on a variable: at each place what the trigger does to it there, where the event has its name and passes its filter (kernel: histogram.rst, inter-event hist triggers)
+-- the operations on a variable: at each place what the trigger does to it there, if the trigger is on the event's name and the event passes its filter (kernel: histogram.rst, inter-event hist triggers)
 unfoldable pub ops_on : Triggers → Events → Variable → Ops
 ops_on triggers events variable at =
     option_and_then (λ event. option_and_then (λ hist. option_and_then

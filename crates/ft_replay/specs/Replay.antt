@@ -31,7 +31,7 @@ pub record State : Type 0 where
 
 -- ---- one trigger at one event
 
--- a trigger with this tally acts at a hit of a key: a saver sets its variable where the hit is counted; a reader whose variable is unset has no hit, and else unsets it (kernel: histogram.rst, inter-event hist triggers; that a reading unsets is our own choice)
+-- a trigger with this tally acts at a hit of a key: a saver sets its variable if the hit is counted; a reader has no hit if its variable is unset, and otherwise unsets it (kernel: histogram.rst, inter-event hist triggers; that a reading unsets is our own choice)
 abbrev pub act_as : ℕ → RowGrowth → Role → State → At → List Part → Tally → State
 act_as size growth Plain state at key tally = record state { tallies = map.insert state.tallies at.trigger (tell size growth at.pos key None tally) }
 act_as size growth Saves state at key tally = record {
@@ -44,19 +44,19 @@ act_as size growth (Reads saver) state at key tally =
       variables = map.remove state.variables (record { saver = saver; key = key });
     }) (map.get state.variables (record { saver = saver; key = key })) state
 
--- a trigger acts at a hit of a key, where it has a tally
+-- a trigger acts at a hit of a key, if it has a tally
 unfoldable pub act : ℕ → Role → RowGrowth → State → At → List Part → State
 act size role growth state at key = option_map_or (act_as size growth role state at key) (map.get state.tallies at.trigger) state
 
 -- ---- what a hit adds
 
--- a row with a trigger's hit, where the key has a row or none yet (kernel: histogram.rst, `hitcount` and `values`)
+-- a row with a trigger's hit, whether the key has a row or none yet (kernel: histogram.rst, `hitcount` and `values`)
 abbrev pub growth_by : Hist → Pos → Traced → List Part → RowGrowth
 growth_by hist at event key saved row = grown (values_at hist at event saved) (unwrap_or row (empty_row key))
 
 -- ---- all triggers, all events
 
--- one event at one attached trigger: it acts where the event is a hit (kernel: histogram.rst, hist triggers)
+-- one event at one attached trigger: the trigger acts if the event is a hit (kernel: histogram.rst, hist triggers)
 unfoldable pub act_at : Triggers → Pos × Traced → State → ℕ × Hist → State
 act_at triggers entry state attached =
     option_map_or (λ key.

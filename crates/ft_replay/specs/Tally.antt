@@ -36,14 +36,14 @@ RowGrowth = Option Pos → Option Counted → Counted
 abbrev pub has_place : ℕ → RowsByKey → List Part → Bool
 has_place size table key = map.contains_key table key || nat_lt (map.len table) size
 
--- one hit of a key: counted where it has a place, else dropped (kernel: histogram.rst, `size` and `Dropped`)
+-- one hit of a key: counted if it has a place, else dropped (kernel: histogram.rst, `size` and `Dropped`)
 unfoldable pub count : ℕ → List Part → (Option Counted → Counted) → Tally → Tally
 count size key grow tally =
     if has_place size tally.table key
     then record tally { table = map.insert tally.table key (grow (map.get tally.table key)) }
     else record tally { dropped = tally.dropped + 1 }
 
--- a tally with the pair of a reading, where the hit read something
+-- a tally with the pair of a reading, if the hit read something
 abbrev pub with_pair : Pos → Option Pos → Tally → Tally
 with_pair at None tally = tally
 with_pair at (Some saved) tally = record tally { pairs = tally.pairs ++ record { saved = saved; read = at } ∷ [] }

@@ -88,7 +88,7 @@ impl<'a> Act<'a> {
         }
     }
 
-    /// The hit of a key, which read what was saved at a place, if it read.
+    /// The hit of a key, with the place of the saving that it read, if it read one.
     fn hit(&self, key: Key, read: Option<Pos>) -> Hit
         requires { self.now.at.pos.stamp ≡ self.now.event.now.stamp }
         ensures { result ≡ record {

@@ -40,8 +40,8 @@ pub fn merged_order()
     ensures { (lanes : Lanes) (pos : Pos) → map.get (merged lanes) pos ≡ held_at lanes pos }
 {}
 
-/// A law: an event on whose name no trigger is changes nothing, and so replaying asks for the
-/// others alone.
+/// A law: an event whose name no trigger is on changes nothing, and so replaying asks only for the
+/// others.
 pub fn named_events()
     ensures step { (triggers : Triggers) (state : State) (pos : Pos) (event : Traced) →
         is_named triggers event ≡ false → step triggers state (pos, event) ≡ state }
@@ -50,9 +50,9 @@ pub fn named_events()
 {}
 
 /// A law: what a reading finds as events are replayed is the last operation on its variable before
-/// it, where that is a saving; where it is a reading, or none stands before, the reading finds
-/// nothing. There is no other such answer (`one_source` in `ft_pairs`). So no pair's saving has a
-/// later stamp than its reading, and the time between them is never cut off at 0.
+/// it, if that is a saving; if it is a reading, or there is none before, the reading finds nothing.
+/// There is no other such answer (`one_source` in `ft_pairs`). So no pair's saving has a later
+/// stamp than its reading, and the time between them is never cut off at 0.
 pub fn matched_readings()
     ensures found { (triggers : Triggers) (events : Events) (variable : Variable) (at : At)
         → IsSource (ops_on triggers events variable) at
@@ -62,15 +62,15 @@ pub fn matched_readings()
         → All (λ pair. pair.saved.stamp ≤ pair.read.stamp) (pairs_of triggers events id) }
 {}
 
-/// A law: what changes elsewhere changes nothing here. Where a place keeps its event, its trigger
-/// and the trigger's role, and other triggers or events change:
+/// A law: what changes elsewhere changes nothing here. If a place keeps its event, its trigger and
+/// the trigger's role, and other triggers or events change:
 ///
-/// - its hit is what it was, if its reading, where it is one, finds what it found;
-/// - its operation on a variable is what it was, if the saver has the variable's key in its table
-///   just where it had.
+/// - its hit is what it was, provided that its reading, if there is one, finds what it found;
+/// - its operation on a variable is what it was, provided that the saver has the variable's key in
+///   its table if and only if it had.
 ///
 /// And a reading finds what it found, if the operations on its variable before it are what they
-/// were, or those back to one that stays.
+/// were. It is enough that one of them and all after it are what they were.
 pub fn same_elsewhere()
     ensures hits { (triggers others : Triggers) (events more : Events) (at : At)
         → IsSameAct triggers others events more at → FindsTheSame triggers others events more at

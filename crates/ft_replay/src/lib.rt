@@ -1,8 +1,9 @@
 //! Replaying: what the attached triggers count if all held events go past them in order, now.
 //!
-//! All held events are in one merged order: by stamp, then by CPU, then by line. At each the
-//! triggers act in order of id: a hit is counted, and may save a variable or read one. `replay_held`
-//! answers a `Counter` for each attached trigger. The answers are made of them in `ft_answers`.
+//! All held events are in one merged order: by stamp, then by CPU, then by line. At each of them
+//! the triggers act in order of id: a hit is counted, and may save a variable or read one.
+//! `replay_held` returns a `Counter` for each attached trigger. `ft_answers` makes the answers of
+//! them.
 //!
 //! ```ignore
 //! let mut work = Work::new();
@@ -22,12 +23,12 @@
 //!   merged order; exact. Lets through: running out of memory at any time.
 //! - Law `merged_order`: what the merged order holds at a place is the event held there, and
 //!   nothing else.
-//! - Law `named_events`: events on whose name no trigger is change nothing as they are replayed.
+//! - Law `named_events`: events whose name no trigger is on change nothing as they are replayed.
 //! - Law `matched_readings`, the matching law: a reading finds the place of the last operation
 //!   before it, if that is a save, and nothing else (`specs/Operations.antt`).
 //! - Law `counted_hits`, the admission law: what a trigger has counted is what a table makes of its
-//!   hits. A key is in just where it has a hit and fewer than `size` other keys have an earlier
-//!   first one.
+//!   hits. A key is in the table exactly if it has a hit and fewer than `size` other keys have an
+//!   earlier first one.
 //! - Law `kept_maps`: maps with the right look-ups give the tally that replaying gives
 //!   (`specs/Found.antt`).
 //! - Law `same_elsewhere`: what stays as events change elsewhere (`specs/Elsewhere.antt`).

@@ -20,7 +20,7 @@ use ft_lanes::Lanes;
 use ft_store::Stored;
 use std::alloc::{AllocError, Global};
 
-/// The events on whose name some trigger is, with their places, in merged order. Refused for
+/// The events whose name some trigger is on, with their places, in merged order. Refused for
 /// memory.
 pub fn merged_events<'a>(
     alloc: Global,
@@ -33,8 +33,8 @@ pub fn merged_events<'a>(
     events_with(alloc, lanes, Names::of(triggers))
 }
 
-/// The events on whose name some trigger is, but those of some CPUs, with their places, in merged
-/// order. Refused for memory.
+/// The events whose name some trigger is on, except those of some CPUs, with their places, in
+/// merged order. Refused for memory.
 pub fn merged_events_but<'a>(
     alloc: Global,
     lanes: &'a Lanes,
@@ -59,7 +59,7 @@ pub fn events_with<'a>(
     events_but(alloc, lanes, names, &[])
 }
 
-/// The events that have one of the names, but those of some CPUs, with their places, in merged
+/// The events that have one of the names, except those of some CPUs, with their places, in merged
 /// order. Refused for memory.
 fn events_but<'a>(
     alloc: Global,

@@ -20,7 +20,7 @@ pub struct Names {
 }
 
 impl Names {
-    /// The names on which some trigger is.
+    /// The names that some trigger is on.
     pub(crate) fn of(triggers: &Triggers) -> Names
         ensures { (name : Name) → has_name result name ≡ is_on triggers.now name }
     {
@@ -34,7 +34,7 @@ impl Names {
         }
     }
 
-    /// One name alone.
+    /// Only one name.
     pub fn only(name: Name) -> Names
         ensures { (other : Name) → has_name result other ≡ same_name name other }
     {

@@ -97,7 +97,7 @@ pub(crate) struct Rests<'a> {
 const NO_REST: u16 = u16::MAX;
 
 impl<'a> Rests<'a> {
-    /// All lanes but those of some CPUs. Refused for memory.
+    /// All lanes except those of some CPUs. Refused for memory.
     pub(crate) fn of(alloc: Global, lanes: &'a Lanes, but: &[u16]) -> Result<Rests<'a>, AllocError>
         ensures { IfOk result (λ rests. entries_left rests.rests.items
             ≡ flat_map placed (map.entries (lanes_but but.now lanes.now))) }
@@ -112,7 +112,7 @@ impl<'a> Rests<'a> {
         Ok(rests)
     }
 
-    /// Adds a lane unless its CPU is among some. Refused for memory.
+    /// Adds a lane, unless its CPU is among those in `but`. Refused for memory.
     fn push_unless(&mut self, but: &[u16], cpu: u16, lane: &Lane<'a>) -> Result<(), AllocError>
         ensures { OnOk result (entries_left self.new.rests.items
             ≡ entries_left self.old.rests.items ++ cond (is_among but.now cpu) [] (placed (cpu, lane.now))) }

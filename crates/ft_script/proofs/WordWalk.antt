@@ -1,4 +1,4 @@
--- What the parser of command lines makes of the program's words: a walk that holds the script, then traces.
+-- What the parser of command lines makes of the program's arguments: a walk that holds the script, then traces.
 use Rattle.std.proofs.Common.{◌≡◌, ◌∙◌, ap, refl, sym, ℕ, Bool, true, false, List, [], ◌∷◌, ◌++◌, Option, Some, None, option_map, codes, ap₂, append_assoc, subst, ◌⊎◌, inl, inr, Err}
 use Rattle.std.specs.Prelude.{⊤, fold, drop, is_some, slice_get, option_and_then, unwrap_or}
 use Rattle.std.specs.Str.{bytes_eq, chars}
@@ -108,7 +108,7 @@ plain_value (Traced script traces trace) word = refl
 abbrev dashes : Text
 dashes = 45 ∷ 45 ∷ []
 
--- a word is no flag, a long flag, or a bundle of short ones
+-- an argument is no flag, a long flag, or a bundle of short ones
 abbrev Forms : Text → Type 0
 Forms word = ((long_of word ≡ None) × (short_of word ≡ None) × (is_option word ≡ false))
     ⊎ (((flag : Text × Option Text) × (long_of word ≡ Some flag) × (is_option word ≡ true))
@@ -142,7 +142,7 @@ none_of : (xs : List ℕ) → is_some (slice_get xs 0) ≡ false → slice_get x
 none_of [] none = refl
 none_of (x ∷ xs) none = absurd (true≢false none)
 
--- a word that is an option is refused: the command has none
+-- an argument that is an option is refused: the command has none
 refused : (stage : Stage) (word : Text) → bytes_eq word dashes ≡ false → is_option word ≡ true
     → flag_word_fault top.rules false (long_of word) word (held_at stage) ≡ UnknownArgument ∷ []
 unfolding flags_fault
@@ -152,7 +152,7 @@ refused stage word other option = elim (form_of word other) [
   | inr (inr short) ↦ let first = first_of_some _ (sym short.4 ∙ option) in rw (short.2, short.3, first.1) refl
 ]
 
--- a word that is neither `--` nor an option passes
+-- an argument that is neither `--` nor an option passes
 passes : (stage : Stage) (word : Text) → bytes_eq word dashes ≡ false → is_option word ≡ false
     → flag_word_fault top.rules false (long_of word) word (held_at stage) ≡ []
 unfolding flags_fault
@@ -204,7 +204,7 @@ adds stage paths = fold next stage paths
 abbrev walk_of : Walk → List Text → Walk
 walk_of from words = fold (walked top.rules []) from words
 
--- after `--` each word is a path
+-- after `--` each argument is a path
 behind_faults : (stage : Stage) (words : List Text) → walk_fault top [] (walk_at true stage) words ≡ []
 unfolding walk_fault
 behind_faults stage [] = refl
@@ -227,7 +227,7 @@ paths_more : (word : Text) (words : List Text) → bytes_eq word dashes ≡ fals
     → paths_in (word ∷ words) ≡ option_map (λ paths. word ∷ paths) (paths_in words)
 paths_more word words other option = rw (other, option) refl
 
--- the walk fails where there are no paths
+-- the walk fails if there are no paths
 abbrev faults_of : Option (List Text) → Kinds
 faults_of None = UnknownArgument ∷ []
 faults_of (Some paths) = []
@@ -236,7 +236,7 @@ faults_of_more : (word : Text) (paths : Option (List Text)) → faults_of (optio
 faults_of_more word None = refl
 faults_of_more word (Some paths) = refl
 
--- one more word in front of words whose fault is known
+-- one more argument in front of arguments whose fault is known
 one_fault : (stage : Stage) (word : Text) (words : List Text) → walk_fault top [] (walk_at false (next stage word)) words ≡ faults_of (paths_in words)
     → (behind option : Bool) → bytes_eq word dashes ≡ behind → is_option word ≡ option
     → walk_fault top [] (walk_at false stage) (word ∷ words) ≡ faults_of (paths_in (word ∷ words))
@@ -259,7 +259,7 @@ unfolding walk_fault
 faults stage [] = refl
 faults stage (word ∷ words) = one_fault stage word words (faults (next stage word) words) (bytes_eq word dashes) (is_option word) refl refl
 
--- and ends after the paths where there are some
+-- and ends after the paths if there are some
 abbrev EndsAt : Stage → List Text → Option (List Text) → Type 0
 EndsAt stage words None = ⊤
 EndsAt stage words (Some paths) = (behind : Bool) × (walk_of (walk_at false stage) words ≡ walk_at behind (adds stage paths))
@@ -336,7 +336,7 @@ fault_is args = refl
 rows_are : (args : List Text) → matches_of app args ≡ finished top.rules (walk_of (walk_at false Fresh) (drop 1 args)).held
 rows_are args = refl
 
--- the parser finds what the words name
+-- the parser finds what the arguments name
 found_named : (args paths : List Text) (f : Found) (behind : Bool) → walk_of (walk_at false Fresh) (drop 1 args) ≡ walk_at behind (adds Fresh paths) → rows_of f ≡ matches_of app args
     → script_and_traces paths ≡ record { script = option_and_then script_at (first_value f (codes "SCRIPT")); traces = unwrap_or (option_map raw_values (matched_of f (codes "TRACE"))) [] }
 found_named args paths f behind end rows =
@@ -346,7 +346,7 @@ found_named args paths f behind end rows =
     let traces = ap (λ (ts : Option (List Text)). unwrap_or ts []) (raw_values-rows f (codes "TRACE") ∙ ap (all_of (codes "TRACE")) all) ∙ traces_found stage in
     rw (script, traces) (named_at paths)
 
--- words that are read name what the parser found
+-- arguments that are read name what the parser found
 read_words_name : (args : List Text) (f : Found) (paths : Option (List Text)) → paths_in (drop 1 args) ≡ paths → EndsAt Fresh (drop 1 args) paths
     → fault_of app args ≡ [] → rows_of f ≡ matches_of app args
     → option_map script_and_traces paths ≡ Some (record { script = option_and_then script_at (first_value f (codes "SCRIPT")); traces = unwrap_or (option_map raw_values (matched_of f (codes "TRACE"))) [] })
@@ -355,7 +355,7 @@ read_words_name args f None is end fault rows =
     cc
 read_words_name args f (Some paths) is end fault rows = ap Some (found_named args paths f end.0 end.1 rows)
 
--- words that the parser refuses name nothing
+-- arguments that the parser refuses name nothing
 refused_words_name : (args : List Text) (kind : ErrorKind) (paths : Option (List Text)) → paths_in (drop 1 args) ≡ paths → EndsAt Fresh (drop 1 args) paths
     → IsAmong kind (fault_of app args) → option_map script_and_traces paths ≡ None
 refused_words_name args kind None is end among = refl
@@ -386,7 +386,7 @@ read_by whole args m is fault rows = read_named args (found_of m) (ap (λ (a : A
 pub refused_by : (whole : App) (args : List Text) (kind : ErrorKind) → whole ≡ app → IsAmong kind (fault_of whole args) → named_by_words args ≡ None
 refused_by whole args kind is among = refused_named args kind (subst (IsAmong kind) (ap (λ (a : App). fault_of a args) is) among)
 
--- a fault that is `Refused` only where the words name nothing
+-- a fault that is `Refused` only if the arguments name nothing
 pub err_gives : (named : Option Named) (fault : WordsFault) → (fault ≡ faults_named.Refused → named ≡ None) → WordsGive named (Err fault)
 err_gives named faults_named.Memory none = tt
 err_gives named faults_named.Refused none = none refl

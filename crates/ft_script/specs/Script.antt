@@ -50,7 +50,7 @@ drop_while test (byte ∷ bytes) = if test byte then drop_while test bytes else 
 unfoldable pub trimmed : List ℕ → List ℕ
 trimmed text = reverse (drop_while is_space (reverse (drop_while is_space text)))
 
--- the first word of a text that no space begins
+-- the first word of a text that begins with no space
 unfoldable pub first_word : List ℕ → List ℕ
 first_word text = take_while is_in_word text
 
@@ -77,7 +77,7 @@ attach_in text = option_map_or (λ name. Attach name (after_word text)) (name_ca
 abbrev pub is_colon : ℕ → Bool
 is_colon byte = byte == 58
 
--- the numbers of a CPU and of a line, where both stand
+-- the numbers of a CPU and of a line, if both stand
 abbrev pub strike_of : Option ℕ → Option ℕ → Asked
 strike_of cpu None = NoForm
 strike_of None (Some line) = NoForm
@@ -87,7 +87,7 @@ strike_of (Some cpu) (Some line) = Strike cpu line
 unfoldable pub strike_in : List ℕ → Asked
 strike_in text = strike_of (command_number (before_first is_colon text)) (command_number (after_first is_colon text))
 
--- after a trigger's id: `if` and a filter's text, which may be empty, or `none` alone
+-- after a trigger's id: `if` and a filter's text, which may be empty, or only `none`
 unfoldable pub refilter_in : ℕ → List ℕ → Asked
 refilter_in id text =
     if bytes_eq text (codes "none") then Refilter id None
@@ -107,13 +107,13 @@ numbered_words =
 abbrev pub numbered_by : List ℕ → Option Numbered
 numbered_by word = option_map (λ form. form.1) (find (λ form. bytes_eq word form.0) numbered_words)
 
--- a command about one number, where its word is one and the number is one
+-- a command about one number, if its word names one and the number is valid
 abbrev pub about : Option Numbered → Option ℕ → Asked
 about what None = NoForm
 about None (Some number) = NoForm
 about (Some what) (Some number) = About what number
 
--- the words of the other commands, each with how what is after it is read
+-- the words of the other commands, each with the rule that reads what is after it
 abbrev pub worded_forms : List (List ℕ × (List ℕ → Asked))
 worded_forms = (codes "load", load_in) ∷ (codes "strike", strike_in) ∷ (codes "attach", attach_in) ∷ (codes "filter", filter_in) ∷ []
 
@@ -128,11 +128,11 @@ abbrev pub behind_space : List ℕ → Option (List ℕ)
 behind_space [] = Some []
 behind_space (byte ∷ bytes) = if byte == 32 then Some bytes else None
 
--- the line of a trace after `insert` and one space, byte for byte, where they begin the line; `insert` alone has the empty one
+-- the line of a trace after `insert` and one space, byte for byte, if the line begins with these; a line that is only `insert` has the empty one
 unfoldable pub insert_text : List ℕ → Option (List ℕ)
 insert_text line = if bytes_eq (take 6 line) (codes "insert") then behind_space (drop 6 line) else None
 
--- what a line asks for: nothing where it is empty, of spaces, or begins with `#`; a line over the limit has no form
+-- what a line asks for: nothing if it is empty, has only spaces, or begins with `#`; a line over the limit has no form
 unfoldable pub asked_by : List ℕ → Asked
 asked_by line =
     if nat_lt line_limit (length line) then NoForm

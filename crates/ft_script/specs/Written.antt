@@ -16,7 +16,7 @@ pub record IsStripped (text : List ℕ) : Type 0 where
   pub opens : (byte : ℕ) (rest : List ℕ) → text ≡ byte ∷ rest → is_space byte ≡ false
   pub closes : (front : List ℕ) (byte : ℕ) → text ≡ front ++ byte ∷ [] → is_space byte ≡ false
 
--- numbers are of 32 bits, events have names, and triggers and filters have no spaces at their ends; the line of a trace is any
+-- numbers are of 32 bits, events have names, and triggers and filters have no spaces at their ends; the line of a trace may be any
 abbrev pub IsWritable : Asked → Type 0
 IsWritable Nothing = Unit {0}
 IsWritable (Load number) = IsCommandNumber number
@@ -30,7 +30,7 @@ IsWritable NoForm = Unit {0}
 
 -- ---- how it is written
 
--- a text after a space, where it isn't empty
+-- a text after a space, or nothing if the text is empty
 abbrev pub spaced : List ℕ → List ℕ
 spaced [] = []
 spaced (byte ∷ text) = 32 ∷ byte ∷ text

@@ -1,3 +1,3 @@
--- Words of private functions, which no public clause says.
+-- Definitions for private functions, which no public clause uses.
 pub mod Found
 pub mod Given

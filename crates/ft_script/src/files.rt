@@ -141,7 +141,7 @@ fn zeros(alloc: Global, count: usize) -> Result<Vec<u8>, AllocError>
     vec![in alloc; 0; count]
 }
 
-/// One read, whose bytes are added: how many. 0 is the end.
+/// Reads once, adds the bytes, and gives how many they are. 0 is the end.
 fn read_piece<R: Read>(
     file: &mut R,
     piece: &mut [u8],

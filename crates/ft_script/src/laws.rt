@@ -4,9 +4,9 @@ ghost use Rattle.std.specs.Prelude.{◌≡◌, ◌≤◌, ℕ, List, length};
 ghost use Rattle.ft_script.specs.Script.{Asked, line_limit, asked_by};
 ghost use Rattle.ft_script.specs.Written.{written, IsWritable};
 
-/// A law: a line that writes out what is asked, within the limit of lines, asks for just that. Each
-/// number is one of 32 bits, and a trigger's and a filter's text, which may be empty, has no space
-/// at its ends; an inserted line may be any.
+/// A law: a line that writes out what is asked, within the limit of lines, asks for exactly that.
+/// Each number is one of 32 bits, an event has a name, and a trigger's and a filter's text, which
+/// may be empty, has no space at its ends; an inserted line may be any.
 pub fn written_commands()
     ensures { (what : Asked) → IsWritable what → length (written what) ≤ line_limit
         → asked_by (written what) ≡ what }

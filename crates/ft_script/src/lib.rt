@@ -3,13 +3,15 @@
 //! A run is given the command line, `histdesk [SCRIPT [TRACE]...]`, files that are read whole, and
 //! the lines of a script, with the command that each asks for.
 //!
-//! A word that looks like an option is refused: there is none. A file that isn't there, is no file,
-//! or is past a limit, cannot be read. The only fault besides is that memory runs out. A line of a
-//! script that is empty, of spaces or a comment asks for nothing; one that no command has the form
-//! of, or that is over `LINE_LIMIT`, is a command too, `Command::NoForm`, which is refused.
+//! An argument that looks like an option is refused: there are no options. A file cannot be read if
+//! it isn't there, is no file or is past a limit, or if reading it fails. The only other fault is
+//! that memory runs out. A line of a script that is empty, has only spaces or is a comment asks for
+//! nothing; a line that has the form of no command, or is over `LINE_LIMIT`, is a command too,
+//! `Command::NoForm`, which is refused.
 //!
-//! A command prints the line of an accepted edit, the lines of an answer, or the line of its refusal:
-//! each a function of what the edit, the answer or the refusal gives, for which no board is needed.
+//! A command prints the line of an accepted edit, the lines of an answer, or the line of its
+//! refusal. Each is a function of what the edit, the answer or the refusal gives, and needs no
+//! board.
 //!
 //! ```ignore
 //! let words = read_words(alloc, &["histdesk", "my.script", "a.trace", "b.trace"])?;
@@ -39,20 +41,20 @@
 //!
 //! # Contracts
 //!
-//! - `read_words`: which script and traces the program's words name, and which words are refused
-//!   (`specs/Words.antt`); exact. Lets through: running out of memory at any time.
-//! - `read_whole`, `read_file`: all that a reader had, to its end and within the limit, where the
-//!   reader tells its bytes; over all that opens paths (trait `Paths`), the bytes that are told of
+//! - `read_words`: which script and traces the program's arguments name, and which arguments are
+//!   refused (`specs/Words.antt`); exact. Lets through: running out of memory at any time.
+//! - `read_whole`, `read_file`: all that a reader had, to its end and within the limit, if the
+//!   reader tells its bytes; for all that opens paths (trait `Paths`), the bytes that are told of
 //!   the path (`specs/Files.antt`). Lets through: running out of memory and failing to read at any
-//!   time; of the system's files, of which the kit's contracts tell nothing, any bytes.
+//!   time; any bytes of the system's files, about which the kit's contracts say nothing.
 //! - `read_command`: what a script line asks for, `asked_by` of the line (`specs/Script.antt`,
 //!   `specs/Command.antt`); exact.
 //! - Law `written_commands`: a command that is written out, within the limit of lines, asks for
-//!   just what it names (`specs/Written.antt`): each form with every number of 32 bits, every event
-//!   that has a name, and the text of every trigger and filter without spaces at its ends.
+//!   exactly what it names (`specs/Written.antt`): each form with every number of 32 bits, every
+//!   event that has a name, and the text of every trigger and filter without spaces at its ends.
 //! - Law `writable_commands`: what any line asks for may be written out so. Lets through: which
-//!   other lines ask for it, as those with more spaces or with zeros before numbers. `asked_by`
-//!   alone says that.
+//!   other lines ask for it, such as those with more spaces or with zeros before numbers. Only
+//!   `asked_by` says that.
 //! - `EditValue::add_to`, `done_line`: the text of a number or a place is added after the old
 //!   bytes; the line of an accepted edit is its word, its value and byte 10; exact. Lets through:
 //!   running out of memory at any time.

@@ -140,7 +140,7 @@ fn is_silent(line: &[u8]) -> bool
     is_blank(line) || line.first() == Some(&b'#')
 }
 
-/// Whether a line is of spaces alone.
+/// Whether a line has only spaces.
 fn is_blank(line: &[u8]) -> bool
     ensures { result ≡ list_all is_space line.now }
 {
@@ -177,7 +177,8 @@ fn trim_end(text: &[u8]) -> &[u8]
     rest
 }
 
-/// The first word of a text that no space begins, and what follows it and the spaces after it.
+/// The first word of a text that begins with no space, and what follows the word and the spaces
+/// after it.
 #[tactic(auto, unfolding(crate::specs::Script::first_word, crate::specs::Script::after_word))]
 fn split_word(text: &[u8]) -> (&[u8], &[u8])
     ensures word { result.0.now ≡ first_word text.now }
@@ -253,7 +254,7 @@ fn filter(text: &[u8]) -> Command<'_>
     }
 }
 
-/// After a trigger's id: `if` and a filter's text, or `none` alone.
+/// After a trigger's id: `if` and a filter's text, or only `none`.
 #[tactic(auto, unfolding(crate::specs::Script::refilter_in))]
 fn refilter(id: u32, text: &[u8]) -> Command<'_>
     ensures { asked result ≡ refilter_in id text.now }

@@ -1,4 +1,4 @@
-//! The program's words: `histdesk [SCRIPT [TRACE]...]`.
+//! The program's arguments: `histdesk [SCRIPT [TRACE]...]`.
 
 ghost use Rattle.std.specs.Prelude.{◌≡◌, ◌≢◌, map, IfOk};
 ghost use Rattle.clap.specs.Words.{kind_of};
@@ -15,7 +15,7 @@ use std::convert::AsStr;
 /// The name that stands for standard input, in SCRIPT's place.
 const STANDARD_INPUT: &str = "-";
 
-/// What the program's words name.
+/// What the program's arguments name.
 #[derive(Drop)]
 pub struct Words<'a> {
     /// The script's path, or `None` for standard input.
@@ -24,12 +24,12 @@ pub struct Words<'a> {
     pub traces: Vec<&'a str>,
 }
 
-/// Why the program's words could not be read.
+/// Why the program's arguments could not be read.
 #[derive(Clone, Copy, Debug, PartialEq, Eq)]
 pub enum WordsFault {
     /// Memory ran out.
     Memory,
-    /// A word looks like an option, and there is none.
+    /// An argument looks like an option, and there are no options.
     Refused,
 }
 
@@ -41,10 +41,10 @@ impl From<AllocError> for WordsFault {
     }
 }
 
-/// Reads the program's words, the first of which is its own name.
+/// Reads the program's arguments, the first of which is its own name.
 ///
-/// Before a word `--`, a word that begins with `-` is refused, unless it is `-` itself. No word, or
-/// `-` in SCRIPT's place, is standard input; a trace is always a file.
+/// Before an argument `--`, an argument that begins with `-` is refused, unless it is `-` itself.
+/// No argument, or `-` in SCRIPT's place, is standard input; a trace is always a file.
 pub fn read_words<'a, S: AsStr>(alloc: Global, args: &'a [S]) -> Result<Words<'a>, WordsFault>
     ensures { WordsGive (named_by_words (map S.text args.entry.now)) result }
 {
@@ -60,7 +60,7 @@ pub fn read_words<'a, S: AsStr>(alloc: Global, args: &'a [S]) -> Result<Words<'a
     }
 }
 
-/// Why the parser of the words failed.
+/// Why the parser of the arguments failed.
 fn refusal(error: &Error) -> WordsFault
     ensures memory { kind_of error.now ≡ OutOfMemory → result ≡ Memory }
     ensures refused { kind_of error.now ≢ OutOfMemory → result ≡ Refused }

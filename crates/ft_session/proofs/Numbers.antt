@@ -7,12 +7,12 @@ use Rattle.ft_base.specs.declared.refused.Refused.{Refused}
 use Rattle.ft_answers.specs.After.{after_refilter, after_remove}
 use Rattle.ft_desk_core.specs.Edits.{after_refilter_text, ◌>>=◌}
 
--- what is done with something that is there, where it is accepted
+-- what is done with something that is there, if it is accepted
 found : {H T : Type 0} (o : Option H) (f : H → Result T Refused) (refused : Refused) (done : T) → option_map_or f o (Err refused) ≡ Ok done → (h : H) × (f h ≡ Ok done)
 found None f refused done e = search (e, rules)
 found (Some h) f refused done e = (h, e)
 
--- what is done where nothing stands in the way
+-- what is done if nothing stands in the way
 free : {H T : Type 0} (o : Option H) (f : H → Refused) (given done : T) → option_map_or (λ h. Err (f h)) o (Ok given) ≡ Ok done → given ≡ done
 free None f given done e = search (e, rules)
 free (Some h) f given done e = search (e, rules)

@@ -61,7 +61,7 @@ struck_refused after why other (inr due) = due
 
 -- ---- what is made of a base
 
--- a place, where one is asked for
+-- a place, in case one is asked for
 abbrev pub no_place : PlaceLayout
 no_place = record { stamp = 0; cpu = 0; line = 0 }
 

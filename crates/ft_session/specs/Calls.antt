@@ -67,7 +67,7 @@ EditsInPlace after old before code number new = Edits after old before code numb
 abbrev pub EditsAndReports : Result (Base × Place) Refused → Shown → Shown → Result (Done Edited) Refused → Type 0
 EditsAndReports after old new result = EditGives (λ edited. edited.place) after old new result × Reports old new result
 
--- the same of an edit of one event; what it tells is held from now on, where it is accepted
+-- the same of an edit of one event; what it tells is held from now on, if it is accepted
 unfoldable pub EditsEvent : Result (Base × Place) Refused → Session → ℕ → Session → Type 0
 EditsEvent after old code new =
     MatchOption new.refused
@@ -76,7 +76,7 @@ EditsEvent after old code new =
     × (code ≡ code_of new.refused)
     × (new ≡ record old { desk = new.desk; edited = new.edited; refused = new.refused })
 
--- an insert tells its line as well, where it is accepted
+-- an insert tells its line as well, if it is accepted
 unfoldable pub Inserts : Result (Base × Place) Refused → Session → LineLayout → ℕ → LineLayout → Session → Type 0
 Inserts after old before code at new =
     EditsEvent after old code new
@@ -98,7 +98,7 @@ pub record StrikesEvents (places : List PlaceLayout) (reports : Bool) (old : Ses
 
 -- ---- questions that the tables answer
 
--- a question that totals answer; what was asked for before stays
+-- a question that is answered by totals; what was asked for before stays
 unfoldable pub AnswersTotals : Result Totals Refused → Session → TotalsLayout → ℕ → TotalsLayout → Session → Type 0
 AnswersTotals expected old before code totals new =
     AnswersFrom (λ t. t) (shown_as totals_layout expected) old.desk new.desk (answer_told new.refused totals)
@@ -106,7 +106,7 @@ AnswersTotals expected old before code totals new =
     × IsWritten new.refused before totals
     × (new ≡ record old { desk = new.desk; refused = new.refused })
 
--- a question that a list answers, of which a session holds the last one; the code and the size tell it
+-- a question that is answered by a list, of which a session holds the last one; the code and the size tell it
 abbrev pub IsAnswered : {T : Type 0} → (Session → Vec T Global) → Result (List T) Refused → Session → ℕ → ℕ → ℕ → Session → Type 0
 IsAnswered held expected old before code size new =
     AnswersFrom (λ answer. answer.items) expected old.desk new.desk (answer_told new.refused (held new))
@@ -128,9 +128,9 @@ unfoldable pub AnswersPairs : Result (List Pair) Refused → Session → ℕ →
 AnswersPairs expected old before code size new =
     IsAnswered (λ session. session.pairs) expected old before code size new × (new ≡ record old { desk = new.desk; pairs = new.pairs; refused = new.refused })
 
--- ---- questions that what is held and attached answers: the desk is as before
+-- ---- questions that are answered by what is held and attached: the desk is as before
 
--- one that a list answers
+-- one that is answered by a list
 abbrev pub IsRead : {T : Type 0} → (Session → Vec T Global) → Result (List T) Refused → Session → ℕ → ℕ → ℕ → Session → Type 0
 IsRead held expected old before code size new =
     AnswerIs (λ answer. answer.items) expected (answer_told new.refused (held new))

@@ -23,7 +23,7 @@ abbrev pub answer_told : {T : Type 0} → Option Refused → T → Result T Refu
 answer_told None value = Ok value
 answer_told (Some refused) value = Err refused
 
--- a value that a call writes is written where it is accepted alone
+-- a value that a call writes is written only if the call is accepted
 abbrev pub IsWritten : {T : Type 0} → Option Refused → T → T → Type 0
 IsWritten refused before value = IfSome refused (λ _. value ≡ before)
 

@@ -1,2 +1,2 @@
--- Words of private functions: the report of several edits as one.
+-- Definitions for private functions: the report of several edits as one.
 pub mod JointReports

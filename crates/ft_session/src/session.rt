@@ -40,7 +40,7 @@ pub struct Session {
     pub text: Vec<u8>,
     /// The rows that were last asked for.
     pub rows: Vec<Row>,
-    /// What the readings found that were last asked for.
+    /// What the readings that were last asked for found.
     pub pairs: Vec<Pair>,
     /// The places that were last asked for.
     pub places: Vec<Pos>,
@@ -48,7 +48,7 @@ pub struct Session {
     pub attached: Vec<AttachedTrigger>,
     /// The lines of the text that was last asked for by `lines`.
     pub lines: Vec<TextLine>,
-    /// What the text reports lost that was last asked for by `losses`.
+    /// What the text that was last asked for by `losses` reports lost.
     pub losses: LossesRead,
     /// What the last accepted insert or strike reported, or the strikes of one call together.
     pub edited: Option<Edited>,
@@ -278,7 +278,7 @@ impl Session {
         hold(answer, &mut self.places, count, &mut self.refused)
     }
 
-    /// Asks for the attached triggers: how many they are. Refused as `Desk::attached` is.
+    /// Asks for the attached triggers: how many they are. Refused for memory.
     #[tactic(auto, unfolding(crate::specs::Calls::ReadsTriggers))]
     pub fn triggers(&mut self, count: &mut u64) -> u32
         ensures { ReadsTriggers (Ok (attached_in self.old.desk.base.triggers))

@@ -25,7 +25,7 @@ pub edge_there : FirstIsOut → (sign : Sign) (table : Tabled) (k : List Part) �
 edge_there outside Insert table k is = in_list k (keys_in table) (length (keys_in table) - 1) is
 edge_there outside Retract table k is = outside table k is
 
--- every key but the hit's own and the one at the edge stays
+-- every key stays, except the hit's own and the one at the edge
 pub others_stay : LastGoesOut → FirstComesIn → (change : HitChange) (table : Tabled) (k : List Part) → (k ≡ (change_mark change).key → ⊥) → (edge_for (sign_of change) table ≡ Some k → ⊥)
     → is_in (table_with change table) k ≡ is_in table k
 others_stay comes goes (changes.Insert hit) table k = comes table (record { spot = hit.spot; key = hit.key }) hit.values k

@@ -115,7 +115,7 @@ abbrev pub sources_in : ℕ → Grouped → OpsByKey → List Part → Pos → O
 sources_in id groups ops key pos = find_in id groups ops key (record { pos = pos; trigger = id })
 
 module _ (id : ℕ) (groups : Grouped) (was is : OpsByKey) (key : List Part) (put : (at : At) → ops_of is key at ≡ with_reads (reads_of_run id (run_of groups key)) (ops_of was key) at) where
-  -- where the reads of a key stand, each finds that
+  -- if the reads of a key stand, each finds that
   pub finds_in : (at : At) → IsSource (ops_of is key) at (find_in id groups was key at)
   unfolding find_in
   finds_in at =

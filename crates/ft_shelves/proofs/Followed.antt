@@ -124,7 +124,7 @@ module _ (comes : LastGoesOut) (goes : FirstComesIn) (outside : FirstIsOut) (id 
         ∙ (λ i. switched was (is_in (mid_table i) key) (mid_table i).hits id key (λ x. owns.ops key x i) q)
         ∙ ap (λ b. switched b (is_in after key) after.hits id key (with_own id change b key (ops_of old.ops key)) q) known
 
-    -- where it comes in, it had no save of this saver
+    -- if it comes in, it had no save of this saver
     pub free_before : ((k : List Part) → is_in old.table k ≡ false → (q : At) → q.trigger ≡ id → ops_of old.ops k q ≡ None)
         → (k : List Part) → edge ≡ Some k → side ≡ false → (q : At) → q.trigger ≡ id → ops_of own.ops k q ≡ None
     free_before unsaved k is out q by_id = let at = at_edge k is in rest k at.1 q ∙ unsaved k (at.0 ∙ out) q by_id

@@ -1,4 +1,4 @@
--- What is put key by key, where no key comes twice.
+-- What is put key by key, if no key comes twice.
 use Rattle.std.proofs.Common.{◌≡◌, ◌<◌, ◌≤◌, ◌+◌, ℕ, suc, Bool, true, false, cond, List, [], ◌∷◌, drop, get_or, length, refl, sym, ap, subst, ◌∙◌, arith, Option, inl, inr}
 use Rattle.std.specs.Prelude.{◌||◌, nat_lt}
 use Rattle.std.specs.List.{list_any}
@@ -14,7 +14,7 @@ use Rattle.ft_hist.specs.Hist.{Hist}
 use Rattle.ft_shelves.specs.Joining.{AreGroupsOf}
 use Rattle.ft_shelves.proofs.Decided.{itself, key_decided, untied}
 
--- whether a key is left of some, where the first of them have come
+-- whether a key is left of some, after the first so many of them have come
 abbrev pub is_left : List (List Part) → ℕ → List Part → Bool
 is_left keys n key = list_any (same_key key) (drop n keys)
 
@@ -68,7 +68,7 @@ module _ (hist : Hist) (groups : Grouped) (of : AreGroupsOf hist groups) (keys :
   -- ---- what is put
 
   module _ {A V : Type 0} (base listed : List Part → A → Option V) where
-    -- so it is at first, where other keys have what is listed of them
+    -- so it is at first, if other keys have what is listed of them
     pub put_none : ((key : List Part) (a : A) → is_left keys 0 key ≡ false → base key a ≡ listed key a) → IsPut keys base listed 0 base
     put_none same key a = elim (is_left keys 0 key) as (λ b. is_left keys 0 key ≡ b → base key a ≡ cond b (base key a) (listed key a)) [ true ↦ λ _. refl | false ↦ same key a ] refl
 

@@ -68,7 +68,7 @@ module _ {K X : Type 0} (R : K → K → Ordering) (test : K × X → Bool) wher
     | false ↦ above_filter k es above.1
   ]
 
-  -- entries in order stay so, where some are left out
+  -- entries in order stay so, if some are left out
   pub sorted_filter : (es : List (K × X)) → IsStrictlySortedBy R (keys_of es) → IsStrictlySortedBy R (keys_of (filter test es))
   unfolding IsStrictlySortedBy
   sorted_filter [] sorted = tt
@@ -144,7 +144,7 @@ flat (Some saved) = refl
 abbrev left_reading : ReadBy → List (List Part) → ℕ → Pos → Option (List Part × Traced) → Option Pos
 left_reading read keys n pos act = option_and_then (λ (a : List Part × Traced). cond (is_left keys n a.0) None (what_read (read a.0 pos))) act
 
--- a list has what readings found, but those of keys that are left
+-- a list has what readings found, except those of keys that are left
 abbrev pub AreGathered : (Pos → Option (List Part × Traced)) → ReadBy → List (List Part) → ℕ → List (Pos × Pos) → Type 0
 AreGathered acts read keys n readings = (pos : Pos) → found_last readings pos ≡ left_reading read keys n pos (acts pos)
 

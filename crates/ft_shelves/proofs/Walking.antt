@@ -159,7 +159,7 @@ module _ (hits : Hits) (id : ℕ) (key : List Part) where
       (λ there. ap (λ n. is_till n (traced q.pos)) (sym is) ∙ till_next hits key None (traced q.pos) there)
 
   module _ (hit : Hit) (old mid : OpsByKey) (before : ChangesKey key (with_saves_till (Some hit)) old mid) where
-    -- where a hit of an event of the trace comes next, no save stands yet
+    -- if a hit of an event of the trace comes next, no save stands there yet
     pub unsaved : ((pos : Pos) → ops_of old key (record { pos = pos; trigger = id }) ≡ None) → hit.spot.maker ≡ 0 → ops_of mid key (record { pos = hit.spot.pos; trigger = id }) ≡ None
     unsaved none own =
         let itself : is_lt (spot_cmp (traced hit.spot.pos) hit.spot) ≡ false =

@@ -21,7 +21,7 @@ abbrev pub is_insert : Sign → Bool
 is_insert Insert = true
 is_insert Retract = false
 
--- so many where the change puts in, and none where it takes away
+-- so many if the change puts in, and none if it takes away
 abbrev pub on_insert : Sign → ℕ → ℕ
 on_insert Insert n = n
 on_insert Retract n = 0
@@ -59,7 +59,7 @@ abbrev pub table_with : HitChange → Tabled → Tabled
 table_with (changes.Insert h) table = with_hit table (record { spot = h.spot; key = h.key }) h.values
 table_with (changes.Retract mark) table = without_hit table mark
 
--- what readings found with the change: a hit that comes reads nothing, and what one that goes read goes
+-- what readings found with the change: a hit that comes reads nothing, and if a hit goes, what it read goes too
 abbrev pub readings_after : HitChange → Readings → Readings
 readings_after (changes.Insert h) readings = readings
 readings_after (changes.Retract mark) readings = map.remove readings mark.spot.pos

@@ -7,7 +7,7 @@ pub record TestsNone (old new : Steps) : Type 0 where
   pub evals : new.evals ≡ old.evals
   pub puts : old.puts ≤ new.puts
 
--- no event is tested, and so many things at most are put into maps
+-- no event is tested, and at most so many things are put into maps
 pub record PutsAtMost (most : ℕ) (old new : Steps) : Type 0 where
   pub evals : new.evals ≡ old.evals
   pub puts : old.puts ≤ new.puts

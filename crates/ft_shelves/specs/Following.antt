@@ -19,7 +19,7 @@ use Rattle.ft_shelves.specs.declared.sign.HitChange.{HitChange}
 use Rattle.ft_shelves.specs.declared.sign.HitChange.TheVariants as changes
 use Rattle.ft_shelves.specs.declared.saver.Moved.{Moved}
 
--- the operations on a key's variable with a save at each hit of the key (kernel: histogram.rst, inter-event hist triggers)
+-- the operations on a key's variable with a save at each hit of the key that is an event of the trace (kernel: histogram.rst, inter-event hist triggers)
 abbrev pub with_saves : Hits → ℕ → List Part → Ops → Ops
 with_saves hits id key ops q = if eq_by_cmp nat_cmp q.trigger id && is_some (map.get hits (record { spot = traced q.pos; key = key })) then Some Save else ops q
 
@@ -27,7 +27,7 @@ with_saves hits id key ops q = if eq_by_cmp nat_cmp q.trigger id && is_some (map
 abbrev pub switched : Bool → Bool → Hits → ℕ → List Part → Ops → Ops
 switched was now hits id key ops = if was then (if now then ops else reads_alone ops) else if now then with_saves hits id key ops else ops
 
--- the operations on a key's variable, as a saver's hit comes or goes: where it is one of the key, and the key was in the table, its save does too (kernel: histogram.rst, inter-event hist triggers)
+-- the operations on a key's variable, as a saver's hit comes or goes: if it is one of the key, and the key was in the table, its save does too (kernel: histogram.rst, inter-event hist triggers)
 abbrev pub with_own : ℕ → HitChange → Bool → List Part → Ops → Ops
 with_own id change was key ops = if same_key key (change_mark change).key && was then set_op (record { pos = (change_mark change).spot.pos; trigger = id }) (op_after (sign_of change) Save) ops else ops
 
@@ -40,12 +40,12 @@ abbrev pub IsUnsaved : ℕ → HitChange → Shelved → Type 0
 IsUnsaved id (changes.Insert hit) shelf = PlaceIsFree (changes.Insert hit) shelf.table.hits × (ops_of shelf.ops hit.key (record { pos = hit.spot.pos; trigger = id }) ≡ None)
 IsUnsaved id (changes.Retract mark) shelf = Unit {0}
 
--- a saver's shelf with the change, where each key's operations follow its table
+-- a saver's shelf with the change; each key's operations follow its table
 pub record HitFollows (id : ℕ) (change : HitChange) (old new : Shelved) : Type 0 where
   pub shelf : new ≡ record (with_change change old) { ops = new.ops }
   pub ops : (key : List Part) (q : At) → ops_of new.ops key q ≡ followed old.table new.table id change key (ops_of old.ops key) q
 
--- of all keys, these came in or went out as hits of one key changed, and no others
+-- as hits of one key changed, these keys came in or went out, and no others
 pub record MovesKeys (key : List Part) (moves : Moved) (was now : Members) : Type 0 where
   pub itself : moves.own ≡ differ (was key) (now key)
   pub moved : (k : List Part) → moves.other ≡ Some k → differ (was k) (now k) ≡ true

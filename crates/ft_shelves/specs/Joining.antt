@@ -71,20 +71,20 @@ save_in id groups table key at = if is_in table key && eq_by_cmp nat_cmp at.trig
 abbrev pub HasSaves : ℕ → Grouped → Tabled → OpsByKey → Type 0
 HasSaves id groups table ops = (key : List Part) (at : At) → ops_of ops key at ≡ save_in id groups table key at
 
--- the operations on a shelf of this role are the saves of all groups, if it is a saver's; else they stay
+-- the operations on a shelf of this role are the saves of all groups whose keys are in the table, if it is a saver's; else they stay
 abbrev pub OpsJoin : Role → ℕ → Grouped → Tabled → OpsByKey → OpsByKey → Type 0
 OpsJoin Saves id groups table old new = HasSaves id groups table new
 OpsJoin Plain id groups table old new = new ≡ old
 OpsJoin (Reads saver) id groups table old new = new ≡ old
 
--- at each event of the groups stands a read (kernel: histogram.rst, inter-event hist triggers)
+-- a read stands at each event of the groups, and other operations stay (kernel: histogram.rst, inter-event hist triggers)
 abbrev pub HasReads : ℕ → Grouped → OpsByKey → OpsByKey → Type 0
 HasReads id groups old new =
     (key : List Part) (at : At) → ops_of new key at ≡ (if is_some (event_in groups key at.pos) && eq_by_cmp nat_cmp at.trigger id then Some Read else ops_of old key at)
 
 -- ---- shelves
 
--- the hits of all groups are on a shelf, and a saver's saves, and all else on it stays
+-- the hits of all groups are on a shelf, and so are a saver's saves; all else on it stays
 pub record HasJoined (id : ℕ) (hist : Hist) (groups : Grouped) (old new : Shelved) : Type 0 where
   pub role : new.role ≡ old.role
   pub table : HasGroups hist groups unread old.table new.table

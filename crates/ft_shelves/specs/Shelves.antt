@@ -87,12 +87,12 @@ pub record KeepsForm (old new : Shelved) : Type 0 where
   pub size : new.table.size ≡ old.table.size
   pub made : MadeStay old.table.hits new.table.hits
 
--- a shelf stays, with its role and its size; where there is none, there is none afterwards
+-- a shelf stays, with its role, its size and the hits of made events; if there is none, there is none afterwards
 abbrev pub FormStays : Option Shelved → Option Shelved → Type 0
 FormStays None new = new ≡ None
 FormStays (Some shelf) new = (after : Shelved) × ((new ≡ Some after) × KeepsForm shelf after)
 
--- each trigger keeps its shelf, with its role and its size
+-- each trigger keeps its shelf, with its role, its size and the hits of made events
 abbrev pub FormsStay : Shelves → Shelves → Type 0
 FormsStay old new = (id : ℕ) → FormStays (map.get old id) (map.get new id)
 

@@ -39,8 +39,8 @@ pub struct Joining<'a, 'e> {
     pub groups: &'a Groups<'e>,
 }
 
-/// Puts the hits of all groups of a trigger that reads nothing in a table that has none. Refused for
-/// memory.
+/// Puts the hits of all groups of a trigger that reads nothing into a table that has none. Refused
+/// for memory.
 pub(crate) fn put_groups(
     table: &mut Table,
     joining: &Joining<'_, '_>,
@@ -60,7 +60,7 @@ pub(crate) fn put_groups(
     Ok(())
 }
 
-/// Puts a save at each event of the groups whose keys are in a table, where no operation stands.
+/// Puts a save at each event of the groups whose keys are in a table. There are no operations yet.
 /// Refused for memory.
 pub(crate) fn save_groups(
     pairs: &mut Pairs,
@@ -83,8 +83,8 @@ pub(crate) fn save_groups(
 }
 
 /// Puts the reads of all groups of a reader among operations, and the hits of those that find
-/// something in a table that has none: what they found, as the place of the saving by that of the
-/// reading. Refused for memory.
+/// something into a table that has none. Returns what they found: the place of the saving by that
+/// of the reading. Refused for memory.
 pub(crate) fn read_groups(
     pairs: &mut Pairs,
     table: &mut Table,
@@ -108,8 +108,8 @@ pub(crate) fn read_groups(
     Ok(readings)
 }
 
-/// The hits of a key's events, by what their readings found, if they read: those that found nothing
-/// are none. What was found is added to the readings. Refused for memory.
+/// The hits of a key's events, by what their readings found, if they read: an event whose reading
+/// found nothing is no hit. What was found is added to the readings. Refused for memory.
 fn hits_of(
     joining: &Joining<'_, '_>,
     key: &Key,

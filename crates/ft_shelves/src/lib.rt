@@ -17,9 +17,10 @@
 //!
 //! # Contracts
 //!
-//! Contracts see the parts of a *shelf* (`specs/Shelves.antt`), and say what an edit makes of them. No
-//! edit tests an event (`specs/Counts.antt`). One that answers a `Result` lets through: running out of
-//! memory at any time, and then nothing is said of the shelf; and any number of puts if none is named.
+//! Contracts see the parts of a *shelf* (`specs/Shelves.antt`), and say what an edit makes of them.
+//! No edit tests an event (`specs/Counts.antt`). An edit that returns a `Result` lets through:
+//! running out of memory at any time, and then nothing is said of the shelf; any number of puts, if
+//! its contract names no number.
 #![tactic(auto)]
 
 mod joining;

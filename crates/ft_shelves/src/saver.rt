@@ -28,7 +28,7 @@ pub struct Moved {
 }
 
 /// Changes what a saver counts by one hit: each key's operations follow as it comes into the table,
-/// goes out or stays. Answers which keys moved. Refused for memory.
+/// goes out or stays. Returns which keys moved. Refused for memory.
 pub fn change_saver_hit(
     shelf: &mut Shelf,
     id: u32,
@@ -61,7 +61,7 @@ pub fn change_saver_hit(
     })
 }
 
-/// Changes what a saver counts by one hit, and the hit's own save, where its key was in the table.
+/// Changes what a saver counts by one hit, and the hit's own save, if its key was in the table.
 /// Refused for memory.
 fn change_own(
     shelf: &mut Shelf,

@@ -128,8 +128,8 @@ impl Shelf {
         take(&mut self.readings, &mark.spot.pos);
     }
 
-    /// Puts a hit where none stands, which read nothing, or takes what stands at a mark. Refused for
-    /// memory, which taking needs none of.
+    /// Puts a hit that read nothing where none stands, or takes what stands at a mark. Refused for
+    /// memory; taking needs none.
     pub fn change_hit(&mut self, change: HitChange, work: &mut Work) -> Result<(), AllocError>
         requires { PlaceIsFree change self.old.table.hits }
         ensures ok { OnOk result (self.new ≡ with_change change self.old) }
@@ -145,8 +145,8 @@ impl Shelf {
         }
     }
 
-    /// Puts an operation of a key at a place, where none stands, or takes the one there away. Refused
-    /// for memory, which taking needs none of.
+    /// Puts an operation of a key at a place where none stands, or takes away the one there.
+    /// Refused for memory; taking needs none.
     pub fn change_op(
         &mut self,
         key: Key,
@@ -169,8 +169,9 @@ impl Shelf {
         }
     }
 
-    /// Puts the hits of all groups of a trigger that joins, where it has none, and of a saver a save
-    /// at each event whose key is in its table, where no operation stands. Refused for memory.
+    /// Puts the hits of all groups of a trigger that joins, which has none yet, and for a saver,
+    /// which has no operations yet, a save at each event whose key is in its table. Refused for
+    /// memory.
     pub fn join(&mut self, joining: &Joining<'_, '_>, work: &mut Work) -> Result<(), AllocError>
         requires empty { self.old.table.hits ≡ map.empty }
         requires free { self.old.role ≡ Saves → (key : List Part) (at : At)
@@ -187,9 +188,9 @@ impl Shelf {
         }
     }
 
-    /// Lets the operations of a key of this saver follow its table, if there is a key, which was in the
-    /// table or not: as it comes in, each hit of it saves, and as it goes out, none does. The key, if it
-    /// came in or went out. Refused for memory.
+    /// Lets the operations of a key of this saver follow its table, if a key is given; `was_in`
+    /// says whether it was in the table. If it comes in, its hits of the trace's events save; if it
+    /// goes out, none does. Returns the key, if it came in or went out. Refused for memory.
     pub(crate) fn follow_table(
         &mut self,
         id: u32,
@@ -221,7 +222,7 @@ impl Shelf {
         Ok(key)
     }
 
-    /// Puts a save at each hit of a key, where none stands yet. Refused for memory.
+    /// Puts a save at each hit of a key that is an event of the trace. Refused for memory.
     fn put_saves(&mut self, id: u32, key: Key, work: &mut Work) -> Result<(), AllocError>
         requires { (pos : Pos)
             → ops_of self.old.ops key (record { pos = pos; trigger = id }) ≡ None }
@@ -237,9 +238,9 @@ impl Shelf {
         Ok(())
     }
 
-    /// Puts the reads of all groups of a reader that joins among the operations on what it reads, and
-    /// the hits of those that find something on this shelf of it, which has none, with what they
-    /// found. Refused for memory.
+    /// Puts the reads of all groups of a reader that joins among the operations on what it reads.
+    /// The hits of those that find something are put on this shelf, the reader's own, which has
+    /// none, with what they found. Refused for memory.
     pub fn join_reading(
         &mut self,
         ops: &mut Pairs,
@@ -257,7 +258,7 @@ impl Shelf {
         Ok(())
     }
 
-    /// Has these operations from now on: those that it had.
+    /// Has these operations from now on, and returns those that it had.
     pub fn swap_ops(&mut self, ops: Pairs) -> Pairs
         ensures had { result ≡ self.old.ops }
         ensures has { self.new ≡ record self.old { ops = ops } }
@@ -267,7 +268,7 @@ impl Shelf {
 }
 
 /// Puts a save of a saver at a hit of a key, where none stands yet, if the hit is of an event of
-/// the trace: no other saves. Refused for memory.
+/// the trace; no other hit saves. Refused for memory.
 fn put_save(
     pairs: &mut Pairs,
     id: u32,

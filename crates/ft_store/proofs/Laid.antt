@@ -53,7 +53,7 @@ laid_join : (begins : ℕ) (events : List Packed) (mid : ℕ) (more : List Packe
 laid_join begins [] mid more ends laid behind = subst (λ (n : ℕ). AreLaid n more ends) (sym laid) behind
 laid_join begins (first ∷ events) mid more ends laid behind = (laid.0, laid.1, laid_join (begins + width first) events mid more ends laid.2 behind)
 
--- all events come back as before where bytes are added to the text
+-- all events come back as before if bytes are added to the text
 all_stay : (text more : List ℕ) (begins : ℕ) (events : List Packed) (ends : ℕ) → AreLaid begins events ends → ends ≤ length text
     → all_unpacked (text ++ more) events ≡ all_unpacked text events
 all_stay text more begins [] ends laid within = refl
@@ -80,7 +80,7 @@ unpacked_more text names events event laid at long =
 
 -- ---- a store more
 
--- events stay laid where all their names stand further on
+-- events stay laid if all their names stand further on
 laid_moved : (by begins : ℕ) (events : List Packed) (ends : ℕ) → AreLaid begins events ends → AreLaid (by + begins) (map (moved by) events) (by + ends)
 laid_moved by begins [] ends laid = ap (λ (n : ℕ). by + n) laid
 laid_moved by begins (event ∷ events) ends laid = (
@@ -89,7 +89,7 @@ laid_moved by begins (event ∷ events) ends laid = (
   subst (λ (n : ℕ). AreLaid n (map (moved by) events) (by + ends)) (omega arith) (laid_moved by (begins + width event) events ends laid.2),
 )
 
--- events come back as before where their names stand after a text
+-- events come back as before if their names stand after a text
 all_moved : (text more : List ℕ) (events : List Packed) → all_unpacked (text ++ more) (map (moved (length text)) events) ≡ all_unpacked more events
 all_moved text more [] = refl
 all_moved text more (event ∷ events) =

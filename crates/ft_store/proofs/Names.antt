@@ -68,13 +68,13 @@ event_back begins event =
 pub added_names : (text names : List ℕ) (event : Packed) → event.begins ≡ length text → width event ≡ length names → own_names (text ++ names) event ≡ names
 added_names text names event at long = ap (take (width event)) (drop_at text names event.begins (sym at)) ∙ take_all (width event) names (omega (arith, long))
 
--- names within a text stay where bytes are added to it
+-- names within a text stay the same if bytes are added to it
 pub names_stay : (text more : List ℕ) (event : Packed) → event.begins + width event ≤ length text → own_names (text ++ more) event ≡ own_names text event
 names_stay text more event within =
     ap (take (width event)) (drop-append-le event.begins text more (omega arith))
     ∙ take-append-le (width event) (drop event.begins text) more (omega (arith, length-drop event.begins text))
 
--- a name comes after a text where the first 16 bytes of what it begins are added, and cut after it
+-- a name comes after a text, if the first 16 bytes of the text that it begins are added and then cut off after the name
 pub added_in_one_step : (text begun chunk name : List ℕ) (begins len : ℕ) → begins ≡ length text → chunk ≡ take 16 begun → len ≤ 16 → len ≡ length name
     → take (length name) begun ≡ name → take (begins + len) (text ++ chunk) ≡ text ++ name
 added_in_one_step text begun chunk name begins len at is short long told =

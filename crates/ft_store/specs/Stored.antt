@@ -45,11 +45,11 @@ bare_body bodies.Other = bodies.Other
 abbrev pub bare : Traced → Traced
 bare event = record event { task = []; body = bare_body event.body }
 
--- the number that a value is, where it is no text
+-- the number that a value is, if it is not a text
 abbrev pub as_number : Value → Option ℤ
 as_number (values.Num number) = Some number
 as_number (values.Text text) = None
 
--- the number that a field of an event holds, where the event has the field and it holds no text
+-- the number that a field of an event holds, if the event has the field and it holds no text
 abbrev pub field_number : Traced → Field → Option ℤ
 field_number event field = option_and_then as_number (field_of event field)

@@ -1,2 +1,2 @@
--- Words of private functions: how a store packs its events.
+-- Definitions for private functions: how a store packs its events.
 pub mod Packing

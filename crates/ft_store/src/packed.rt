@@ -250,7 +250,7 @@ impl PackedBody {
         }
     }
 
-    /// What it says of a task that is woken, where it is a wake event.
+    /// What it says of a task that is woken, if it is a wake event.
     #[inline(always)]
     fn wake(&self) -> Option<PackedWake>
         ensures { (names : List ℕ) → option_map (unpacked_wake names) result
@@ -264,7 +264,7 @@ impl PackedBody {
         }
     }
 
-    /// What it says of the two tasks, where it is a switch.
+    /// What it says of the two tasks, if it is a switch.
     #[inline(always)]
     fn turn(&self) -> Option<PackedTurn>
         ensures { (names : List ℕ) → option_map (unpacked_turn names) result
@@ -277,7 +277,7 @@ impl PackedBody {
         }
     }
 
-    /// What it says of a latency, where a trigger made it.
+    /// What it says of a latency, if a trigger made it.
     #[inline(always)]
     fn matched(&self) -> Option<Matched>
         ensures { (names : List ℕ) → result ≡ matched_of (body_of names self.now) }
@@ -289,7 +289,7 @@ impl PackedBody {
         }
     }
 
-    /// The PID of the task that it says is woken, where it is a wake event or a made one.
+    /// The PID of the task that it says is woken, if it is a wake event or a made one.
     #[inline(always)]
     fn pid(&self) -> Option<i64>
         ensures { (names : List ℕ) → result
@@ -304,7 +304,7 @@ impl PackedBody {
         }
     }
 
-    /// The priority of the task that it says is woken, where it is a wake event or a made one.
+    /// The priority of the task that it says is woken, if it is a wake event or a made one.
     #[inline(always)]
     fn prio(&self) -> Option<i64>
         ensures { (names : List ℕ) → result
@@ -449,7 +449,7 @@ impl Packed {
     }
 }
 
-/// Adds bytes to a text, however many.
+/// Adds any number of bytes to a text.
 #[cold]
 #[inline(never)]
 fn push_bytes(text: &mut Vec<u8>, bytes: &[u8]) -> Result<(), AllocError>
@@ -460,7 +460,7 @@ fn push_bytes(text: &mut Vec<u8>, bytes: &[u8]) -> Result<(), AllocError>
 }
 
 /// Adds a name to a text. A name of at most 16 bytes is copied in one step, with what follows it in
-/// its own text, where there is room for 16.
+/// its own text, if there is room for 16.
 #[inline(always)]
 fn push_name(text: &mut Vec<u8>, name: &NameRef<'_>) -> Result<(), AllocError>
     ensures ok { OnOk result (text.new.items ≡ text.old.items ++ name_bytes name.now) }

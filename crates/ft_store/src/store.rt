@@ -142,8 +142,8 @@ impl Store {
         self.events.capacity().saturating_sub(self.events.len())
     }
 
-    /// Adds an event after the others. Refused for memory, or where their names take 4 GiB, and
-    /// then all is as it was.
+    /// Adds an event after the others. Refused for memory, or if the names of the others take 4
+    /// GiB: then all is as it was.
     pub fn push(&mut self, event: &Event) -> Result<(), AllocError>
         ensures ok { OnOk result (self.new ≡ self.old ++ event.now ∷ []) }
         ensures err { OnErr result (self.new ≡ self.old) }
@@ -151,8 +151,8 @@ impl Store {
         self.push_ref(&event.borrowed())
     }
 
-    /// Adds an event whose names are borrowed after the others. Refused for memory, or where their
-    /// names take 4 GiB, and then all is as it was.
+    /// Adds an event, whose names are borrowed, after the others. Refused for memory, or if the
+    /// names of the others take 4 GiB: then all is as it was.
     pub fn push_ref(&mut self, event: &EventRef<'_>) -> Result<(), AllocError>
         ensures ok { OnOk result (self.new ≡ self.old ++ event_told event.now ∷ []) }
         ensures err { OnErr result (self.new ≡ self.old) }
@@ -166,7 +166,7 @@ impl Store {
     }
 
     /// Adds an event of another store after the others, without unpacking it. Refused for memory,
-    /// or where their names take 4 GiB, and then all is as it was.
+    /// or if the names of the others take 4 GiB: then all is as it was.
     pub fn push_from(&mut self, stored: &Stored<'_>) -> Result<(), AllocError>
         ensures ok { OnOk result (self.new ≡ self.old ++ held stored.now ∷ []) }
         ensures err { OnErr result (self.new ≡ self.old) }
@@ -178,8 +178,8 @@ impl Store {
         }
     }
 
-    /// Adds a packed event with its names after the others. Refused for memory, or where their
-    /// names take 4 GiB, and then all is as it was.
+    /// Adds a packed event with its names after the others. Refused for memory, or if the names of
+    /// the others take 4 GiB: then all is as it was.
     fn push_behind(&mut self, packed: &Packed, names: &[u8]) -> Result<(), AllocError>
         requires sound { IsSoundPacked packed.now }
         requires long { length names.now ≡ width packed.now }
@@ -193,8 +193,8 @@ impl Store {
         Ok(())
     }
 
-    /// Adds events after the others. An empty store takes them over. Refused for memory, and then
-    /// all is as it was.
+    /// Adds events after the others. An empty store takes them over. Refused for memory: then all
+    /// is as it was.
     pub fn append(&mut self, events: Store) -> Result<(), AllocError>
         ensures ok { OnOk result (self.new ≡ self.old ++ events) }
         ensures err { OnErr result (self.new ≡ self.old) }
@@ -219,7 +219,7 @@ impl Store {
         Ok(())
     }
 
-    /// Takes the events after the first so many away.
+    /// Takes away all events after the first `len`.
     pub fn truncate(&mut self, len: usize)
         ensures { self.new ≡ take len self.old }
     {
@@ -233,7 +233,7 @@ impl Store {
         }
     }
 
-    /// Takes all events away.
+    /// Takes away all events.
     pub fn clear(&mut self)
         ensures { self.new ≡ [] }
     {
@@ -241,7 +241,7 @@ impl Store {
         self.events.clear();
     }
 
-    /// The event at a place, the blank one after the last.
+    /// The event at a place, or the blank event past the last one.
     pub fn get(&self, place: usize) -> Event
         ensures { result ≡ stored_at self.now place }
     {
@@ -251,7 +251,8 @@ impl Store {
         }
     }
 
-    /// The event at a place without its names, the blank one after the last. No name is read.
+    /// The event at a place without its names, or the blank event past the last one. No name is
+    /// read.
     pub fn bare(&self, place: usize) -> Event
         ensures { result ≡ bare (stored_at self.now place) }
     {

@@ -67,8 +67,8 @@ impl<'a> Stored<'a> {
         self.store.stamps_fit();
     }
 
-    /// The number that a field of it holds, or `None` where it has no such field or the field holds
-    /// a text. No event is made of it, and no name is read.
+    /// The number that a field of it holds, or `None` if it has no such field or the field holds a
+    /// text. The event is not unpacked for it, and no name is read.
     pub fn number(&self, field: Field) -> Option<i64>
         ensures { result ≡ field_number (held self.now) field }
     {

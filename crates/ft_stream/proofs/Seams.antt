@@ -21,7 +21,7 @@ use Rattle.ft_stream.specs.Telling.{ends_wait, waits_of, HasTold, HoldsBack}
 use Rattle.ft_stream.specs.declared.apart.Part.{Part}
 use Rattle.ft_stream.specs.declared.phase.Phase.TheVariants as phases
 
--- ---- whether a dispatch ends a wait is not told by where its places lie
+-- ---- whether a dispatch ends a wait does not depend on its places
 
 abbrev since_of : Option Pos → Option Pos → Option Left → Since
 since_of woken created left = record { woken = woken; created = created; left = left }

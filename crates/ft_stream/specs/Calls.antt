@@ -25,7 +25,7 @@ use Rattle.ft_stream.specs.declared.stream.Stream.{Stream}
 abbrev pub IsIdle : Stream → Type 0
 IsIdle new = (new.phase ≡ Idle) × (new.waits.items ≡ []) × (new.refused ≡ None)
 
--- a call is refused for this: the stream is as before, but for the refusal that it holds
+-- a call is refused for this: the stream is as before, except for the refusal that it holds
 abbrev pub Refuses : StreamFault → Stream → ℕ → Stream → Type 0
 Refuses why old code new = (code ≡ fault_code why) × (new ≡ record old { refused = Some why })
 
@@ -89,14 +89,14 @@ FinishesOn old read_before before code read count new =
     × MatchOption new.refused (IsSomeAnd (finished_at new.phase) (λ finished. read ≡ read_layout finished)) (λ _. read ≡ read_before)
     × (new ≡ record old { phase = new.phase; waits = new.waits; refused = new.refused })
 
--- the end of a text, by whether a stream runs whose text is no part
+-- the end of a text, by whether a stream runs whose text is not a part
 unfoldable pub Finishes : Stream → ReadLayout → ℕ → ℕ → ReadLayout → ℕ → Stream → Type 0
 Finishes old read_before before code read count new =
     MatchOption (no_whole_at old.phase)
     (FinishesOn old read_before before code read count new)
     (λ why. Refuses why old code new × (read ≡ read_before) × (count ≡ before))
 
--- a part is joined behind the text that a stream has read: the waits that this tells are there, and no stream is where the part was. If it is refused, both streams are as before, but for the refusal that the first one holds; or memory ran out
+-- a part is joined behind the text that a stream has read: the waits that this tells are there, and no stream is left where the part was. If it is refused, both streams are as before, except for the refusal that the first one holds; or memory ran out
 unfoldable pub Joins : Stream → Stream → ℕ → ℕ → ℕ → Stream → Stream → Type 0
 Joins old part before code count new part_now =
     MatchOption new.refused
@@ -114,14 +114,14 @@ TellsLast old stamp_before has_before code stamp has new =
     ((code ≡ 0) × (stamp ≡ unwrap_or (last_at old.phase) 0) × (has ≡ is_some (last_at old.phase)) × (new ≡ record old { refused = None }))
     (λ why. Refuses why old code new × (stamp ≡ stamp_before) × (has ≡ has_before))
 
--- the waits of held events are there now, and where the stream stands stays; it is refused only for memory, and then the waits stay too
+-- the waits of held events are there now, and the stream stands where it stood; it is refused only for memory, and then the waits stay too
 unfoldable pub Holds : Lanes → Stream → ℕ → ℕ → ℕ → Stream → Type 0
 Holds lanes old before code count new =
     MatchOption new.refused
     ((code ≡ 0) × (new.waits.items ≡ waits_of (dispatches_held lanes)) × (count ≡ length new.waits.items) × (new ≡ record old { waits = new.waits; refused = None }))
     (λ why. (why ≡ Text Memory) × Refuses why old code new × (count ≡ before))
 
--- how sure waits are is written by the holes of a text that has ended
+-- it is written how sure waits are, by the holes of a text that has ended
 unfoldable pub DoubtsWaits : List WaitLayout → Stream → ℕ → List WaitLayout → Stream → Type 0
 DoubtsWaits before old code waits new =
     MatchOption (unfinished_at old.phase)

@@ -37,7 +37,7 @@ with_text_detail layout (texts.BadLine bad) = record layout { line = bad.line; f
 with_text_detail layout texts.TooLong = layout
 with_text_detail layout (texts.Backwards line) = record layout { line = line }
 
--- the number of why a part is not joined; of memory a text's refusal tells
+-- the number of why a part is not joined; a lack of memory is reported as a text's refusal
 abbrev pub join_number : JoinFault → ℕ
 join_number joins.Failed = 1
 join_number joins.Unended = 2

@@ -56,7 +56,7 @@ IsNotJoined (phases.Finished finished) here why = why ≡ faults.NoStream
 abbrev pub waits_behind : List ℕ → List Dispatch → List Dispatch
 waits_behind counts waits = list_map (dispatch_behind (place_behind counts)) waits
 
--- the two texts were read: the last microsecond before the seam adds these dispatches, `late`, and the part has those `behind`, all as one stream would tell them. The waits that are told now are those of `late`, and after them those of each task's first dispatch behind. The waits that the part told before are those of the others, but for their places. Of each sort there are as many among both as the whole text has beside the waits of the text before
+-- the two texts were read: the last microsecond before the seam adds these dispatches, `late`, and the part has those `behind`, all as one stream would tell them. The waits that are told now are those of `late`, and after them those of each task's first dispatch behind. The waits that the part told before are those of the others, except for their places. Of each sort there are as many among both as the whole text has beside the waits of the text before
 pub record IsJoined (choice : Choice) (text own : List ℕ) (told apart : List Dispatch) (counts : List ℕ) (new : Phase) (waits : List Dispatch) : Type 0 where
   pub late : List Dispatch
   pub behind : List Dispatch

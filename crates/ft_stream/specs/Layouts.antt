@@ -35,11 +35,11 @@ cause_number causes.Woken = 1
 cause_number causes.Created = 2
 cause_number causes.Preempted = 3
 
--- the number of a beginning's cause, and 0 of none
+-- the number of a beginning's cause; 0 if there is none
 abbrev pub cause_of : Option Began → ℕ
 cause_of began = option_map_or (λ b. cause_number b.cause) began 0
 
--- the place of a beginning, and zeros of none
+-- the place of a beginning; zeros if there is none
 abbrev pub place_of : Option Began → PlaceLayout
 place_of began = option_map_or (λ b. place_layout b.place) began no_place
 
@@ -69,7 +69,7 @@ wait_from dispatch began besides = record {
   name = name_layout dispatch.name;
 }
 
--- the wait that a dispatch ends; how sure it is, is not told yet
+-- the wait that a dispatch ends, before anything says how sure it is
 abbrev pub wait_layout : Dispatch → WaitLayout
 wait_layout dispatch = wait_from dispatch (waiting_since dispatch.since) (awoken_in (waiting_since dispatch.since) (awoken dispatch.since))
 
@@ -116,11 +116,11 @@ cpu_sum_layout sum = record {
   zero = 0;
 }
 
--- what a text without the kernel's header tells of the buffers
+-- what a text without the kernel's header reports of the buffers
 abbrev pub no_buffers : Buffers
 no_buffers = record { held = 0; written = 0 }
 
--- what was read: of the first line that can't be read its number and its fault, and the place of the first event that shows a missing switch
+-- what was read, with the number and the fault of the first line that can't be read, and the place of the first event that shows a missing switch
 abbrev pub read_layout : Finished → ReadLayout
 read_layout finished = record {
   lines = finished.read.lines.lines;

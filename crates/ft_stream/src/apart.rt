@@ -36,7 +36,8 @@ impl Part {
         })
     }
 
-    /// Takes a piece: the dispatches that it told are there then, but for the first one of each task.
+    /// Takes a piece: the dispatches that it told are there then, except for the first one of each
+    /// task.
     fn take(&mut self, piece: &[u8], told: &mut Vec<Dispatch>) -> Result<(), WaitsFault>
         ensures takes { OnOk result (TakesApart piece.now self.old self.new told.new.items) }
         ensures fails { IfErr result (λ fault. FailsApart piece.now self.old fault) }

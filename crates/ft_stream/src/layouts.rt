@@ -57,7 +57,7 @@ pub struct HoleLayout {
     pub has_after: bool,
     /// Whether there is an event after it.
     pub has_before: bool,
-    /// Whether a line tells how many events were lost.
+    /// Whether a line reports how many events were lost.
     pub has_count: bool,
 }
 
@@ -99,7 +99,7 @@ pub struct ReadLayout {
     pub bad_fault: u32,
     /// Whether the text has an event.
     pub has_first: bool,
-    /// Whether the text has the kernel's header, which tells what the buffers held.
+    /// Whether the text has the kernel's header, which reports what the buffers held.
     pub has_written: bool,
 }
 
@@ -201,7 +201,7 @@ fn awoken_in(began: Option<Began>, awoken: Option<Began>) -> Option<Began>
 }
 
 impl WaitLayout {
-    /// The wait that a dispatch ends; how sure it is, is not told yet.
+    /// The wait that a dispatch ends, before anything says how sure it is.
     pub fn of(dispatch: &Dispatch) -> WaitLayout
         ensures { result ≡ wait_layout dispatch.now }
     {
@@ -242,7 +242,7 @@ fn bad_fault_of(first: Option<BadLine>) -> u32
     }
 }
 
-/// What the kernel's header tells; zeros if the text has none.
+/// What the kernel's header reports; zeros if the text has none.
 fn buffers_or_none(buffers: Option<Buffers>) -> Buffers
     ensures { result ≡ unwrap_or buffers no_buffers }
 {

@@ -11,7 +11,8 @@ use ft_filter::{FilterFault, parse};
 use ft_waits::{Waits, WaitsFault, Without, WithoutFault};
 use std::alloc::Global;
 
-/// Reads which events are left out: of a name those that pass the filter of a text, or all if it is empty.
+/// Reads which events of a name are left out: those that pass the filter of a text, or all if that
+/// is empty.
 fn read_without(alloc: Global, name: Name, filter: &[u8]) -> Result<Without, StreamFault>
     ensures ok { IfOk result (λ without. without_for name filter.now ≡ Ok without) }
     ensures err { IfErr result (λ why. (why ≡ StreamFault.Text WaitsFault.Memory) ⊎ IsUnread name filter.now why) }

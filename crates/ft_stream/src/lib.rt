@@ -35,20 +35,22 @@
 //!
 //! # Contracts
 //!
-//! - `Stream::new`, `begin`, `feed`, `finish`, `end`: the waits that the calls leave, one after the other,
-//!   are those of the whole text, however it is cut: `waits_in` (`specs/Telling.antt`), over what
-//!   `ft_waits` says of a text. Each call is told whole by a relation (`specs/Calls.antt`): the code, what
-//!   is written, and what the stream is afterwards. A text is refused as `ft_waits` refuses it; from then on
-//!   each call answers the same, until a stream begins or ends. Lets through: running out of memory at any
-//!   time; how early a wait is told; memory that is kept of waits that were told.
+//! - `Stream::new`, `begin`, `feed`, `finish`, `end`: the waits that the calls leave, one after the
+//!   other, are those of the whole text, however it is cut: `waits_in` (`specs/Telling.antt`), over
+//!   what `ft_waits` says of a text. A relation describes each call completely
+//!   (`specs/Calls.antt`): the code, what is written, and what the stream is afterwards. A text is
+//!   refused as `ft_waits` refuses it; from then on each call answers the same, until a stream
+//!   begins or ends. Lets through: running out of memory at any time; how early a wait is told;
+//!   memory that is kept of waits that were told.
 //! - `Stream::begin_part`, `join`: a text may be read in parts, each by a stream of its own, and joined in
 //!   order. What is told of the parts and by the joins is together what one stream tells of the whole text:
 //!   `IsJoined` (`specs/Joining.antt`), over `JoinsTexts` of `ft_waits`. A part that doesn't fit is refused,
 //!   with both streams as before. Lets through: running out of memory at any time, after which the text has
 //!   failed and the part is gone.
-//! - `Stream::leave_out`: events of a name are left out, by the text of a filter (`specs/Leaving.antt`); in
-//!   which order its refusals are tested is let through. `Stream::last`, `Phase::events`: the last stamp and
-//!   the counts so far, of lines that have ended.
+//! - `Stream::leave_out`: events of a name are left out, by the text of a filter
+//!   (`specs/Leaving.antt`). Lets through: in which order its refusals are tested.
+//! - `Stream::last`, `Phase::events`: the last stamp and the counts so far, of lines that have
+//!   ended.
 //! - `Stream::sum_up`: the text is summed up by task and by CPU as well (`specs/Summing.antt`), as
 //!   `ft_summary` sums up; `Phase::tasks`, `cpus`: these sums, once the text has ended.
 //! - `Stream::doubt`: how sure waits of a text that has ended are, by its holes; exact, `with_doubt`

@@ -25,8 +25,8 @@ pub struct Stream {
     pub alloc: Global,
     /// Where it stands.
     pub phase: Phase,
-    /// The waits that the last feed or finish told, or those of held events, whichever was asked for last:
-    /// the dispatches that end them.
+    /// The waits that the last feed, finish or join told, or those of held events, whichever was
+    /// asked for last: the dispatches that end them.
     pub waits: Vec<Dispatch>,
     /// Why the last call with a code was refused, if it was.
     pub refused: Option<StreamFault>,
@@ -63,7 +63,7 @@ impl Stream {
         }
     }
 
-    /// Stands there now, and no wait is told: the code 0.
+    /// Puts the stream there, with no wait told: the code 0.
     fn stand_at(&mut self, phase: Phase) -> u32
         ensures code { result ≡ 0 }
         ensures none { self.new.waits.items ≡ [] }
@@ -101,15 +101,15 @@ impl Stream {
         }
     }
 
-    /// Joins a part behind the text that was read so far, as if its text had been fed here: how many waits
-    /// this told. They are those of the last microsecond before the seam, and after them those of the
-    /// dispatches that the part held back, at their places in the whole text. Of the waits that the part
-    /// told before only the places move: by how many events each CPU had here before the join. No stream
-    /// is where the part was then.
+    /// Joins a part behind the text that was read so far, as if its text had been fed here: how
+    /// many waits this told. They are those of the last microsecond before the seam, and after them
+    /// those of the dispatches that the part held back, at their places in the whole text. Of the
+    /// waits that the part told before only the places move: by how many events each CPU had here
+    /// before the join. No stream is left where the part was.
     ///
-    /// Refused if no whole text runs here or no part there, if one of the two is refused, and for the reasons
-    /// of `Waits::meets`: both are as before then. If memory runs out the stream has failed, and
-    /// the part is gone.
+    /// Refused if no whole text runs here or no part there, if one of the two is refused, and for
+    /// the reasons of `Waits::meets`: both are as before then. If memory runs out, the stream has
+    /// failed and the part is gone.
     #[tactic(auto, unfolding(crate::specs::Calls::Joins))]
     pub fn join(&mut self, part: &mut Stream, count: &mut u64) -> u32
         ensures { Joins self.old part.old count.old result count.new self.new part.new }

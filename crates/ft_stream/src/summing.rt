@@ -40,7 +40,7 @@ pub struct TaskSumLayout {
 pub struct CpuSumLayout {
     /// How long it ran task 0, in microseconds.
     pub idle: u64,
-    /// How much of that time some task waited for a processor.
+    /// For how much of that time some task waited for a processor.
     pub idle_with_waiters: u64,
     /// The most of that in one run of task 0.
     pub longest: u64,

@@ -97,7 +97,7 @@ touch-is true c h = refl
 touch-is false true h = h refl
 touch-is false false h = refl
 
--- of a task that isn't task 0, an act changes something just where it has its PID
+-- an act changes something for a task that isn't task 0 if and only if it has the task's PID
 pub touched-is : (pid q : ℤ) → is_counted q ≡ true → touched pid q ≡ int_eq pid q
 touched-is pid q counted = touch-is (is_counted pid) (int_eq pid q) (λ e. ap is_counted (same-pid pid q e) ∙ counted)
 

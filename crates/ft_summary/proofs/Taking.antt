@@ -123,7 +123,7 @@ tells-turned old mid new act before tells goes waiting tasks cpus switches =
       cpus_ascend = switches.cpus_ascend;
     }
 
--- a change where the others are the same
+-- a change, if each task stood the same before
 pub changed-same : (f g : ℤ → Option Standing) (change : Change) (pid q : ℤ) → ((p : ℤ) → f p ≡ g p) → changed_in f change pid q ≡ changed_in g change pid q
 changed-same f g change pid q same =
     ap (λ o. cond (is_counted pid && int_eq pid q) (Some (changed change (unwrap_or o (none pid)))) (f q)) (same pid)

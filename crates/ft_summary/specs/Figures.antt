@@ -15,7 +15,7 @@ use Rattle.ft_summary.specs.declared.sums.TaskSum.{TaskSum}
 
 -- ---- by task
 
--- how long a run of a task lasted that an act ends
+-- how long a run of a task lasted, if an act ends it
 abbrev pub ran_for : ℤ → Pos → Act → List (Pos × Act) → ℕ
 ran_for pid place (Waking woken) before = 0
 ran_for pid place (Creation created) before = 0
@@ -50,7 +50,7 @@ unfoldable pub last_cpu : ℤ → List (Pos × Act) → Option ℕ
 last_cpu pid [] = None
 last_cpu pid (entry ∷ before) = if runs pid entry.1 || leaves pid entry.1 then Some entry.0.cpu else last_cpu pid before
 
--- whether a CPU is another one than that which is known
+-- whether a CPU is another one than the known one
 abbrev pub is_another : Option ℕ → ℕ → Bool
 is_another None cpu = false
 is_another (Some known) cpu = not (nat_eq known cpu)
@@ -71,7 +71,7 @@ task_sum pid acts = record {
   moved = capped (total (moved_to pid) acts);
 }
 
--- each task that acts name, but task 0, ascending
+-- each task that acts name, except task 0, ascending
 unfoldable pub task_sums : List (Pos × Act) → List TaskSum
 task_sums acts = finite.values (finite.from_entries {R = int_cmp} (list_map (λ pid. (pid, task_sum pid acts)) (tasks_of acts)))
 
@@ -81,7 +81,7 @@ task_sums acts = finite.values (finite.from_entries {R = int_cmp} (list_map (λ 
 abbrev pub ends_idling : ℕ → Pos → Handover → Bool
 ends_idling cpu place turn = nat_eq place.cpu cpu && int_eq turn.prev_pid (pos 0)
 
--- how long a run of task 0 on a CPU lasted that an act ends
+-- how long a run of task 0 on a CPU lasted, if an act ends it
 abbrev pub idled_for : ℕ → Pos → Act → List (Pos × Act) → ℕ
 idled_for cpu place (Waking woken) before = 0
 idled_for cpu place (Creation created) before = 0
@@ -92,13 +92,13 @@ abbrev pub waited_in_run : Option Pos → Pos → List (Pos × Act) → ℕ
 waited_in_run None place before = 0
 waited_in_run (Some begun) place before = waited_since_switch place.cpu before + waited_up_to place before
 
--- the same of a run of task 0 on a CPU that an act ends
+-- the same of a run of task 0 on a CPU, if an act ends it
 abbrev pub idled_with_waiters : ℕ → Pos → Act → List (Pos × Act) → ℕ
 idled_with_waiters cpu place (Waking woken) before = 0
 idled_with_waiters cpu place (Creation created) before = 0
 idled_with_waiters cpu place (Switch turn) before = if ends_idling cpu place turn then waited_in_run (run_begun turn.prev_pid (last_switch place.cpu before)) place before else 0
 
--- where a run of task 0 on a CPU began that an act ends
+-- where a run of task 0 on a CPU began, if an act ends it
 abbrev pub idle_begun : ℕ → Pos → Act → List (Pos × Act) → Option Pos
 idle_begun cpu place (Waking woken) before = None
 idle_begun cpu place (Creation created) before = None

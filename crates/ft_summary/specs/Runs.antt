@@ -15,7 +15,7 @@ capped n = min n (2 ^ 64 - 1)
 abbrev pub one_if : Bool → ℕ
 one_if b = if b then 1 else 0
 
--- the sum of what each act adds, which its place and the acts before it tell
+-- the sum of what each act adds, by its place and the acts before it
 unfoldable pub total : (Pos → Act → List (Pos × Act) → ℕ) → List (Pos × Act) → ℕ
 total part [] = 0
 total part (entry ∷ before) = total part before + part entry.0 entry.1 before
@@ -48,6 +48,6 @@ abbrev pub lasted : Option Pos → Pos → ℕ
 lasted None place = 0
 lasted (Some begun) place = place.stamp - begun.stamp
 
--- how long the run lasted that a switch at a place ends
+-- the length of the run that a switch at a place ends
 abbrev pub run_ended : Pos → Handover → List (Pos × Act) → ℕ
 run_ended place turn before = lasted (run_begun turn.prev_pid (last_switch place.cpu before)) place

@@ -19,7 +19,7 @@ names (Switch turn) = turn.next_pid ∷ turn.prev_pid ∷ []
 abbrev pub is_counted : ℤ → Bool
 is_counted pid = not (int_eq pid (pos 0))
 
--- the tasks that acts name, but task 0; one may stand there more than once
+-- the tasks that acts name, except task 0; one may stand there more than once
 unfoldable pub tasks_of : List (Pos × Act) → List ℤ
 tasks_of [] = []
 tasks_of (entry ∷ before) = filter is_counted (names entry.1) ++ tasks_of before

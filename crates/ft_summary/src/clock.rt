@@ -1,4 +1,4 @@
-//! The time so far, and how much of it some task waited.
+//! The time so far, and for how much of it some task waited.
 
 ghost use Rattle.std.specs.Prelude.{◌≡◌, ◌+◌, ◌-◌, ◌≤◌, max, if◌then◌else◌};
 

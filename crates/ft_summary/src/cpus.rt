@@ -24,7 +24,7 @@ pub(crate) struct Cpu {
 }
 
 impl Cpu {
-    /// How long the run lasted that a switch ends, in microseconds; 0 if a switch is missing.
+    /// The length of the run that a switch ends, in microseconds; 0 if a switch is missing.
     #[inline(always)]
     fn run_of(&self, turn: &PlacedAct) -> u64
         ensures { result ≡ run_of (Some self.now) turn.now.prev_pid turn.now.place.stamp }
@@ -101,7 +101,7 @@ fn add(cpus: &mut BTreeMap<u16, Cpu>, turn: &PlacedAct, waited: u64) -> Result<(
     Ok(())
 }
 
-/// Takes a switch: answers how long the run lasted that it ends, 0 if a switch is missing.
+/// Takes a switch: answers the length of the run that it ends, or 0 if a switch is missing.
 #[inline(always)]
 pub(crate) fn turn(
     cpus: &mut BTreeMap<u16, Cpu>,

@@ -12,12 +12,13 @@
 //!
 //! # Contracts
 //!
-//! - `Summary::new`, `take_all`, `finish`: after acts that came in any number of calls, `finish` gives what
-//!   all these acts sum up to: `task_sums`, by PID, and `cpu_sums`, by CPU (`specs/Figures.antt`). A run of a
-//!   task is known if the CPU's last switch went to the task that the next one leaves (`specs/Runs.antt`).
-//!   A task waits if it can run and doesn't (`specs/Waiting.antt`). Sums stop at the greatest `u64`.
-//!   Each act takes a look-up of each task that it names, and one of its CPU. Fails only for memory. Lets
-//!   through: running out of memory at any time; what is summed up then.
+//! - `Summary::new`, `take_all`, `finish`: after acts that came in any number of calls, `finish`
+//!   gives what all these acts sum up to: `task_sums`, by PID, and `cpu_sums`, by CPU
+//!   (`specs/Figures.antt`). A run of a task is known if the CPU's last switch went to the task
+//!   that the next one leaves (`specs/Runs.antt`). A task waits if it can run and doesn't
+//!   (`specs/Waiting.antt`). Sums stop at the greatest `u64`. Each act takes one look-up for each
+//!   task that it names, and one for its CPU. Fails only for memory. Lets through: running out of
+//!   memory at any time; what is summed up then.
 #![tactic(auto)]
 
 mod clock;

@@ -26,7 +26,7 @@ pub(crate) struct Standing {
 pub(crate) struct Leaving {
     /// The switch's CPU.
     pub(crate) cpu: u16,
-    /// How long the run lasted that it ends, in microseconds; 0 if that isn't known.
+    /// The length of the run that it ends, in microseconds; 0 if that isn't known.
     pub(crate) ran_for: u64,
     /// How the task is then.
     pub(crate) state: PrevState,
@@ -82,7 +82,7 @@ fn is_blocked(state: PrevState) -> bool
     }
 }
 
-/// Whether a CPU is another one than that which is known.
+/// Whether a CPU is another one than the known one.
 #[inline(always)]
 fn is_another(known: Option<u16>, cpu: u16) -> bool
     ensures { result ≡ is_another known cpu }
@@ -102,7 +102,7 @@ fn add_if(figure: u64, counts: bool) -> u64
 }
 
 impl Standing {
-    /// How a task stands that no act named.
+    /// How a task stands if no act named it.
     #[inline(always)]
     pub(crate) fn none(pid: i32) -> Standing
         ensures { result ≡ none pid }

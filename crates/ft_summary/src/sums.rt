@@ -27,7 +27,7 @@ pub struct CpuSum {
     /// How long it ran task 0, in microseconds: the runs whose switches to task 0 and from it are both
     /// known.
     pub idle: u64,
-    /// How much of that time some task waited for a processor, in microseconds.
+    /// For how much of that time some task waited for a processor, in microseconds.
     pub idle_with_waiters: u64,
     /// The most of `idle_with_waiters` that one such run has, in microseconds.
     pub longest: u64,
@@ -38,7 +38,7 @@ pub struct CpuSum {
 /// What acts sum up to.
 #[derive(Drop)]
 pub struct Sums {
-    /// Each task that acts name, but task 0, ascending by PID.
+    /// Each task that acts name, except task 0, ascending by PID.
     pub tasks: Vec<TaskSum>,
     /// Each CPU on which a switch stands, ascending by number.
     pub cpus: Vec<CpuSum>,

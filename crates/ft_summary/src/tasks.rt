@@ -40,7 +40,7 @@ fn count_after(waiting: usize, waited: bool, waits: bool) -> usize
     }
 }
 
-/// Changes how a task stands that no act named before.
+/// Changes how a task that no act named before stands.
 #[inline(never)]
 fn add(
     tasks: &mut BTreeMap<Task, Standing>,

@@ -5,7 +5,7 @@ use Rattle.std.specs.Result.{is_ok}
 use Rattle.ft_text.specs.Fronts.{IsFront}
 use Rattle.ft_text.proofs.Fronts.{front_of_more}
 
--- where the last text isn't added, the old one is still in front
+-- if the last text isn't added, the old one is still in front
 pub still_front : {X E : Type 0} (r : Result X E) (old mid new a b : List ℕ) → mid ≡ old ++ a → new ≡ (if is_ok r then mid ++ b else mid) → OnErr r (IsFront old new)
 still_front (Ok x) old mid new a b added is = tt
 still_front (Err e) old mid new a b added is = front_of_more old new a (is ∙ added)

@@ -115,7 +115,7 @@ module _ {X Y : Type 0} (f : X → Y) where
   map-push [] x = refl
   map-push (y ∷ ys) x = ap (λ (ys : List Y). f y ∷ ys) (map-push ys x)
 
-  -- there is room where the list is short
+  -- there is room exactly if the list is short
   pub room : (xs : List X) (s : ℕ) → nat_lt (length (list_map f (take s xs))) s ≡ nat_lt (length xs) s
   room xs s = elim (cases_lt (length xs) s) [
     | inl lt ↦ ap (λ n. nat_lt n s) (ap length (ap (list_map f) (take-few xs s (omega arith))) ∙ length-mapped xs)
@@ -131,7 +131,7 @@ module _ {X Y : Type 0} (f : X → Y) where
       ap (list_map f) (take-few (xs ++ x ∷ []) s (omega (arith, length-append xs (x ∷ [])))) ∙ map-push xs x ∙ ap (λ (ys : List X). list_map f ys ++ f x ∷ []) (sym (take-few xs s (omega arith)))
   take-push xs x s false is = ap (list_map f) (take-front xs x s (ltb-false (length xs) s is))
 
--- a key with hits is in where there is room
+-- a key with hits is in if there is room
 pub known : (tabled : Tabled) (m : Mark) (f : Spot) → first_place tabled.hits m.key ≡ Some f → is_in tabled m.key ≡ false → nat_lt (length (keys_in tabled)) tabled.size ≡ true → ⊥
 known tabled m f is out few =
     let at : Mark = mark f m.key in

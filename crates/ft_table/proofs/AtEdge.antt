@@ -82,7 +82,7 @@ no_edge {size = size} {ks = ks} {inside = inside} is = by (length ks) refl where
         by_first (k ∷ ks) f = f k
 
 module _ (size : ℕ) (ks : List Mark) (inside : ℕ) (m : Mark) (i : ℕ) (at : IsRank mark_cmp ks m i) where
-  -- where the table has room, a mark comes to be the edge, or the edge stays
+  -- if the table has room, a mark comes to be the edge, or the edge stays
   pub comes_first : IsEdged size ks inside None → inside < size → IsEdged size (insert ks i m) (inside + 1) (Some m)
   comes_first is room =
       let none : length ks ≡ 0 = no_edge is in
@@ -134,7 +134,7 @@ module _ (size : ℕ) (ks : List Mark) (inside : ℕ) (m : Mark) (i : ℕ) (at :
           last = sym (ap (slice_get (insert ks i m)) place ∙ slice_get-get_or (insert ks i m) i m (omega (arith, long, w)) ∙ ap Some (get_or-insert_at ks i m m w));
         }
 
-    -- where it is full, one that comes before the edge moves that out, and one that comes after it doesn't
+    -- if it is full, one that comes before the edge moves that out, and one that comes after it doesn't
     pub moves_edge : Rises mark_cmp ks → Rises mark_cmp (insert ks i m) → (inside < size → ⊥) → mark_cmp m edge ≡ Less
         → (last : Option Mark) → ((r : ℕ) → IsRank mark_cmp (insert ks i m) edge r → last ≡ place_before (insert ks i m) r) → IsEdged size (insert ks i m) inside last
     moves_edge rises rise full less last found =

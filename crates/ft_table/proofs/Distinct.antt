@@ -87,7 +87,7 @@ hit_of_first : (first : Bool) (o : Option (List ℤ)) → is_some (cond first o 
 hit_of_first true o some = some
 hit_of_first false o some = absurd cc
 
--- where the keys of all hits fit, those of the rows do
+-- if the keys of all hits fit, those of the rows do
 pub rows_fit : ((sort : List SortItem) (rows : List Counted) → IsPermutation rows (in_order sort rows)) → (table : Tabled) (hist : Hist) (sort : List SortItem) → AllFit table hist → All (λ (row : Counted). KeyFits hist.keys row.key) (rows_of table sort)
 rows_fit permutes table hist sort fit =
     All-permutation (λ (row : Counted). KeyFits hist.keys row.key) (list_map (counted_row table.hits) (keys_in table)) (rows_of table sort) (permutes sort (list_map (counted_row table.hits) (keys_in table)))

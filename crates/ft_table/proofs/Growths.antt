@@ -57,7 +57,7 @@ module _ (table : Tabled) (m : Mark) (v : List ℤ) (last : ComesLast table m) w
   in_grows_at key true same = ap (is_in (with_hit table m v)) (same_is key m.key same) ∙ in-here ∙ ap (is_counted table) (sym (same_is key m.key same))
   in_grows_at key false apart = in-beside key apart
 
-  -- a key that is not in, where there is room, has no hits yet
+  -- if there is room, a key that is not in has no hits yet
   pub new_key : is_in table m.key ≡ false → has_room table ≡ true → first_place table.hits m.key ≡ None
   new_key out room = by (first_place table.hits m.key) refl where
     by : (o : Option Spot) → first_place table.hits m.key ≡ o → o ≡ None
@@ -129,7 +129,7 @@ module _ (table : Tabled) (m : Mark) (v : List ℤ) (last : ComesLast table m) w
   abbrev after : Tabled
   after = with_hit table m v
 
-  -- where the hit is counted
+  -- if the hit is counted
   among : (c : is_counted table m.key ≡ true) (q : Mark) (tie same : Bool) → eq_by_cmp mark_cmp q m ≡ tie → same_key q.key m.key ≡ same
       → cond (is_in after q.key) (cond tie (Some v) (map.get table.hits q)) None ≡ cond tie (Some v) (cond (is_in table q.key) (map.get table.hits q) None)
   among c q true same tie is =
@@ -146,7 +146,7 @@ module _ (table : Tabled) (m : Mark) (v : List ℤ) (last : ComesLast table m) w
         old false false inside room c = cc
   among c q false false tie is = ap (λ b. cond b (map.get table.hits q) None) (in-beside table m v last q.key is)
 
-  -- where it isn't
+  -- if it isn't
   apart : (c : is_counted table m.key ≡ false) (q : Mark) (tie same : Bool) → eq_by_cmp mark_cmp q m ≡ tie → same_key q.key m.key ≡ same → tie ≡ (eq_by_cmp spot_cmp q.spot m.spot && same)
       → cond (is_in after q.key) (cond tie (Some v) (map.get table.hits q)) None ≡ cond (is_in table q.key) (map.get table.hits q) None
   apart c q tie true at is both =

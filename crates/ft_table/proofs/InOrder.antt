@@ -1,4 +1,4 @@
--- Rows in order are the rows, in order, and where their keys differ no other list is.
+-- Rows in order are the same rows, in order, and if their keys differ, there is no other such list.
 use Rattle.std.proofs.Common.{◌≡◌, Bool, true, false, List, [], ◌∷◌, refl, sym, ap, ◌∙◌}
 use Rattle.std.specs.Prelude.{if◌then◌else◌, map, IsPermutation, IsSorted}
 use Rattle.std.specs.List.{IsDistinct, AllByRecursion}
@@ -88,7 +88,7 @@ rises : (sort : List SortItem) (rows others : List Counted) → HasDistinctKeys 
 rises sort rows others distinct moved up =
     strictly (row_cmp_total sort) others up (IsDistinct-IsPermutation (eq_by_cmp (row_cmp sort)) (eq_by_cmp_equiv (row_cmp_total sort)).symm rows others moved (apart sort rows distinct))
 
--- where keys differ, what has the rows in order is the rows in order
+-- if keys differ, a list that has the same rows and is in order is the rows in order
 pub in_order-alone : (sort : List SortItem) (rows others : List Counted) → HasDistinctKeys rows → IsPermutation rows others → IsSorted (row_cmp sort) others → others ≡ in_order sort rows
 in_order-alone sort rows others distinct moved up =
     let ours = in_order-permutes sort rows in

@@ -22,7 +22,7 @@ next-part (item ∷ items) [] at d part inside is = absurd cc
 next-part (item ∷ items) (first ∷ parts) zero d part inside is = ap (λ p. codes ", " ++ named_part item p ++ more_parts items parts) (same_Some first part is)
 next-part (item ∷ items) (first ∷ parts) (suc at) d part inside is = next-part items parts at d part (omega (arith, inside)) is
 
--- where a part is added, the text with those still to come stays
+-- when a part is added, the text with those still to come stays the same
 pub part-added : (items : List KeyItem) (parts : List Part) (at : ℕ) (d : KeyItem) (part : Part) (now one two whole : List ℕ) → at < length items → slice_get parts at ≡ Some part
     → one ≡ now ++ codes ", " → two ≡ one ++ named_part (get_or items at d) part → now ++ more_parts (drop at items) (drop at parts) ≡ whole
     → two ++ more_parts (drop (at + 1) items) (drop (at + 1) parts) ≡ whole

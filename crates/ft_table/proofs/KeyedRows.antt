@@ -32,7 +32,7 @@ among_marks P key (m ∷ ms) (suc s) each is = by (same_key key m.key) refl (λ 
   by true same among _ = subst P (sym (same_is key m.key same)) (each zero m (omega arith))
   by false other among rest = among rest
 
--- where the keys of all hits fit, a key in the table does
+-- if the keys of all hits fit, a key in the table does
 in_fits : (table : Tabled) (hist : Hist) (key : List Part) → AllFit table hist → is_in table key ≡ true → KeyFits hist.keys key
 in_fits table hist key fit =
     among_marks (KeyFits hist.keys) key (order_of table.hits) table.size (λ j d lt.

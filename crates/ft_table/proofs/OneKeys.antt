@@ -28,12 +28,12 @@ use Rattle.ft_table.proofs.Changes.{insert-beside, remove-beside, order-before, 
 use Rattle.ft_table.proofs.Appends.{first_place-insert, first-empty}
 use Rattle.ft_table.proofs.Windows.{key_of, stands, NotAt, order-at, rank-le, last-taken, first-dropped, stands-came, stands-before, stands-went, stands-behind}
 
--- a key that is not the given one has another name
+-- a key that is not the given one differs from it by the test too
 not_it : (o : Option (List Part)) (q k : List Part) → (o ≡ Some q → ⊥) → o ≡ Some k → (b : Bool) → same_key q k ≡ b → b ≡ false
 not_it o q k ne is true same = absurd (ne (is ∙ ap (λ (x : List Part). Some x) (sym (same_is q k same))))
 not_it o q k ne is false same = refl
 
--- where the second place is less, the first mark isn't
+-- if the second place is less, the first mark isn't
 not_before : (a b : Spot) (key : List Part) → spot_cmp b a ≡ Less → mark_cmp (mark a key) (mark b key) ≡ Less → ⊥
 not_before a b key less h =
     let turned : spot_cmp a b ≡ Greater = spot_cmp_total.antisymm a b ∙ ap ordering_reverse less in

@@ -88,7 +88,7 @@ module _ {K : Type 0} {R : K → K → Ordering} (total : IsTotalOrder R) where
       ap (λ o. length (cond (is_lt o) (x ∷ filter (λ q. is_lt (R q k)) xs) (filter (λ q. is_lt (R q k)) xs))) (at.below zero k (omega arith))
       ∙ ap suc (below-rank xs k i (next_rank total x xs k i at))
 
--- a key is in where fewer first hits than the size stand before its own
+-- a key with hits is in exactly if fewer first hits than the size stand before its own
 in-rank : (table : Tabled) (key : List Part) (f : Spot) → first_place table.hits key ≡ Some f → is_in table key ≡ nat_lt (map.len (earlier_firsts table.hits (mark f key))) table.size
 in-rank table key f is =
     let hits : Hits = table.hits in

@@ -66,7 +66,7 @@ module _ {X : Type 0} {R : X → X → Ordering} (o : IsTotalOrder R) where
   sorted-tail : (x : X) (xs : List X) → IsSorted R (x ∷ xs) → IsSorted R xs
   sorted-tail x xs up k d low inside = subst (λ y. is_lt (R y (get_or xs k d)) ≡ false) (next-place x xs k d) (up (suc k) d (omega arith) (omega arith))
 
-  -- where no two tie, elements in order are strictly in order
+  -- if no two tie, elements in order are strictly in order
   pub strictly : (xs : List X) → IsSorted R xs → IsDistinct (eq_by_cmp R) xs → IsStrictlySortedBy R xs
   unfolding IsStrictlySortedBy
   strictly [] up other = tt
@@ -109,7 +109,7 @@ module _ {X : Type 0} {R : X → X → Ordering} (o : IsTotalOrder R) where
 
   -- ---- one more element
 
-  -- the element is no less than the first of the list, where there is one
+  -- the element is no less than the first of the list, if there is one
   abbrev pub Bounds : X → List X → Type 0
   Bounds x [] = ⊤
   Bounds x (y ∷ ys) = is_lt (R y x) ≡ false

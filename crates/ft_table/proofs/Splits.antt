@@ -11,7 +11,7 @@ module _ (count : List Part → ℕ) where
   abbrev weight : Mark → ℕ
   weight m = count m.key
 
-  -- what goes in among those in the table, where it is full: the last goes out
+  -- what goes in among those in the table, if it is full: the last goes out
   pub enters-full : {size : ℕ} {order : List Mark} {hits dropped : ℕ} (rank : ℕ) (m d : Mark) → rank < size → size ≤ length order → IsSplit count size order hits dropped → hits + dropped + count m.key < 2 ^ 64
       → (count (get_or order (size - 1) d).key ≤ hits + count m.key) × IsSplit count size (insert order rank m) (hits + count m.key - count (get_or order (size - 1) d).key) (dropped + count (get_or order (size - 1) d).key)
   enters-full {size = zero} {order = order} {hits = hits} {dropped = dropped} rank m d lt full h few = absurd (omega arith)
@@ -28,7 +28,7 @@ module _ (count : List Part → ℕ) where
       let old_fits = h.fits in
       (omega arith, record { behind = omega arith; whole = omega arith; fits = omega arith }))
 
-  -- where it has room
+  -- if it has room
   pub enters-room : {size : ℕ} {order : List Mark} {hits dropped : ℕ} (rank : ℕ) (m : Mark) → rank < size → length order < size → IsSplit count size order hits dropped → hits + dropped + count m.key < 2 ^ 64
       → IsSplit count size (insert order rank m) (hits + count m.key) dropped
   enters-room {size = zero} {order = order} {hits = hits} {dropped = dropped} rank m lt room h few = absurd (omega arith)
@@ -53,7 +53,7 @@ module _ (count : List Part → ℕ) where
       let old_fits = h.fits in
       record { behind = omega arith; whole = omega arith; fits = omega arith }
 
-  -- what goes out of those in the table, where others are outside: the first of them comes in
+  -- what goes out of those in the table, if others are outside: the first of them comes in
   pub leaves-full : {size : ℕ} {order : List Mark} {hits dropped : ℕ} (rank : ℕ) (c d : Mark) → rank < size → size < length order → IsSplit count size order hits dropped
       → (count (get_or order size d).key ≤ dropped) × (count (get_or order rank c).key ≤ hits + count (get_or order size d).key) × IsSplit count size (remove order rank) (hits + count (get_or order size d).key - count (get_or order rank c).key) (dropped - count (get_or order size d).key)
   leaves-full {size = size} {order = order} {hits = hits} {dropped = dropped} rank c d lt full h =
@@ -67,7 +67,7 @@ module _ (count : List Part → ℕ) where
       let old_fits = h.fits in
       (omega arith, omega arith, record { behind = omega arith; whole = omega arith; fits = omega arith })
 
-  -- where none are
+  -- if none are
   pub leaves-room : {size : ℕ} {order : List Mark} {hits dropped : ℕ} (rank : ℕ) (c : Mark) → rank < size → rank < length order → length order ≤ size → IsSplit count size order hits dropped
       → (count (get_or order rank c).key ≤ hits) × IsSplit count size (remove order rank) (hits - count (get_or order rank c).key) dropped
   leaves-room {size = size} {order = order} {hits = hits} {dropped = dropped} rank c lt within room h =

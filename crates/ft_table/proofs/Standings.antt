@@ -103,7 +103,7 @@ module _ (hits : Hits) (m : Mark) (size : ℕ) where
   left = order-leave hits m rank_with.0 rank_with.1
 
   module _ (count : List Part → ℕ) {h d : ℕ} where
-    -- a key that came in to a full table: the last one went out, and is the first outside
+    -- a key that came into a full table: the last one went out, and is the first outside
     pub came_full : (b : Bool) (o : Mark) → IsInside b → b ≡ true → slice_get order size ≡ Some o → IsSplit count size rest h d → h + d + count m.key < 2 ^ 64
         → (count o.key ≤ h + count m.key) × IsSplit count size order (h + count m.key - count o.key) (d + count o.key)
     came_full b o is in_it next split few =
@@ -120,7 +120,7 @@ module _ (hits : Hits) (m : Mark) (size : ℕ) where
           resplit count f.1 refl at.1.1 (ap (λ n. h + count m.key - n) (sym weigh)) (ap (λ n. d + n) (sym weigh)),
         )
 
-    -- one that came in to a table with room
+    -- one that came into a table with room
     pub came_room : (b : Bool) → IsInside b → b ≡ true → slice_get order size ≡ None → IsSplit count size rest h d → h + d + count m.key < 2 ^ 64 → IsSplit count size order (h + count m.key) d
     came_room b is in_it next split few =
         let at = rank_without in
@@ -152,7 +152,7 @@ module _ (hits : Hits) (m : Mark) (size : ℕ) where
           resplit count f.2 refl left (λ i. h + sym back i - sym here i) (ap (λ n. d - n) (sym back)),
         )
 
-    -- one that goes from a table outside which there are none
+    -- one that goes from a table, if none are outside
     pub went_room : (b : Bool) → IsInside b → b ≡ true → slice_get order size ≡ None → IsSplit count size order h d → (count m.key ≤ h) × IsSplit count size rest (h - count m.key) d
     went_room b is in_it next split =
         let lt = inside_lt b is in_it rank_with.0 rank_with.1 in

@@ -86,7 +86,7 @@ module _ (hits : Hits) (key q : List Part) (apart : same_key q key ≡ false) (t
   abbrev pub rest : List Mark
   rest = order_without hits key
 
-  -- whether q is in a table for t + 1 keys, where the key has its first hit at o
+  -- whether q is in a table for t + 1 keys, if the key has its first hit at o
   abbrev pub stands : Option Spot → Bool
   stands o = among key_of (same_key q) (suc t) (order_before hits key o)
 

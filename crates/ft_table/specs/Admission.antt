@@ -32,7 +32,7 @@ pub record IsAmongFirst (table : Tabled) (key : List Part) : Type 0 where
   pub first : IsFirstHit table.hits (record { spot = spot; key = key })
   pub few : map.len (earlier_firsts table.hits (record { spot = spot; key = key })) < table.size
 
--- a key is in the table just where it has a hit, and fewer than `size` other keys have an earlier first hit (kernel: histogram.rst, `size`)
+-- a key is in the table exactly if it has a hit and fewer than `size` other keys have an earlier first hit (kernel: histogram.rst, `size`)
 abbrev pub InByRank : Type 0
 InByRank = (table : Tabled) (key : List Part) → IsTrue (is_in table key) ↔ IsAmongFirst table key
 

@@ -13,10 +13,10 @@ use Rattle.ft_table.specs.Tabled.{Tabled}
 abbrev pub NoneFits : Type 0
 NoneFits = (size : ℕ) (hist : Hist) → AllFit (record { hits = map.empty; size = size }) hist
 
--- all keys fit as before, where a hit comes whose key fits
+-- if all keys fit, they still do when a hit comes whose key fits
 abbrev pub OneMoreFits : Type 0
 OneMoreFits = (table : Tabled) (hist : Hist) (m : Mark) (v : List ℤ) → AllFit table hist → KeyFits hist.keys m.key → AllFit (with_hit table m v) hist
 
--- all keys fit as before, where a hit goes
+-- if all keys fit, they still do when a hit goes
 abbrev pub OneLessFits : Type 0
 OneLessFits = (table : Tabled) (hist : Hist) (m : Mark) → AllFit table hist → AllFit (without_hit table m) hist

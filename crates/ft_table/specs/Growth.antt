@@ -39,27 +39,27 @@ added j sums v = (slice_index_or sums j 0 + unsigned_at j v) % 2 ^ 64
 abbrev pub grown : List ℤ → Counted → Counted
 grown v row = record row { hitcount = row.hitcount + 1; sums = added 0 row.sums v ∷ added 1 row.sums v ∷ added 2 row.sums v ∷ [] }
 
--- it comes after all others, where none stands
+-- a hit comes after all others, at a mark where none stands
 pub record ComesLast (table : Tabled) (m : Mark) : Type 0 where
   pub absent : map.get table.hits m ≡ None
   pub last : AreBefore table.hits m
 
--- its key comes last into the table where it isn't in and there is room; no key goes out (kernel: histogram.rst, `size`)
+-- its key comes last into the table if it isn't in and there is room; no key goes out (kernel: histogram.rst, `size`)
 abbrev pub KeysGrow : Type 0
 KeysGrow = (table : Tabled) (m : Mark) (v : List ℤ) → ComesLast table m
     → keys_in (with_hit table m v) ≡ (if is_in table m.key then keys_in table else if has_room table then keys_in table ++ m.key ∷ [] else keys_in table)
 
--- its key is in just where the hit is counted, and all others as before (kernel: histogram.rst, `size`)
+-- its key is in exactly if the hit is counted, and all other keys are in or out as before (kernel: histogram.rst, `size`)
 abbrev pub InGrows : Type 0
 InGrows = (table : Tabled) (m : Mark) (v : List ℤ) (key : List Part) → ComesLast table m
     → is_in (with_hit table m v) key ≡ (if same_key key m.key then is_counted table key else is_in table key)
 
--- its key's row has one more hit where it is counted, and all other rows are as before (kernel: histogram.rst, `hitcount` and `values`)
+-- its key's row has one more hit if it is counted, and all other rows are as before (kernel: histogram.rst, `hitcount` and `values`)
 abbrev pub RowsGrow : Type 0
 RowsGrow = (table : Tabled) (m : Mark) (v : List ℤ) (key : List Part) → ComesLast table m
     → row_at (with_hit table m v) key ≡ (if same_key key m.key && is_counted table key then Some (grown v (unwrap_or (row_at table key) (empty_row key))) else row_at table key)
 
--- it is one hit more where it is counted, and else dropped (kernel: histogram.rst, `Hits`, `Entries` and `Dropped`)
+-- the totals have one hit more if it is counted, and one entry more if its key comes in; else one hit more is dropped (kernel: histogram.rst, `Hits`, `Entries` and `Dropped`)
 abbrev pub TotalsGrow : Type 0
 TotalsGrow = (table : Tabled) (m : Mark) (v : List ℤ) → ComesLast table m
     → totals_of (with_hit table m v) ≡ (let t = totals_of table in

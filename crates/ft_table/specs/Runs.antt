@@ -12,7 +12,7 @@ use Rattle.ft_table.specs.Tabled.{Tabled}
 abbrev pub HasNone : List Part → Hits → Type 0
 HasNone key hits = (spot : Spot) → map.get hits (record { spot = spot; key = key }) ≡ None
 
--- a key has the hits of a list, of those at one spot the first, and all other hits and the size stay
+-- a key has the hits of a list, of several at one spot the first, and all other hits and the size stay
 pub record TakesRun (key : List Part) (run : List (Spot × List ℤ)) (old new : Tabled) : Type 0 where
   pub size : new.size ≡ old.size
   pub here : (spot : Spot) → map.get new.hits (record { spot = spot; key = key }) ≡ map.get (map.from_entries {R = spot_cmp} run) spot

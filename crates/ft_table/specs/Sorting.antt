@@ -20,12 +20,12 @@ by_cmp (sorts.Value n) = on (λ row. slice_get row.sums n) (option_cmp nat_cmp)
 abbrev pub item_cmp : SortItem → Counted → Counted → Ordering
 item_cmp item a b = if item.descending then by_cmp item.what b a else by_cmp item.what a b
 
--- rows by the sort items from the left, and those that these leave equal by key (kernel: histogram.rst, `sort`; equal rows by key is our own choice)
+-- rows by the sort items from the left, and by key if these leave them equal (kernel: histogram.rst, `sort`; equal rows by key is our own choice)
 abbrev pub row_cmp : List SortItem → Counted → Counted → Ordering
 row_cmp [] = on (λ row. row.key) key_cmp
 row_cmp (item ∷ items) = then_cmp (item_cmp item) (row_cmp items)
 
--- no two rows have one key, as in a table (kernel: histogram.rst, the `hist` file)
+-- no two rows have the same key, as in a table (kernel: histogram.rst, the `hist` file)
 abbrev pub HasDistinctKeys : List Counted → Type 0
 HasDistinctKeys rows = IsDistinct (eq_by_cmp key_cmp) (map (λ row. row.key) rows)
 

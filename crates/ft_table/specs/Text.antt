@@ -65,7 +65,7 @@ listed_parts items parts = []
 abbrev pub key_text : List KeyItem → List Part → List ℕ
 key_text items parts = codes "{ " ++ listed_parts items parts ++ codes " }"
 
--- how a value is called: by its field, or by the variable's own name, without a `$`
+-- what a value is called: its field's name, or the variable's own name, without a `$`
 abbrev pub title : Option Var → Item → List ℕ
 title variable (items.Num field) = field_text field
 title variable items.Own = variable_name variable
@@ -93,7 +93,7 @@ totals_text totals =
     codes "\nTotals:\n    Hits: " ++ decimal totals.hits ++ codes "\n    Entries: " ++ decimal totals.entries
     ++ codes "\n    Dropped: " ++ decimal totals.dropped ++ codes "\n"
 
--- the rows of a trigger's table, one a line, and the totals (kernel: histogram.rst, the `hist` file)
+-- the rows of a trigger's table, one per line, and the totals (kernel: histogram.rst, the `hist` file)
 unfoldable pub rows_text : Hist → List Counted → Totals → List ℕ
 rows_text hist rows totals = flat_map (row_line hist) rows ++ totals_text totals
 

@@ -24,7 +24,7 @@ impl Table {
         table_rows(alloc, trigger, &rows)
     }
 
-    /// The text of a key's row as `write` adds it, except for the line break; none where the key isn't
+    /// The text of a key's row as `write` adds it, except for the line break; none if the key isn't
     /// in the table. Refused for memory.
     pub fn text_of_row(
         &self,

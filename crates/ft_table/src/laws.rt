@@ -13,7 +13,7 @@ ghost use Rattle.ft_table.specs.Sorting.{row_cmp, in_order, HasDistinctKeys};
 
 pub use ft_hits::laws::{one_mark_order, one_spot_order};
 
-/// A law: a key is in a table just where it has a hit and fewer than `size` other keys have an
+/// A law: a key is in a table exactly if it has a hit and fewer than `size` other keys have an
 /// earlier first hit.
 pub fn first_keys()
     ensures firsts { FirstsAreFirst }
@@ -29,7 +29,7 @@ pub fn all_hits()
     ensures whole { WholeCount }
 {}
 
-/// A law: a hit after all others is counted just where its key is in the table or the table has
+/// A law: a hit after all others is counted exactly if its key is in the table or the table has
 /// fewer keys than its size. Its key then comes last into the table, if it isn't in, and its row
 /// and the totals have one hit more; else the dropped hits are one more. All else stays.
 pub fn one_more_hit()
@@ -53,8 +53,9 @@ pub fn first_outside()
     ensures { FirstIsOut }
 {}
 
-/// A law: where the keys of all hits fit a trigger's key items, they do so as a hit comes whose key
-/// fits, and as a hit goes. So the text of a table can be written that was fed by its trigger.
+/// A law: if the keys of all hits fit a trigger's key items, they still do when a hit comes whose
+/// key fits, and when a hit goes. So the text of a table that was fed by its trigger can be
+/// written.
 pub fn fitting_keys()
     ensures none { NoneFits }
     ensures comes { OneMoreFits }
@@ -62,8 +63,8 @@ pub fn fitting_keys()
 {}
 
 /// A law: what the order of rows is. Any sort items give a total order, and rows that tie in it
-/// have one key. Rows in order are the rows, each as often as before, in that order; where their
-/// keys differ, no other list is.
+/// have one key. Rows in order are the same rows, each as often as before, in that order; if their
+/// keys differ, there is no other such list.
 pub fn one_row_order()
     ensures total { (sort : List SortItem) → IsTotalOrder (row_cmp sort) }
     ensures ties { (sort : List SortItem) (a b : Counted) →

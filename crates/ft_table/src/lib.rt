@@ -5,13 +5,13 @@
 //! first `size` keys in order of their first hits. If a key is in, all its hits are counted, else
 //! all are dropped.
 //!
-//! A table shows a row for each key that is in, and totals. A row tells how often the key was hit,
-//! and what the values of its hits sum up to, modulo 2^64. Rows stand by the sort items of the
-//! trigger, and those that these leave equal by key. A table's text has lines that name the
-//! trigger, the rows, one a line, and the totals.
+//! A table shows a row for each key that is in, and totals. A row says how often the key was hit,
+//! and what the values of its hits sum up to, modulo 2^64. Rows are sorted by the sort items of the
+//! trigger, and by key if these leave them equal. A table's text has lines that name the trigger,
+//! the rows, one per line, and the totals.
 //!
-//! What a hit, its spot and its mark are stands below, in `ft_hits`, whose `Hit`, `Mark`, `Spot` and
-//! laws `one_spot_order` and `one_mark_order` are passed on.
+//! The crate `ft_hits` below says what a hit, its spot and its mark are; its `Hit`, `Mark`, `Spot`
+//! and laws `one_spot_order` and `one_mark_order` are passed on.
 //!
 //! ```ignore
 //! let mut table = Table::new(rt.alloc(), 128);
@@ -37,12 +37,13 @@
 //!
 //! # Contracts
 //!
-//! - `Table::new`, `insert`, `remove`: contracts see of a table its hits, a finite map from mark to
+//! - `Table::new`, `insert`, `remove`: contracts see a table as its hits, a finite map from mark to
 //!   values, and its size (`specs/Tabled.antt`). `new` has no hits. `insert` puts one where none
-//!   stands, at exactly one tick of `puts`, and a refusal changes nothing; `remove` takes one, if it
-//!   is there, without memory. `insert` lets through: running out of memory at any time.
-//! - `Table::put_key`: a key that has no hits yet has those of a list, at a tick of `puts` for each;
-//!   a refusal changes nothing (`specs/Runs.antt`). Lets through: running out of memory at any time.
+//!   stands, at exactly one tick of `puts`, and a refusal changes nothing; `remove` takes one, if
+//!   it is there, without memory. `insert` lets through: running out of memory at any time.
+//! - `Table::put_key`: a key that has no hits yet gets those of a list, at a tick of `puts` for
+//!   each; a refusal changes nothing (`specs/Runs.antt`). Lets through: running out of memory at
+//!   any time.
 //! - `Table::is_empty`, `is_in`, `size`, `edge` (an `Edge`), `holds`, `hit_after`: whether there are
 //!   hits, which keys are in, and which hits there are (`specs/Tabled.antt`); exact.
 //! - `Table::mark_near_edge`, `marks_from`, `is_before`: the keys in the order of their first hits
@@ -56,7 +57,7 @@
 //!   require that the keys fit the trigger. Let through: running out of memory at any time.
 //! - `Table::keyed_rows`, `text_of_row`: the rows with their texts, each a `TableRow`, of which
 //!   contracts see the key and the text's bytes (`specs/Keyed.antt`); the text of one key's row, or
-//!   none where the key isn't in. Let through: running out of memory at any time.
+//!   none if the key isn't in. Let through: running out of memory at any time.
 //! - `hit_with`: the hit of a trigger at an event, with its values (`specs/Values.antt`); exact.
 //! - `own_value`: the value of a trigger's own variable at an event's stamp, by what was read
 //!   (`specs/Values.antt`); exact. Requires a stamp that an event can have.
@@ -65,10 +66,9 @@
 //!   the text of rows and totals, are added (`specs/Text.antt`). Let through: running out of memory
 //!   at any time; after a refusal of `write_rows` any bytes after the old ones, and after one of
 //!   `write_heading` any text.
-//! - `row_text`, `table_rows`: the text of a row, of which `write_rows` adds just this and a line
-//!   break; rows with their texts, in the same order. Let through: running out of memory at any
-//!   time.
-//! - Law `first_keys`: a key is in just where it has a hit and fewer than `size` other keys have an
+//! - `row_text`, `table_rows`: the text of a row, to which `write_rows` adds only a line break;
+//!   rows with their texts, in the same order. Let through: running out of memory at any time.
+//! - Law `first_keys`: a key is in exactly if it has a hit and fewer than `size` other keys have an
 //!   earlier first hit (`specs/Admission.antt`).
 //! - Law `all_hits`: a key in the table has all its hits counted, all hits of the others are
 //!   dropped, and both together are all hits (`specs/Admission.antt`).
@@ -76,7 +76,7 @@
 //! - Law `one_key`: with any change of one key's hits, only it and at most one other key come in or
 //!   go out (`specs/OneKey.antt`).
 //! - Law `first_outside`: the first key outside isn't in (`specs/OneKey.antt`).
-//! - Law `fitting_keys`: keys fit a trigger as long as only keys that do come in
+//! - Law `fitting_keys`: keys fit a trigger as long as only keys that fit come in
 //!   (`specs/Fits.antt`).
 //! - Law `one_row_order`: the order of rows is total, and rows of distinct keys have one sorted
 //!   order (`specs/Sorting.antt`).

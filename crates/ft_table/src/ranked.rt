@@ -73,7 +73,7 @@ impl Ranked {
         }
     }
 
-    /// Counts a key no more that stood in the order. The first key outside may have come in for it.
+    /// Stops counting a key that stood in the order. The first key outside may have come in for it.
     fn count_out(&mut self, hits: &HitIndex, mark: Mark, standing: Standing)
         requires standing { Stands
             (record { marks = order_with hits.now mark; size = self.old.order.size }) mark standing }
@@ -119,7 +119,7 @@ impl Ranked {
         }
     }
 
-    /// Counts a hit no more that went from a key whose first hit stood at a mark.
+    /// Stops counting a hit that went from a key whose first hit stood at a mark.
     fn count_down(&mut self, hits: &HitIndex, first: Mark, inside: bool)
         requires inside { (i : ℕ) → IsRank mark_cmp (order_with hits.now first) first i
             → inside ≡ nat_lt i self.old.order.size }
@@ -136,8 +136,8 @@ impl Ranked {
         }
     }
 
-    /// Adds a hit where none stands. Refused for memory, or where the counts would pass 64 bits,
-    /// and then all is as it was.
+    /// Adds a hit at a mark where none stands. Refused for memory, or if the counts would pass 64
+    /// bits; then all is as it was.
     pub(crate) fn add_hit(
         &mut self,
         alloc: Global,
@@ -244,8 +244,8 @@ impl Ranked {
         }
     }
 
-    /// Puts all hits of a key in that has none yet. Refused for memory, or where the counts would
-    /// pass 64 bits, and then all is as it was.
+    /// Puts in all hits of a key that has none yet. Refused for memory, or if the counts would pass
+    /// 64 bits; then all is as it was.
     pub(crate) fn add_key(
         &mut self,
         hits: &mut HitIndex,
@@ -309,8 +309,8 @@ impl Ranked {
         }
     }
 
-    /// Moves a key from where its first hit stood to where it stands now, which isn't before that, or
-    /// takes it out where it has no hits any more.
+    /// Moves a key from where its first hit stood to where it stands now, which isn't before that,
+    /// or takes it out if it has no hits any more.
     fn settle(&mut self, hits: &HitIndex, first: Mark, standing: Standing)
         requires order { self.old.order.marks ≡ order_with hits.now first }
         requires cut { IsCutAtSize (hitcount hits.now) self.old }

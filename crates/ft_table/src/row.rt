@@ -16,7 +16,7 @@ pub struct Row {
     pub sums: [u64; 3],
 }
 
-/// What a table holds beside its rows.
+/// What a table holds besides its rows.
 #[derive(Clone, Copy, Debug, PartialEq, Eq)]
 pub struct Totals {
     /// The hits of all keys in the table.

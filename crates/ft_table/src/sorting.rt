@@ -8,7 +8,7 @@ use ft_hist::{SortBy, SortItem};
 use std::cmp::Ordering;
 
 /// Puts rows of different keys in order: by the sort items from the left, each ascending unless it
-/// is descending, and those that these leave equal by key.
+/// is descending, and by key if these leave them equal.
 pub fn sort_rows(rows: &mut Vec<Row>, sort: &[SortItem])
     requires { HasDistinctKeys rows.old.items }
     ensures { rows.new.items ≡ in_order sort.now rows.old.items }
@@ -40,7 +40,7 @@ fn item_cmp(item: SortItem, a: &Row, b: &Row) -> Ordering
     }
 }
 
-/// How two rows are ordered by what a sort item names, where the least comes first.
+/// How two rows are ordered by what a sort item names, with the least first.
 fn by_cmp(what: SortBy, a: &Row, b: &Row) -> Ordering
     ensures { result ≡ by_cmp what a.now b.now }
 {

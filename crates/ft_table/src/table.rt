@@ -27,8 +27,8 @@ pub struct Edge {
 
 /// The hits of one trigger, and for how many keys there is room.
 ///
-/// Contracts see the hits by spot and key, and the size. Kept beside the hits are each key's sums,
-/// the order of first hits and the totals, so that no question walks the hits.
+/// Contracts see the hits by spot and key, and the size. Each key's sums, the order of first hits
+/// and the totals are kept beside the hits, so that no question walks the hits.
 #[derive(Drop)]
 pub struct Table {
     alloc: Global,
@@ -75,10 +75,10 @@ impl Table {
         }
     }
 
-    /// Puts a hit in, where none stands. Counts one put in `work`, refused or not.
+    /// Puts a hit in at a mark where none stands. Counts one put in `work`, refused or not.
     ///
-    /// Refused for memory, or where the hits would be too many for 64 bits, and then the table is
-    /// as it was.
+    /// Refused for memory, or if the hits would be too many for 64 bits; then the table is as it
+    /// was.
     pub fn insert(&mut self, hit: Hit, work: &mut Work) -> Result<(), AllocError>
         requires { map.get self.old.hits (record { spot = hit.spot; key = hit.key }) ≡ None }
         ensures ok { OnOk result (self.new
@@ -91,12 +91,12 @@ impl Table {
         self.ranked.add_hit(self.alloc, &mut self.hits, &hit)
     }
 
-    /// Puts all hits of a key in that has none yet: those of a run, by spot, of those at one spot the
-    /// first. Counts a put in `work` for each, refused or not. It is quick where the spots of the run
-    /// ascend.
+    /// Puts in all hits of a key that has none yet: those of a run, by spot; of several at one
+    /// spot, the first. Counts a put in `work` for each hit of the run, refused or not. It is quick
+    /// if the spots of the run ascend.
     ///
-    /// Refused for memory, or where the hits would be too many for 64 bits, and then the table is
-    /// as it was.
+    /// Refused for memory, or if the hits would be too many for 64 bits; then the table is as it
+    /// was.
     pub fn put_key(
         &mut self,
         key: Key,
@@ -189,8 +189,8 @@ impl Table {
         }
     }
 
-    /// The rows of the keys in the table, by the sort items from the left, each ascending unless it
-    /// is descending, and those that these leave equal by key.
+    /// The rows of the keys in the table, sorted by the sort items from the left, each ascending
+    /// unless it is descending, and by key if these leave them equal.
     pub fn rows(&self, sort: &[SortItem]) -> Result<Vec<Row>, AllocError>
         ensures { IfOk result (λ rows. rows.items ≡ rows_of self.now sort.now) }
     {
@@ -213,8 +213,8 @@ impl Table {
         Ok(text)
     }
 
-    /// Adds the text of a trigger's table: its rows by the trigger's sort items, one a line, and
-    /// below an empty line the totals. After a refusal the vector holds its old bytes.
+    /// Adds the text of a trigger's table: its rows by the trigger's sort items, one per line, and
+    /// the totals below an empty line. After a refusal the vector holds its old bytes.
     pub fn write(&self, trigger: &Trigger, text: &mut Vec<u8>) -> Result<(), AllocError>
         requires { AllFit self.now trigger.now }
         ensures ok { OnOk result (text.new.items
@@ -265,7 +265,7 @@ impl Table {
         }
     }
 
-    /// The first hit of a key after a spot, or its first of all.
+    /// The first hit of a key after a spot; without a spot, its first.
     pub fn hit_after(&self, key: &Key, after: Option<Spot>) -> Option<Hit>
         ensures { result ≡ hit_after self.now.hits key.now after }
     {

@@ -26,7 +26,7 @@ pub fn write_heading(trigger: &Trigger, text: &mut Vec<u8>) -> Result<(), AllocE
     text.extend_from_slice(b" [active]\n#\n\n")
 }
 
-/// Adds the text of a table from its first row on: the rows, one a line, and the totals. After a
+/// Adds the text of a table from its first row on: the rows, one per line, and the totals. After a
 /// refusal the old bytes are a front of what is there.
 pub fn write_rows(
     trigger: &Trigger,
@@ -138,7 +138,7 @@ fn write_sums(trigger: &Trigger, sums: &[u64; 3], text: &mut Vec<u8>) -> Result<
     Ok(())
 }
 
-/// How a value is called: by its field, or by the variable's own name.
+/// What a value is called: its field's name, or the variable's own name.
 fn title(variable: Option<&Var>, item: Item) -> &[u8]
     ensures { result.now ≡ title (option_copied variable.entry) item }
 {
@@ -160,7 +160,7 @@ fn write_totals(totals: Totals, text: &mut Vec<u8>) -> Result<(), AllocError>
     text.extend_from_slice(b"\n")
 }
 
-/// Adds a total after what it is called.
+/// Adds a total after its name.
 fn write_total(name: &[u8], number: u64, text: &mut Vec<u8>) -> Result<(), AllocError>
     ensures ok { OnOk result (text.new.items ≡ text.old.items ++ (name.now ++ decimal number)) }
     ensures err { OnErr result (IsFront text.old.items text.new.items) }

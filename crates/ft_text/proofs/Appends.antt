@@ -3,7 +3,7 @@ use Rattle.std.proofs.Common.{◌≡◌, List, ℕ, ◌++◌, ap, ◌∙◌, app
 use Rattle.std.specs.Prelude.{Result, Ok, Err, OnOk}
 use Rattle.std.specs.Result.{is_ok}
 
--- what is added where memory doesn't run out is added on Ok
+-- what is added if memory doesn't run out is added on Ok
 pub added_once : {X E : Type 0} (r : Result X E) (old new a b : List ℕ) → a ≡ b → new ≡ (if is_ok r then old ++ a else old) → OnOk r (new ≡ old ++ b)
 added_once (Ok x) old new a b same is = is ∙ ap (λ (t : List ℕ). old ++ t) same
 added_once (Err e) old new a b same is = tt

@@ -64,7 +64,7 @@ misses_byte first byte text rest items plain other e h left glob =
     let f = byte_first first text rest items plain e h in
     other (sym (rw f.first at glob).0)
 
--- no item takes a byte where the pattern is at its end
+-- no item takes a byte if the pattern is at its end
 pub misses_end : (byte : ℕ) (text : List ℕ) (items : List Item) → text ≡ [] → ItemsAre text items → (left : List ℕ) → Glob items (byte ∷ left) → ⊥
 misses_end byte text [] e h left glob = absurd cc
 misses_end byte text (Item.Any ∷ items) e h left glob = let f = sym e ∙ h.1 in absurd cc

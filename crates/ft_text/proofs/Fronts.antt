@@ -13,10 +13,10 @@ front_of_front old mid new before after =
     let shorter : length old ≤ length mid = omega (arith, length-take (length old) mid, ap length before) in
     sym (take-take (length old) (length mid) new shorter) ∙ ap (take (length old)) after ∙ before
 
--- a text begins with something, where it begins with that and what was added to it
+-- a text begins with something if it begins with that and what was added to it
 pub front_before : (old mid new end : List ℕ) → mid ≡ old ++ end → IsFront mid new → IsFront old new
 front_before old mid new end h front = front_of_front old mid new (front_of_more old mid end h) front
 
--- a text begins with a front of something, where it begins with that and what was added to it
+-- a text begins with a front of something if it begins with that and what was added to it
 pub front_past : (old mid later new end : List ℕ) → IsFront old mid → later ≡ mid ++ end → IsFront later new → IsFront old new
 front_past old mid later new end before h after = front_of_front old mid new before (front_before mid later new end h after)

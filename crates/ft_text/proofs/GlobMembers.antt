@@ -4,7 +4,7 @@ use Rattle.std.proofs.lemmas.List.{take_rest}
 use Rattle.ft_text.specs.Glob.{Member, DashFollows, MembersAre, SomeHas}
 use Rattle.ft_text.specs.inner.Walk.{Bounds}
 
--- where `-` and a byte follow, a range stands first
+-- if `-` and a byte follow, a range stands first
 pub record RangeFirst (low high : ℕ) (rest : List ℕ) (members : List Member) : Type 0 where
   pub behind : List Member
   pub first : members ≡ Member.Range low high ∷ behind
@@ -39,7 +39,7 @@ bounds_range low high rest = record {
       (f.behind, f.read, λ byte. subst (λ (ms : List Member). SomeHas ms byte ↔ (((low ≤ byte) × (byte ≤ high)) ⊎ SomeHas f.behind byte)) (sym f.first) (λ x. x, λ x. x));
 }
 
--- else a byte alone stands first
+-- else a single byte stands first
 pub record SingleFirst (byte : ℕ) (rest : List ℕ) (members : List Member) : Type 0 where
   pub behind : List Member
   pub first : members ≡ Member.Single byte ∷ behind

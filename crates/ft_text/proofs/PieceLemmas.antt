@@ -49,7 +49,7 @@ pieces_cut separator place text at found =
     let whole : take (length text - (at + 1)) (drop (at + 1) text) ≡ drop (at + 1) text = take_all (length text - (at + 1)) (drop (at + 1) text) (omega arith) in
     cut ∙ ap (λ rest. record { place = place; bytes = take at text } ∷ pieces separator (place + at + 1) rest) (sym whole)
 
--- where there is no separator, the text is one piece
+-- if there is no separator, the text is one piece
 pub pieces_whole : (separator place : ℕ) (text : List ℕ) → position (is separator) text ≡ None → pieces separator place text ≡ record { place = place; bytes = text } ∷ []
 pieces_whole separator place text none = let within = prefix_len-le-length (λ byte. not (is separator byte)) text in cut_none separator place text (grind (arith, common_steps))
 

@@ -6,7 +6,7 @@ use Rattle.ft_text.specs.inner.Walk.{ReadsAsItems, ReadsAsMembers}
 use Rattle.ft_text.proofs.Cuts.{class_first, class_found}
 use Rattle.ft_text.proofs.FirstMembers.{star_first, one_first, byte_first}
 
--- after any byte but a `[`
+-- after any byte except a `[`
 pub reads_byte : (first : ℕ) (rest : List ℕ) → first ≢ 91 → ReadsAsItems (first ∷ rest) ↔ ReadsAsItems rest
 reads_byte first rest other =
     elim (cases_eq first 42) [

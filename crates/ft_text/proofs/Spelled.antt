@@ -1,4 +1,4 @@
--- Pieces and words are what their texts tell.
+-- Pieces and words are what their texts say.
 use Rattle.std.proofs.Common.{◌≡◌, ◌≢◌, ◌+◌, ◌==◌, ℕ, Bool, true, false, List, [], ◌∷◌, ◌++◌, length, drop, Option, Some, None, option_map, refl, sym, ap, ◌∙◌, subst, arith, codes, cond, append-nil, eqb-true, if◌then◌else◌}
 use Rattle.std.proofs.lemmas.Bool.{and_parts, and_from, or_parts, or_from, not_from_false}
 use Rattle.std.proofs.lemmas.Option.{same_Some}
@@ -80,7 +80,7 @@ module _ (separator : ℕ) where
       ∙ ap (λ (l : List Piece). record { place = place; bytes = first.bytes } ∷ l) (are_pieces (place + length first.bytes + 1) next more h.2)
       ∙ ap (λ (p : ℕ). record { place = p; bytes = first.bytes } ∷ (next ∷ more)) (sym h.0)
 
-  -- a text is cut into pieces just where they make it
+  -- a text is cut into these pieces if and only if they make it
   pub one_cut : (place : ℕ) (text : List ℕ) (list : List Piece) → (pieces separator place text ≡ list) ↔ ArePieces separator place text list
   one_cut place text list = (
     λ is. subst (ArePieces separator place text) is (pieces_are place text),
@@ -163,7 +163,7 @@ text_same : (dollar : Bool) (name rest : List ℕ) → (if dollar then codes "$"
 text_same true name rest = refl
 text_same false name rest = refl
 
--- an item is read as a word just where it is that word's text
+-- an item is read as a word if and only if it is that word's text
 pub one_word : (item : List ℕ) (word : Word) → (word_of item ≡ Some word) ↔ IsItem item word
 one_word item word = (
   λ e. let parts = word_parts item word e in record {

@@ -78,7 +78,7 @@ run_passes test (byte ∷ text) = from (run_passes test text) (test byte) refl
 run_begins : (byte : ℕ) (text : List ℕ) → is_in_name byte ≡ true → slice_index (take (prefix_len is_in_name (byte ∷ text)) (byte ∷ text)) 0 ≡ byte
 run_begins byte text inside = rw (inside, one-add) refl
 
--- the run that a text begins with is a name, where a name begins
+-- the run that a text begins with is a name, if its first byte may begin one
 run_is_name : (text : List ℕ) → begins_name (slice_index text 0) ≡ true → IsName (take (prefix_len is_in_name text) text)
 run_is_name [] h = absurd cc
 run_is_name (byte ∷ text) h = record { begins = ap begins_name (run_begins byte text (begins_inside byte h)) ∙ h; inside = run_passes is_in_name (byte ∷ text) }

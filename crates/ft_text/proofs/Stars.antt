@@ -42,7 +42,7 @@ takes_glob Item.One byte items left takes = (λ g. g.1, λ g. (tt, g))
 takes_glob (Item.Class negated members) byte items left takes = (λ g. g.1, λ g. (takes, g))
 takes_glob (Item.Byte own) byte items left takes = (λ g. g.1, λ g. (takes, g))
 
--- where an item for one byte and others match an end, the others match an end after the first byte
+-- if an item for one byte and others match an end, the others match an end after the first byte
 end_behind : (P : ℕ → Type 0) (Q : List ℕ → Type 0) (byte : ℕ) (left : List ℕ) → SomeEnd (OneThen P Q) (byte ∷ left) → SomeEnd Q left
 end_behind P Q byte left h = go h.0 h.1 h.2 h.3
   where
@@ -62,7 +62,7 @@ takes_end (Item.Byte own) byte items left takes h = end_behind (λ b. b ≡ own)
 
 -- ---- the match
 
--- the answer is whether the items match what is left, or a later try does; and a later try can match only where the items match some end of what is left
+-- the answer is whether the items match what is left, or a later try does; and a later try can match only if the items match some end of what is left
 pub record Stands (answer : Type 0) (items : List Item) (left : List ℕ) (later : Type 0) : Type 0 where
   pub same : answer ↔ (Glob items left ⊎ later)
   pub ends : later → SomeEnd (Glob items) left
@@ -110,7 +110,7 @@ stands_end answer later items h = (λ a. elim (h.same.0 a) [ inl now ↦ now | i
 
 -- ---- the end of the text
 
--- before no text, stars alone match
+-- the items match the empty text if and only if the pattern is only stars
 pub stars_glob : (pattern : List ℕ) (items : List Item) → ItemsAre pattern items → IsTrue (list_all (λ byte. eqb byte 42) pattern) ↔ Glob items []
 stars_glob pattern [] h = (λ t. refl, λ g. subst (λ (p : List ℕ). list_all (λ byte. eqb byte 42) p ≡ true) (sym h) refl)
 stars_glob pattern (Item.Any ∷ items) h =

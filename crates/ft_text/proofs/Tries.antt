@@ -5,7 +5,7 @@ use Rattle.ft_text.specs.Glob.{Item, ItemsAre, SomeEnd, Glob}
 use Rattle.ft_text.specs.inner.Walk.{Takes}
 use Rattle.ft_text.proofs.Stars.{Stands, stands_past, stands_star, stands_back, stands_none, stands_end}
 
--- the items stand for the answer before the text; where a star was met, a later try is at an end after the place where it was tried last
+-- the items stand for the answer before the text; if a star was met, a later try is at an end after the place where it was tried last
 abbrev pub StandsBehind : Type 0 → List ℕ → List ℕ → List ℕ → List ℕ → Type 0
 StandsBehind answer pattern text behind tried =
     (items : List Item) × (after : List Item) × ItemsAre pattern items × ItemsAre behind after × Stands answer items text (SomeEnd (Glob after) (drop 1 tried))

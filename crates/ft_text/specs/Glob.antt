@@ -1,7 +1,7 @@
 -- Globs: the items that a pattern reads as, and the texts that they match (kernel: events.rst, event filtering).
 use Rattle.std.specs.Prelude.{◌≡◌, ◌≢◌, ◌⊎◌, ◌<◌, ◌≤◌, ℕ, Bool, true, false, List, [], ◌∷◌, ◌++◌, length, slice_index, Contains, codes}
 
--- a member of a class: a range, inclusive, or a byte alone (kernel: events.rst, event filtering)
+-- a member of a class: a range, inclusive, or a single byte (kernel: events.rst, event filtering)
 pub data Member : Type 0 where
   Range : ℕ → ℕ → Member
   Single : ℕ → Member
@@ -20,7 +20,7 @@ abbrev pub DashFollows : List ℕ → Type 0
 DashFollows (dash ∷ high ∷ rest) = dash ≡ 45
 DashFollows rest = ⊥
 
--- the text is a member and the rest: a range where one can stand, not from a higher byte to a lower one; else a byte alone
+-- the text is a member and the rest: if `-` and a byte follow the first byte, a range, not from a higher byte to a lower one; else a single byte
 abbrev pub MemberIs : List ℕ → Member → List ℕ → Type 0
 MemberIs text (Member.Range low high) rest = (text ≡ low ∷ 45 ∷ high ∷ rest) × (low ≤ high)
 MemberIs text (Member.Single byte) rest = (text ≡ byte ∷ rest) × (DashFollows rest → ⊥)
@@ -41,7 +41,7 @@ pub record IsBracketed (text : List ℕ) (negated : Bool) (inside rest : List �
   pub closed : Contains inside 93 → ⊥
   pub unmarked : negated ≡ false → slice_index inside 0 ≢ 33
 
--- the text after a `[` is a class with these members, at least one, and the rest (our own choice: a class without members is none)
+-- the text after a `[` is a class with these members, at least one, and the rest (our own choice: there is no class without members)
 pub record ClassIs (text : List ℕ) (negated : Bool) (members : List Member) (rest : List ℕ) : Type 0 where
   pub inside : List ℕ
   pub cut : IsBracketed text negated inside rest
@@ -86,7 +86,7 @@ abbrev pub SomeHas : List Member → ℕ → Type 0
 SomeHas [] byte = ⊥
 SomeHas (member ∷ members) byte = Has member byte ⊎ SomeHas members byte
 
--- the class has the byte: some member does, or, where it is negated, none does (kernel: events.rst, event filtering)
+-- the class has the byte: some member does, or, if the class is negated, none does (kernel: events.rst, event filtering)
 abbrev pub ClassHas : Bool → List Member → ℕ → Type 0
 ClassHas false members byte = SomeHas members byte
 ClassHas true members byte = SomeHas members byte → ⊥

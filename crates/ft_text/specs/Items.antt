@@ -48,7 +48,7 @@ word_from dollar cut = option_map (λ suffix. record { dollar = dollar; name = c
 unfoldable pub word_with : Bool → List ℕ → Option Word
 word_with dollar text = option_and_then (word_from dollar) (name_at text)
 
--- the word of an item, where it has the form (kernel: histogram.rst, hist triggers)
+-- the word of an item, if it has the form (kernel: histogram.rst, hist triggers)
 unfoldable pub word_of : List ℕ → Option Word
 word_of item = if starts_with ◌==◌ item (codes "$") then word_with true (drop 1 item) else word_with false item
 
@@ -70,7 +70,7 @@ is_name text = option_map_or (λ cut. length cut.1 == 0) (name_at text) false
 abbrev pub is_number : List ℕ → Bool
 is_number text = not (length text == 0) && list_all is_ascii_digit text
 
--- the number that decimal digits write, where it is from the least to the greatest
+-- the number that decimal digits write, if it is from the least to the greatest
 unfoldable pub number_in : ℕ → ℕ → List ℕ → Option ℕ
 number_in least most text =
     if is_number text && (nat_le least (digits_value 10 text) && nat_le (digits_value 10 text) most) then Some (digits_value 10 text) else None

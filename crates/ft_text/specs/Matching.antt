@@ -6,7 +6,7 @@ use Rattle.ft_text.specs.Glob.{Member, Item, GlobIs, Glob}
 
 -- ---- reading
 
--- a text as things, each read off its front, while so many bytes are enough
+-- a text as things, at most n of them, each read off its front
 abbrev pub all_at : {A : Type 0} → (List ℕ → Option (A × List ℕ)) → ℕ → List ℕ → Option (List A)
 all_at one n [] = Some []
 all_at one zero (byte ∷ text) = None
@@ -21,7 +21,7 @@ goes_on rest = false
 abbrev pub range_at : ℕ → List ℕ → Option (Member × List ℕ)
 range_at low rest = if nat_le low (slice_index rest 1) then Some (Member.Range low (slice_index rest 1), drop 2 rest) else None
 
--- the first member of a class, and what is after it: a range where one can stand, else a byte alone
+-- the first member of a class, and what is after it: a range if `-` and a byte follow the first byte, else a single byte
 abbrev pub member_at : List ℕ → Option (Member × List ℕ)
 member_at [] = None
 member_at (low ∷ rest) = if goes_on rest then range_at low rest else Some (Member.Single low, rest)
@@ -35,7 +35,7 @@ abbrev pub close_at : List ℕ → Option (List ℕ × List ℕ)
 close_at [] = None
 close_at (byte ∷ text) = if byte == 93 then Some ([], text) else option_map (λ cut. (byte ∷ cut.0, cut.1)) (close_at text)
 
--- the class, negated or not, whose inside is cut off so, and what is after it; one without members is none
+-- the class, negated or not, whose inside is cut off so, and what is after it; there is no class without members
 abbrev pub class_with : Bool → List ℕ × List ℕ → Option (Item × List ℕ)
 class_with negated cut = if nat_le 1 (length cut.0) then option_map (λ members. (Item.Class negated members, cut.1)) (members_of cut.0) else None
 
@@ -71,7 +71,7 @@ abbrev pub has : ℕ → Member → Bool
 has byte (Member.Range low high) = nat_le low byte && nat_le byte high
 has byte (Member.Single own) = byte == own
 
--- the class has the byte: some member does, or, where it is negated, none does (kernel: events.rst, event filtering)
+-- the class has the byte: some member does, or, if the class is negated, none does (kernel: events.rst, event filtering)
 abbrev pub class_has : Bool → List Member → ℕ → Bool
 class_has false members byte = list_any (has byte) members
 class_has true members byte = not (list_any (has byte) members)

@@ -1,4 +1,4 @@
--- What pieces and words are, told by the texts that they make (kernel: histogram.rst, hist triggers).
+-- What pieces and words are, by the texts that they make (kernel: histogram.rst, hist triggers).
 use Rattle.std.specs.Prelude.{◌≡◌, ◌≢◌, ◌+◌, ◌==◌, ℕ, true, false, List, [], ◌∷◌, ◌++◌, length, Option, Some, None, if◌then◌else◌, codes}
 use Rattle.std.specs.List.{list_all, list_any}
 use Rattle.ft_text.specs.Tokens.{begins_name, is_in_name}

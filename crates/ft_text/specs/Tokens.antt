@@ -59,7 +59,7 @@ number_of word =
     else (if starts_with ◌==◌ word (codes "0x") && is_hexadecimal (drop 2 word) then Some (pos (digits_value 16 (drop 2 word)))
     else None))
 
--- where a number is read: a `-` that stands there, and the longest run of letters, digits and `_`
+-- how many bytes are read as a number: a `-`, if one stands there, and the longest run of letters, digits and `_`
 abbrev pub word_len : List ℕ → ℕ
 word_len [] = 0
 word_len (byte ∷ text) = if byte == 45 then 1 + prefix_len is_in_name text else prefix_len is_in_name (byte ∷ text)

@@ -13,8 +13,8 @@ pub fn are_digits(text: &[u8]) -> bool
     text.iter().all(|byte| byte.is_ascii_digit())
 }
 
-/// The number that digits write, or `None` where it is above the limit or a byte is no digit. No
-/// digits write 0, and zeros may stand in front.
+/// The number that digits write, or `None` if it is above the limit or a byte is no digit. An
+/// empty text is 0, and zeros may stand in front.
 #[tactic(auto, unfolding(crate::specs::Digits::number_within))]
 #[inline]
 pub fn number_within(text: &[u8], limit: u32) -> Option<u32>

@@ -7,10 +7,10 @@ ghost use Rattle.ft_text.specs.Glob.{ItemsAre, GlobIs, IsGlob, Glob};
 ghost use Rattle.ft_text.specs.Matching.{is_glob};
 ghost use Rattle.ft_text.specs.inner.Walk.{ReadsAsMembers, ReadsAsItems, Bounds, StepIs, Shortens};
 
-/// Whether the pattern is a glob. It is none where a class is not closed, has no member or has a
-/// range from a higher byte to a lower one, where a backslash stands anywhere, and where a `!`
-/// stands first. By `exact` the answer is worked out from the pattern, by `meaning` it says that
-/// the pattern reads as items.
+/// Whether the pattern is a glob. It is none if a class is not closed, has no member or has a range
+/// from a higher byte to a lower one, if a backslash stands anywhere, or if a `!` stands first. By
+/// `exact` the answer is worked out from the pattern, by `meaning` it says that the pattern reads
+/// as items.
 pub fn is_glob(pattern: &[u8]) -> bool
     ensures exact { result ≡ is_glob pattern.now }
     ensures meaning { IsTrue result ↔ IsGlob pattern.now }
@@ -91,7 +91,8 @@ struct Class<'a> {
     rest: &'a [u8],
 }
 
-/// The first member of a class by its bounds, which a byte alone has twice, and what is after it.
+/// The first member of a class by its bounds, and what is after it. Both bounds of a single byte
+/// are that byte.
 #[derive(Clone, Copy)]
 struct Bounded<'a> {
     low: u8,
@@ -123,7 +124,7 @@ fn step_before(pattern: &[u8], byte: u8) -> Step<'_>
     }
 }
 
-/// How the pattern goes on before the byte, where a class stands first; the text is after its `[`.
+/// How a pattern that begins with a class goes on before the byte; the text is after its `[`.
 fn class_step(text: &[u8], byte: u8) -> Step<'_>
     ensures meaning { (items : List Item) → ItemsAre (91 ∷ text.now) items
         → StepIs items byte result }
@@ -149,7 +150,7 @@ fn are_stars(pattern: &[u8]) -> bool
     pattern.iter().all(|byte| *byte == b'*')
 }
 
-/// What is after the item that begins with the byte, where one does.
+/// What is after the item that begins with the byte, if one does.
 fn behind_item(first: u8, behind: &[u8]) -> Option<&[u8]>
     ensures shorter { IfSome result (λ rest. length rest.now ≤ length behind.now) }
     ensures found { IfSome result (λ rest. ReadsAsItems (first ∷ behind.now)
@@ -171,7 +172,7 @@ fn behind_item(first: u8, behind: &[u8]) -> Option<&[u8]>
     }
 }
 
-/// The class whose `[` stands before the text, where it is closed.
+/// The class whose `[` stands before the text, if it is closed.
 fn class_of(text: &[u8]) -> Option<Class<'_>>
     ensures shorter { IfSome result (λ class. length class.rest.now < length text.now) }
     ensures found { IfSome result (λ class. IsBracketed text.now class.negated class.inside.now

@@ -47,7 +47,7 @@ impl<'a> Word<'a> {
         self.name
     }
 
-    /// What is after the `.`, where one stands after the name.
+    /// What is after the `.`, if one stands after the name.
     pub fn suffix(&self) -> Option<&'a [u8]>
         ensures { option_copied result ≡ self.now.suffix }
     {
@@ -69,7 +69,7 @@ impl<'a> Word<'a> {
     }
 }
 
-/// The word that a text is, where it has the form.
+/// The word that a text is, if it has the form.
 #[tactic(auto, unfolding(crate::specs::Items::word_of))]
 pub fn word_of(item: &[u8]) -> Option<Word<'_>>
     ensures { result ≡ word_of item.now }
@@ -111,7 +111,7 @@ pub fn is_name(text: &[u8]) -> bool
     }
 }
 
-/// The number that decimal digits write, where it is from the least to the greatest.
+/// The number that decimal digits write, if it is from the least to the greatest.
 #[tactic(auto, unfolding(crate::specs::Items::number_in, crate::specs::Digits::number_within))]
 pub fn number_in(text: &[u8], least: u32, most: u32) -> Option<u32>
     ensures value { result ≡ number_in least most text.now }

@@ -6,15 +6,15 @@ ghost use Rattle.ft_text.specs.Items.{Piece, pieces, Word, word_of};
 ghost use Rattle.ft_text.specs.Glob.{Item, ItemsAre};
 ghost use Rattle.ft_text.specs.Matching.{matches, Matches};
 
-/// A law: a text is cut into pieces just where they make it: with a separator between each two and
-/// none in them, each at its place.
+/// A law: a text is cut into these pieces if and only if they make it: with a separator between
+/// each two and none in them, each at its place.
 pub fn one_list()
     ensures { (separator place : ℕ) (text : List ℕ) (list : List Piece)
         → (pieces separator place text ≡ list) ↔ ArePieces separator place text list }
 {}
 
-/// A law: a text is read as a word just where it is the word as it stands: a `$` or none, a name,
-/// and nothing or a `.` and one or more bytes.
+/// A law: a text is read as a word if and only if it is the word as it stands: a `$` or none, a
+/// name, and nothing or a `.` and one or more bytes.
 pub fn one_word()
     ensures { (item : List ℕ) (word : Word) → (word_of item ≡ Some word) ↔ IsItem item word }
 {}
@@ -25,7 +25,7 @@ pub fn one_reading()
         → ItemsAre pattern other → items ≡ other }
 {}
 
-/// A law: a pattern matches just the texts that its items match.
+/// A law: a pattern matches exactly the texts that its items match.
 pub fn what_matches()
     ensures { (pattern text : List ℕ) → IsTrue (matches pattern text) ↔ Matches pattern text }
 {}

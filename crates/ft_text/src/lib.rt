@@ -1,14 +1,14 @@
 //! Texts of bytes: lines, numbers, names, pieces between separators, words, and globs.
 //!
 //! A text grows in a vector and may run out of memory. What was added before a refusal stays, so
-//! that the vector begins with its old bytes, and who began the text cuts it back.
+//! that the vector begins with its old bytes, and whoever began the text cuts it back.
 //!
 //! Gaps, names, quoted texts and numbers are read at the head of a text. A reader gives what it
-//! found there and the text after it, or nothing. A number is read whole however large it is, so
-//! that one which is out of range is told from a text that begins with no number.
+//! found there and the text after it, or nothing. A number is read whole, however large it is, so
+//! that a number out of range isn't mistaken for a text that begins with no number.
 //!
 //! A text is cut into lines at line breaks, and into pieces at a separator. Each piece keeps the
-//! place of the text that it begins at, so that a fault can name it. A word is what a piece of a
+//! place in the text at which it begins, so that a fault can name it. A word is what a piece of a
 //! trigger's text may be: a `$` or none, a name, and a suffix after a `.`, or none.
 //!
 //! A glob is a pattern in which `*` matches any run of bytes, `?` one byte, a class such as `[a-c]`
@@ -64,24 +64,24 @@
 //!   after the old ones.
 //! - `are_digits`, `is_same`: whether all bytes are decimal digits, and whether two texts are the
 //!   same; exact.
-//! - `number_within`: the number that decimal digits write, or that none write, which is 0, where
-//!   it is within the limit (`specs/Digits.antt`); exact.
+//! - `number_within`: the number that decimal digits write, if it is within the limit; an empty
+//!   text is 0 (`specs/Digits.antt`); exact.
 //! - `is_gap`, `skip`, `name_at`, `is_quote`, `quoted_at`, `number_at`, `Number`: what stands at
 //!   the head of a text, and the text after it (`specs/Tokens.antt`, `specs/Ranged.antt`); exact.
 //! - `next_line`: a text is its first line and the lines of what is left (`specs/Lines.antt`).
 //! - `Pieces::of`, `Pieces::next_piece`, `Piece`: the pieces of a text between separators, in
 //!   order, each with the place at which it begins (`specs/Items.antt`); exact.
-//! - `word_of`, `Word`: the word that a text is, or none where it has another form; its parts;
+//! - `word_of`, `Word`: the word that a text is, or none if it has another form; its parts;
 //!   whether it is a name without a `$` (`Word::is`); whether two words have the same name, both
 //!   with a `$` or both without (`Word::is_same`). Exact (`specs/Items.antt`).
-//! - `is_name`, `number_in`: whether a text is a name and nothing else; the number that decimal
-//!   digits write, at least one, where it is within both limits (`specs/Items.antt`). Exact.
-//! - Laws `one_list`, `one_word`: a text is cut into just the pieces that make it again, and is
-//!   read as just the word that writes it (`specs/Spelling.antt`).
+//! - `is_name`, `number_in`: whether a text is a name and nothing else; the number that one or more
+//!   decimal digits write, if it is within both limits (`specs/Items.antt`). Exact.
+//! - Laws `one_list`, `one_word`: a text is cut into exactly the pieces that make it again, and is
+//!   read as exactly the word that writes it (`specs/Spelling.antt`).
 //! - `is_glob`: whether the pattern is a glob, by the items that it reads as (clause `meaning`), and
 //!   exact.
-//! - `glob`: whether the items of a glob match the whole text, said by splitting the text
-//!   (`specs/Glob.antt`); the code goes back to the last star alone instead. Lets through: any
+//! - `glob`: whether the items of a glob match the whole text, defined by splits of the text
+//!   (`specs/Glob.antt`); the code goes back only to the last star instead. Lets through: any
 //!   running time. A test matches a long text against many stars.
 //! - Law `one_reading`: a pattern reads as items in one way.
 //! - Law `what_matches`: the truth value `matches`, by which filters are stated, is that of the

@@ -9,7 +9,7 @@ use memchr::memchr;
 /// The byte that ends a line.
 const LINE_BREAK: u8 = b'\n';
 
-/// The first line of a text without its break, and the text after it; `None` where the text is
+/// The first line of a text without its break, and the text after it; `None` if the text is
 /// empty. A last piece without a break is a line too.
 pub fn next_line(text: &[u8]) -> Option<(&[u8], &[u8])>
     ensures cut { MatchOption result (text.now ≡ [])

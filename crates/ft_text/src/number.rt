@@ -24,7 +24,7 @@ pub enum Number {
     OutOfRange,
 }
 
-/// How many bytes are read as a number: a `-` that stands there, and the longest run of letters,
+/// How many bytes are read as a number: a `-`, if one stands there, and the longest run of letters,
 /// digits and `_`.
 fn word_len(text: &[u8]) -> usize
     ensures value { result ≡ word_len text.now }
@@ -49,7 +49,7 @@ pub fn number_at(text: &[u8]) -> Option<(Number, &[u8])>
     }
 }
 
-/// The number that a word writes, where it has one of the forms.
+/// The number that a word writes, if it has one of the forms.
 #[tactic(auto, unfolding(crate::specs::Tokens::number_of))]
 fn number_of(word: &[u8]) -> Option<Number>
     ensures { result ≡ option_map ranged (number_of word.now) }
@@ -91,7 +91,7 @@ fn are_hex_digits(word: &[u8]) -> bool
     word.iter().all(|byte| byte.is_ascii_hexdigit())
 }
 
-/// The number that digits write, or `None` where it is farther from 0 than a number may be.
+/// The number that digits write, or `None` if it is farther from 0 than a number may be.
 fn magnitude(digits: &[u8], radix: u32) -> Option<u64>
     requires radix { (1 ≤ radix) × (radix ≤ 16) }
     requires digits { IsTrue (list_all is_ascii_hexdigit digits.now) }

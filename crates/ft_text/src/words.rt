@@ -13,7 +13,7 @@ pub(crate) enum Class {
     Gap,
     /// A letter, a digit or `_`.
     Name,
-    /// Any byte but this one.
+    /// Any byte except this one.
     Except(u8),
 }
 

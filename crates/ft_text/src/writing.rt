@@ -17,7 +17,7 @@ pub fn write_decimal(number: u64, text: &mut Vec<u8>) -> Result<(), AllocError>
     text.extend_from_slice(buffer.format(number).as_bytes())
 }
 
-/// Adds a number in decimal digits, after a `-` where it is negative.
+/// Adds a number in decimal digits, after a `-` if it is negative.
 #[inline]
 pub fn write_signed(number: i64, text: &mut Vec<u8>) -> Result<(), AllocError>
     ensures ok { OnOk result (text.new.items ≡ text.old.items ++ signed_decimal number) }
@@ -27,8 +27,8 @@ pub fn write_signed(number: i64, text: &mut Vec<u8>) -> Result<(), AllocError>
     text.extend_from_slice(digits.format(number).as_bytes())
 }
 
-/// Adds a number in decimal digits, after as many of the byte as fill a column of this width with
-/// it. A longer number stands as it is.
+/// Adds a number in decimal digits, with the fill byte in front of it as often as is needed to
+/// fill a column of this width. A longer number stands as it is.
 pub fn write_right(number: u64, width: u8, fill: u8, text: &mut Vec<u8>) -> Result<(), AllocError>
     ensures ok { OnOk result (text.new.items ≡ text.old.items
         ++ (replicate (width - length (decimal number)) fill ++ decimal number)) }
@@ -40,7 +40,7 @@ pub fn write_right(number: u64, width: u8, fill: u8, text: &mut Vec<u8>) -> Resu
     text.extend_from_slice(digits)
 }
 
-/// Adds as many of the byte as fill a column of this width with what has this length.
+/// Adds the fill byte as often as a text of this length needs it to fill a column of this width.
 #[inline]
 pub fn write_fill(len: usize, width: u8, fill: u8, text: &mut Vec<u8>) -> Result<(), AllocError>
     ensures ok { OnOk result (text.new.items ≡ text.old.items ++ replicate (width - len) fill) }

@@ -124,7 +124,7 @@ module _ (event : Name) where
   none_read OfOnmatch = refl
   none_read OfVariable = refl
 
-  -- what has been read tells which forms stand
+  -- what has been read shows which forms stand
   pub forms_read : (front : List (List ℕ)) (draft : Draft) (form : Form) → AreRead (of_parts event) front draft → has_read form draft ≡ stands form front
   forms_read [] draft form nothing = none_read form
   forms_read _ _ form (one_more front read text more before one) =
@@ -245,7 +245,7 @@ label_twice event draft part kind begins (Some label) e h =
     let same : label.1 ≡ kind = cc in
     kind_twice event draft label.1 (part.place + length label.0) (drop (length label.0) part.bytes) (ap (λ (k : Kind). has_read (OfKind k) draft) same ∙ h)
 
--- a second part of a kind is told so
+-- a second part of a kind is a duplicate
 pub part_twice : (event : Name) (front : List (List ℕ)) (draft : Draft) (part : Piece) (kind : Kind) → AreRead (of_parts event) front draft → form_of part.bytes ≡ OfKind kind → is_part_left_out part.bytes ≡ false → stands (OfKind kind) front ≡ true
     → with_part event draft part ≡ Err Duplicate
 unfolding with_part

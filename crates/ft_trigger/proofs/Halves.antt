@@ -63,7 +63,7 @@ blank_back (byte ∷ blank) all =
     let both = and_parts (is_gap byte) (list_all is_gap blank) all in
     ap (list_all is_gap) (reverse-append (byte ∷ []) blank) ∙ list_all-append is_gap (reverse blank) (byte ∷ []) ∙ and_from _ _ (blank_back blank both.1) (and_from _ _ both.0 refl)
 
--- a text that ends with none begins with none where it is read backwards
+-- a text that ends with none begins with none if it is read backwards
 back_opens : (text : List ℕ) → Closes text → Opens (reverse text)
 back_opens text closes byte rest e = closes (reverse rest) byte (sym (reverse-reverse text) ∙ ap reverse e ∙ reverse-append (byte ∷ []) rest)
 
@@ -98,7 +98,7 @@ pub record Known (text head gap tail : List ℕ) : Type 0 where
 to_right : (a b c d : List ℕ) → a ++ b ++ c ++ d ≡ a ++ (b ++ (c ++ d))
 to_right a b c d = simp append_assoc
 
--- so it is where it is grouped to the right
+-- so it is if it is grouped to the right
 known_tail : (head gap tail end : List ℕ) → IsCut (head ++ (gap ++ (tail ++ end))) head gap tail end → Known (head ++ (gap ++ (tail ++ end))) head gap tail
 known_tail head gap tail end cut = record {
   len = len;

@@ -61,7 +61,7 @@ sorted keys values variable sort = record { keys = Some keys; values = Some valu
 abbrev pub whole : List KeyItem → List Word → Option Var → List Word → ℕ → Option Action → Draft
 whole keys values variable sort size onmatch = record { keys = Some keys; values = Some values; sort = Some sort; size = Some size; variable = variable; onmatch = onmatch }
 
--- what is after a size: what events are made of, where that stands
+-- what is after a size: what events are made of, if that stands
 abbrev pub behind_size : Option Action → List ℕ
 behind_size None = []
 behind_size (Some action) = 58 ∷ action_bytes action
@@ -166,7 +166,7 @@ module _ (event : Name) where
       part_step event _ _ (codes "sort=" ++ listed (map word_text (map directed (t.word ∷ t.words)))) (size_part t.size t.onmatch) (Ok (told t)) place (sorts_inner t.word t.words t.words_fit)
       (λ p. sorts_read _ _ t.variable t.word t.words p t.words_fit) (size_ends t)
 
-  -- a variable is read before others, where one stands
+  -- a variable is read before others, if one stands
   behind_read : (keys : List KeyItem) (values : List Word) (variable : Option Var) (rest : List ℕ) (answer : Result Draft TriggerFault) (place : ℕ) → If (VarFits event) variable
       → ((p : ℕ) → parts_from event (labelled keys values variable) (pieces 58 p rest) ≡ answer) → parts_from event (valued keys values) (pieces 58 place (behind_values variable rest)) ≡ answer
   behind_read keys values None rest answer place fits later = later place

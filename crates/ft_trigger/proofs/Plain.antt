@@ -50,7 +50,7 @@ then_plain : {A B : Type 0} (step : Result A TriggerFault) (next : A → Result 
 then_plain (Ok x) next plain more = more x
 then_plain (Err fault) next plain more = plain
 
--- items, where each is so
+-- items, if each is so
 items_plain : {A : Type 0} (add : List A → ℕ → Word → Result (List A) TriggerFault) → ((list : List A) (place : ℕ) (word : Word) → Plain (add list place word)) → (list : List A) (items : List Piece) → Plain (items_from add list items)
 items_plain add plain list [] = tt
 items_plain add plain list (item ∷ items) =
@@ -152,7 +152,7 @@ sorts_plain : (keys : List KeyItem) (values : List Item) (own : Option (List ℕ
 sorts_plain keys values own [] = tt
 sorts_plain keys values own (word ∷ words) = let rest = sorts_plain keys values own words in search (rules, given_plain, then_plain)
 
--- what sort items name, where there are some
+-- what sort items name, if there are some
 sort_words_plain : (keys : List KeyItem) (values : List Item) (own : Option (List ℕ)) (words : Option (List Word)) → Plain (sort_of keys values own words)
 sort_words_plain keys values own (Some words) = sorts_plain keys values own words
 sort_words_plain keys values own None = tt

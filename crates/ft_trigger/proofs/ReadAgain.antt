@@ -190,14 +190,14 @@ pub words_of : (event : Name) (values : Option (List Word)) → If (Listed (Valu
 words_of event None h = tt
 words_of event (Some words) h = subst (Chain (ValueFits event) []) (sym h.is) h.chain
 
--- sort items that were read, or the count of hits where none were
+-- sort items that were read, or the count of hits if none were
 record Order (keys : List KeyItem) (values : List Item) (own : Option (List ℕ)) (sort : List SortItem) : Type 0 where
   word : Word
   words : List Word
   chain : Chain SortFits [] (word ∷ words)
   is : sorts_of keys values own (word ∷ words) ≡ Ok sort
 
--- where none were
+-- if none were
 hits_order : (keys : List KeyItem) (values : List Item) (own : Option (List ℕ)) (sort : List SortItem) → ◌≡◌ {A = Result (List SortItem) TriggerFault} (Ok by_hits) (Ok sort) → Order keys values own sort
 unfolding sort_by
 hits_order keys values own sort e = record {
@@ -212,7 +212,7 @@ order_of : (keys : List KeyItem) (values : List Item) (own : Option (List ℕ)) 
 order_of keys values own None sort h e = hits_order keys values own sort e
 order_of keys values own (Some words) sort h e = record { word = h.first; words = h.more; chain = h.chain; is = ap (sorts_of keys values own) (sym h.is) ∙ e }
 
--- a size that was read, or the one where none was, can be read again
+-- a size that was read, or the default one if none was, can be read again
 pub size_of_draft : (size : Option ℕ) → If SizeFits size → SizeFits (unwrap_or size 2048)
 size_of_draft None h = default_fits
 size_of_draft (Some size) h = h

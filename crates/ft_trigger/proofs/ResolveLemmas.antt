@@ -40,7 +40,7 @@ with_word hits value done = if hits then Ok done else given_or NoField value (λ
 abbrev in_front : Bool → Word → List Word → List Word
 in_front hits word words = if not hits then word ∷ words else words
 
--- what is kept, where there is no fault
+-- what is kept: the new items, or the old ones if there is a fault
 abbrev kept : List Item → Result (List Item) TriggerFault → List Item
 kept done (Ok new) = new
 kept done (Err fault) = done

@@ -93,7 +93,7 @@ text_by event text head gap tail filter h is =
     from true draft = refl
     from false draft = parts_by event (length head) (length text - length (behind_head text)) tail draft ∙ ap (λ (f : Result (Option Tree) TriggerFault). (draft >>= make_of event (length head)) >>= with_made f) is
 
--- the place of a tail counts where there is one
+-- the place of a tail counts only if there is a tail
 filter_placed : (event : Name) (text head gap tail : List ℕ) → Known text head gap tail → tail_filter event (length text - length (behind_head text)) tail ≡ tail_filter event (length head + length gap) tail
 filter_placed event text head gap tail h = elim h.place [
   | inl none ↦ ap (tail_filter event (length text - length (behind_head text))) none ∙ filter_none event _ ∙ sym (filter_none event _) ∙ ap (tail_filter event (length head + length gap)) (sym none)
@@ -157,7 +157,7 @@ tail_next event text head gap tail end filter hist cut e is =
 
 -- ---- tails
 
--- what is after `if`, where the tail is that
+-- what is after `if`, if the tail is that
 if_behind : (tail text : List ℕ) → IsIf tail text → behind_if tail ≡ Some text
 if_behind tail text h = ap behind_if h.is ∙ from h.gap h.gap_some h.gap_blank
   where
@@ -234,7 +234,7 @@ module _ (laws : OneFilter) where
           let h = behind_is (byte ∷ tail) text is in
           subst (TailIs event place (byte ∷ tail)) (sym (behind_read event place (byte ∷ tail) text (filter_of event text) h refl)) (answered text h (filter_of event text) refl)
 
-  -- so a tail says one thing, and that alone
+  -- so a tail says exactly one thing
   pub one_tail : (event : Name) (place : ℕ) (tail : List ℕ) (answer : Result (Option Tree) TriggerFault) → TailIs event place tail answer ↔ (tail_filter event place tail ≡ answer)
   one_tail event place tail answer = (tail_read event place tail answer, λ is. subst (TailIs event place tail) is (read_tail event place tail))
 

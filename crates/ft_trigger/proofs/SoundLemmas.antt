@@ -115,7 +115,7 @@ names_number : (event : Name) (word : Word) (field : Field) (b : Bool) → is_wo
 names_number event word field true is found e = no_hitcount event word.name field (bytes_same word.name (codes "hitcount") (and_parts (not word.dollar) (bytes_eq word.name (codes "hitcount")) is).1) found
 names_number event word field false is found e = numeric field (is_text field) refl e
 
--- what a word names as a value suits the event, where nothing is wrong with the word
+-- what a word names as a value suits the event, if nothing is wrong with the word
 value_sound : (event : Name) (variable : Option Var) (word : Word) (value : Item) → value_fault event word ≡ None → value_item event (own_name variable) word ≡ Some value → value_suits event variable value ≡ true
 value_sound event variable word value sound e = from word.dollar refl e
   where
@@ -151,7 +151,7 @@ values_sound event variable (word ∷ words) list values chain e =
 
 -- ---- triggers
 
--- sort items of what was read, or the one where none was
+-- sort items of what was read, or the default one if none was
 order_sound : (keys : List KeyItem) (values : List Item) (own : Option (List ℕ)) (words : Option (List Word)) (sort : List SortItem) → sort_of keys values own words ≡ Ok sort → list_all (λ item. by_suits (length keys) (length values) item.what) sort ≡ true
 order_sound keys values own None sort e = let same : by_hits ≡ sort = cc in subst (λ (l : List SortItem). list_all (λ item. by_suits (length keys) (length values) item.what) l ≡ true) same refl
 order_sound keys values own (Some words) sort e = sorts_sound keys values own words sort e
@@ -179,7 +179,7 @@ last_sound event None None var made = from (same_name event names.WakeupLatency)
 last_sound event (Some variable) onmatch var made = ap (λ b. not b || (false && not (is_some (option_map (λ action. action.onmatch) onmatch)))) var.apart_made
 last_sound event None (Some action) var made = ap (λ b. not b || (true && false)) made.apart_made
 
--- a trigger that makes no events is sound where it is with them
+-- a trigger that makes no events is sound if it is with them
 pub bare_sound : (hist : Hist) → IsSound hist → IsSound (hist_with_onmatch hist None)
 bare_sound hist h = record { keys = h.keys; values = h.values; sort = h.sort; onmatch = refl; last = from (same_name hist.event names.WakeupLatency) (is_some hist.variable) (is_some hist.onmatch) h.last }
   where

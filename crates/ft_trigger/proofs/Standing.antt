@@ -101,7 +101,7 @@ other_fault event parts more draft fault bare clean reads fails =
     grouped : (a p b m : List ℕ) → a ++ p ++ b ++ m ≡ a ++ (p ++ b ++ m)
     grouped a p b m = simp append_assoc
 
--- a text has a fault, whatever is after its parts, just where the parts have it
+-- a text has a fault, whatever is after its parts, if and only if the parts have it
 pub parts_just : (event : Name) (parts : List ℕ) (fault : TriggerFault) → list_any is_gap parts ≡ false
     → PartsFail event parts fault ↔ ((more : List ℕ) → trigger_of event (codes "hist:" ++ parts ++ codes ":" ++ more) ≡ Err fault)
 parts_just event parts fault bare = (parts_always event parts fault bare, from (parts_from event empty_draft (pieces 58 5 parts)) refl)
@@ -139,7 +139,7 @@ sorts_late keys values own (word ∷ words) fault e = from (sorts_late keys valu
     from later (Some what) (Ok sorts) is e = absurd cc
     from later (Some what) (Err found) is e = later (is ∙ (let same : found ≡ fault = cc in ap Err same))
 
--- sort items, where there are some
+-- sort items, if there are some
 order_late : (keys : List KeyItem) (values : List Item) (own : Option (List ℕ)) (words : Option (List Word)) (fault : TriggerFault) → sort_of keys values own words ≡ Err fault → fault ≡ BadSort
 order_late keys values own None fault e = absurd cc
 order_late keys values own (Some words) fault e = sorts_late keys values own words fault e

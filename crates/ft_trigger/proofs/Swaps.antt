@@ -124,7 +124,7 @@ record Adds (event : Name) (draft more : Draft) (bytes : List ℕ) : Type 0 wher
   is : with_it effect draft ≡ more
   adds : (other : Draft) (place : ℕ) → stood effect other ≡ false → with_part event other (record { place = place; bytes = bytes }) ≡ Ok (with_it effect other)
 
--- what a part of a kind adds, where it is read
+-- what a part of a kind adds, if it is read
 record KindAdds (event : Name) (draft more : Draft) (kind : Kind) (text : List ℕ) : Type 0 where
   effect : Effect
   new : stood effect draft ≡ false
@@ -223,7 +223,7 @@ module _ (event : Name) where
   none_there None h = refl
   none_there (Some x) h = absurd cc
 
-  -- a part of a kind, where it begins so
+  -- a part of a kind, if it begins so
   part_labelled : (draft : Draft) (place : ℕ) (bytes : List ℕ) (label : List ℕ × Kind) (answer : Result Draft TriggerFault) → is_part_left_out bytes ≡ false → find (λ label. starts_with ◌==◌ bytes label.0) labels ≡ Some label
       → with_kind event draft label.1 (place + length label.0) (drop (length label.0) bytes) ≡ answer → with_part event draft (record { place = place; bytes = bytes }) ≡ answer
   unfolding with_part
@@ -368,7 +368,7 @@ all_swapped (first ∷ front) a b behind h =
     let one = and_parts (is_part first) (list_all is_part (front ++ a ∷ b ∷ behind)) h in
     and_from _ _ one.0 (all_swapped front a b behind one.1)
 
--- a head's length counts where it has no keys alone
+-- a head's length counts only if it has no keys
 make_same : (event : Name) (head other : ℕ) (draft : Draft) (hist : Hist) → make_of event head draft ≡ Ok hist → make_of event other draft ≡ Ok hist
 make_same event head other draft hist e = from draft.keys e
   where

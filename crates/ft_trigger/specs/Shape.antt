@@ -21,7 +21,7 @@ Opens text = (byte : ℕ) (rest : List ℕ) → text ≡ byte ∷ rest → is_ga
 abbrev pub Closes : List ℕ → Type 0
 Closes text = (front : List ℕ) (byte : ℕ) → text ≡ front ++ byte ∷ [] → is_gap byte ≡ false
 
--- a text is a head, and then nothing, or a gap and a tail: no space and no tab is in the head or at an end of the tail, and the gap and what is after the tail are spaces and tabs alone (kernel: histogram.rst, hist triggers)
+-- a text is a head, and then nothing, or a gap and a tail: no space and no tab is in the head or at an end of the tail, and the gap and what is after the tail are only spaces and tabs (kernel: histogram.rst, hist triggers)
 pub record IsCut (text head gap tail end : List ℕ) : Type 0 where
   pub is : text ≡ head ++ gap ++ tail ++ end
   pub head_bare : list_any is_gap head ≡ false

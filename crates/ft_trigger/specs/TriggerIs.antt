@@ -43,7 +43,7 @@ without_end text = reverse (skip (reverse text))
 abbrev pub trigger_tail : List ℕ → List ℕ
 trigger_tail text = without_end (behind_head text)
 
--- what a tail has after `if` and one or more spaces or tabs, where it begins so (kernel: events.rst, `if` before a filter)
+-- what a tail has after `if` and one or more spaces or tabs, if it begins so (kernel: events.rst, `if` before a filter)
 abbrev pub behind_if : List ℕ → Option (List ℕ)
 behind_if tail = if starts_with ◌==◌ tail (codes "if") && is_gap (slice_index tail 2) then Some (skip (drop 2 tail)) else None
 
@@ -52,7 +52,7 @@ abbrev pub filter_or_fault : Result Tree FilterFault → Result (Option Tree) Tr
 filter_or_fault (Ok tree) = Ok (Some tree)
 filter_or_fault (Err fault) = Err (BadFilter fault)
 
--- the filter of a tail that begins at a place: none where it is empty (kernel: events.rst, `if` before a filter)
+-- the filter of a tail that begins at a place: none if the tail is empty (kernel: events.rst, `if` before a filter)
 unfoldable pub tail_filter : Name → ℕ → List ℕ → Result (Option Tree) TriggerFault
 tail_filter event place tail =
     if length tail == 0 then Ok None
@@ -120,7 +120,7 @@ abbrev pub reads_as : Option Var → List ℕ → Bool
 reads_as (Some (vars.Reads own source)) name = bytes_eq name own
 reads_as variable name = false
 
--- events are made of another variable than the trigger's own, which reads a stamp (kernel: histogram.rst, the `onmatch` handler)
+-- events are made of a name that isn't the trigger's own variable, or that variable reads no stamp (kernel: histogram.rst, the `onmatch` handler)
 abbrev pub hands_other : Option Var → Option Action → Bool
 hands_other variable None = false
 hands_other variable (Some action) = not (reads_as variable action.own)

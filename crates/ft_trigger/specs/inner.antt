@@ -1,2 +1,2 @@
--- Words of private functions.
+-- Definitions for private functions.
 pub mod FilterFaults

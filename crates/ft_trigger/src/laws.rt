@@ -22,14 +22,14 @@ ghost use Rattle.ft_trigger.specs.TriggerIs.{TriggerIs, trigger_of, tail_filter}
 ghost use Rattle.ft_trigger.specs.PartFaults.{PartsFail, is_late};
 ghost use Rattle.ft_trigger.specs.Shape.{Cut, IsCut, TailIs, with_tail, IsShaped};
 
-/// A law: every text is an answer on every event, and one alone.
+/// A law: every text has exactly one answer on every event.
 pub fn one_answer()
     ensures some { (event : Name) (text : List ℕ) → TriggerIs event text (trigger_of event text) }
     ensures one { (event : Name) (text : List ℕ) (answer : Result Hist TriggerFault)
         → TriggerIs event text answer → answer ≡ trigger_of event text }
 {}
 
-/// A law: the canonical text of a trigger that some text gives, gives that trigger again.
+/// A law: a trigger that some text gives is given again by its canonical text.
 pub fn reads_again()
     ensures { (event : Name) (text : List ℕ) (hist : Hist) → TriggerIs event text (Ok hist)
         → TriggerIs event (canonical hist) (Ok hist) }
@@ -69,7 +69,7 @@ pub fn cuts()
     ensures { (text : List ℕ) → Cut text }
 {}
 
-/// A law: a tail says one thing, and that alone.
+/// A law: a tail says exactly one thing.
 pub fn one_tail()
     ensures { (event : Name) (place : ℕ) (tail : List ℕ)
         (answer : Result (Option Tree) TriggerFault)
@@ -78,8 +78,8 @@ pub fn one_tail()
     ft_filter::laws::one_answer();
 }
 
-/// A law: what a text is, its head tells first. It has each fault of its head, whatever its tail
-/// is; where the head alone is a trigger, it is that trigger with what the tail says.
+/// A law: the head of a text decides first. The text has each fault of its head, whatever its tail
+/// is; if the head by itself is a trigger, the text is that trigger with what the tail says.
 pub fn heads_first()
     ensures fault { (event : Name) (text head gap tail end : List ℕ) (fault : TriggerFault)
         → IsCut text head gap tail end → TriggerIs event head (Err fault)
@@ -102,9 +102,9 @@ pub fn shapes()
     ft_filter::laws::one_answer();
 }
 
-/// A law: a fault of parts stays, whatever is after them; a text has it with every tail, and has
-/// it whatever is after the parts just where they have it. Any other fault of the text is one that
-/// is found after its parts.
+/// A law: a fault of parts stays, whatever is after them, and a text has it with every tail. If the
+/// parts have no space and no tab, a text has a fault, whatever is after them, if and only if the
+/// parts have it. Any other fault of the text is one that is found after its parts.
 pub fn faults_stay()
     ensures stays { (event : Name) (parts more : List ℕ) (fault : TriggerFault)
         → PartsFail event parts fault → PartsFail event (parts ++ codes ":" ++ more) fault }
@@ -120,8 +120,8 @@ pub fn faults_stay()
         → is_late (length (codes "hist:" ++ parts)) fault ≡ false → PartsFail event parts fault }
 {}
 
-/// A law: the parts of a head may stand in any order: any two beside each other, in the other order,
-/// make the same trigger.
+/// A law: the parts of a head may stand in any order: if a head is a trigger, swapping any two
+/// neighbours among its parts gives the same trigger.
 pub fn any_order()
     ensures { (event : Name) (front behind : List (List ℕ)) (a b : List ℕ) (hist : Hist)
         → list_all is_part (front ++ a ∷ b ∷ behind) ≡ true
@@ -137,9 +137,9 @@ pub fn one_cut()
         → AreBetween separator text texts → AreBetween separator text other → texts ≡ other }
 {}
 
-/// A law: of the parts of a head, which stand between `:`, the first that has a fault after what is
-/// read of those in front of it decides, and where none has one, what is read of all. A text has the
-/// first fault of its parts, whatever its tail is.
+/// A law: of the parts of a head, which stand between `:`, the first that has a fault, given what
+/// is read of those in front of it, decides; if none has one, the answer is what is read of all. A
+/// text has the first fault of its parts, whatever its tail is.
 pub fn first_parts()
     ensures parts { (event : Name) (text : List ℕ) (parts : List (List ℕ))
         (answer : Result Draft TriggerFault) → AreBetween 58 text parts
@@ -151,7 +151,8 @@ pub fn first_parts()
         → TriggerIs event text (Err fault) }
 {}
 
-/// A law: so it is with the items of keys, of values and of sort items, which stand between `,`.
+/// A law: the same holds for the items of keys, of values and of sort items, which stand between
+/// `,`.
 pub fn first_items()
     ensures keys { (event : Name) (place : ℕ) (text : List ℕ) (items : List (List ℕ))
         (answer : Result (List KeyItem) TriggerFault) → AreBetween 44 text items
@@ -166,9 +167,9 @@ pub fn first_items()
         → (items_of with_sort place text ≡ answer) ↔ ReadAs (of_items with_sort place) items answer }
 {}
 
-/// A law: what is read of parts tells which forms stand among them, each once, and a part's fault
-/// depends on nothing else in front of it: it is the same after all parts of the same forms. A
-/// second part of a kind is told as one that stands twice.
+/// A law: what is read of parts shows which forms stand among them, each once, and a part's fault
+/// depends on nothing else in front of it: it is the same after any parts of the same forms. A
+/// second part of a kind has the fault `Duplicate`, unless it is one that is left out.
 pub fn forms_in_front()
     ensures read { (event : Name) (front : List (List ℕ)) (draft : Draft) (form : Form)
         → AreRead (of_parts event) front draft → has_read form draft ≡ stands form front }

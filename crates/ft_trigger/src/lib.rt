@@ -1,8 +1,8 @@
 //! The trigger language: reading the texts of hist triggers. A text is a head, which is read into a
 //! draft (`ft_head`), and a tail, which is a filter or nothing; what the words of the draft name is
-//! seen once its parts are read. The canonical text of a trigger that some text gives, gives it
-//! again. What a trigger is, and what it counts events under, stands in `ft_hist`, whose items are
-//! passed on.
+//! looked up once its parts are read. A trigger that some text gives is given again by its
+//! canonical text. What a trigger is, and under which keys it counts events, stands in `ft_hist`,
+//! whose items are re-exported here.
 //!
 //! ```ignore
 //! let trigger = parse(alloc, Name::Waking, b"hist:keys=pid:vals=prio:size=130 if prio < 100")?;
@@ -22,23 +22,23 @@
 //!   first fault with its place. Lets through: running out of memory at any time; by clause
 //!   `memory` it is never reported as the filter's fault.
 //! - Law `one_answer`: every text has one answer on every event.
-//! - Laws `reads_again`, `refiltered_reads_again`: the canonical text of a trigger that some text
-//!   gives, also with another filter or none, gives that trigger again.
+//! - Laws `reads_again`, `refiltered_reads_again`: a trigger that some text gives, also with
+//!   another filter or none, is given again by its canonical text.
 //! - Law `sound_triggers`: such a trigger is of its event, within the limits, and sound.
 //! - Laws `cuts`, `one_tail`, `shapes`: every text is a head, and then nothing or a gap and a tail;
 //!   a tail says one thing; what the text of a trigger looks like.
 //! - Laws `heads_first`, `faults_stay`: a text has each fault of its head, whatever its tail is; a
 //!   fault of the head's parts stays with any parts after them.
-//! - Law `any_order`: where a text is a trigger, swapping any two neighbours among its parts gives
-//!   the same trigger.
+//! - Law `any_order`: if a text is a trigger, swapping any two neighbours among its parts gives the
+//!   same trigger.
 //! - Laws `one_cut`, `first_parts`, `first_items`: a text is cut at a separator in one way. Of the
 //!   parts of a head, and of the items of keys, values and sort items, the first that has a fault,
-//!   given what is read of those before it, decides; where none has one, the answer is what is read
-//!   of all (`specs/FirstFaults.antt`). Let through: which fault a part or an item has. The rules
-//!   `with_part`, `with_key`, `with_value` and `with_sort` alone say that.
-//! - Law `forms_in_front`: what is read of parts tells which forms stand among them, each once; a
+//!   given what is read of those before it, decides; if none has one, the answer is what is read of
+//!   all (`specs/FirstFaults.antt`). Let through: which fault a part or an item has. Only the rules
+//!   `with_part`, `with_key`, `with_value` and `with_sort` say that.
+//! - Law `forms_in_front`: what is read of parts shows which forms stand among them, each once; a
 //!   part has the same fault after any parts of the same forms; a second part of a kind has
-//!   `Duplicate`, except one that is left out (`specs/Forms.antt`).
+//!   `Duplicate`, unless it is one that is left out (`specs/Forms.antt`).
 #![tactic(auto)]
 
 pub mod laws;

@@ -103,7 +103,7 @@ fn finished(
     }
 }
 
-/// The words of a list, or none where it has not stood.
+/// The words of a list, or none if there is no list.
 fn words_in<'w, 'a>(words: &'w Option<Vec<Word<'a>>>) -> &'w [Word<'a>]
     ensures { result.now ≡ unwrap_or (option_map (λ words. words.items) words.now) [] }
 {
@@ -113,7 +113,7 @@ fn words_in<'w, 'a>(words: &'w Option<Vec<Word<'a>>>) -> &'w [Word<'a>]
     }
 }
 
-/// What events are made of, where that has stood.
+/// What events are made of, if a part says that.
 fn onmatch_of(action: &Option<Action<'_>>) -> Option<Onmatch>
     ensures { result ≡ option_map (λ action. action.onmatch) action.now }
 {

@@ -19,7 +19,7 @@ use ft_hist::{Item, KeyItem, SortBy, SortItem, Var};
 use ft_text::is_same;
 use std::alloc::Global;
 
-/// The own name of a trigger's variable, where there is one.
+/// The own name of a trigger's variable, if there is one.
 #[tactic(auto, using(crate::proofs::ResolveLemmas::own_named))]
 pub(crate) fn own_name(variable: &Option<Var>) -> Option<&[u8]>
     ensures { option_copied result ≡ own_name variable.now }
@@ -90,7 +90,8 @@ fn field_value(event: Name, name: &[u8]) -> Option<Item>
     }
 }
 
-/// Whether events are made of another variable than the trigger's own, which reads a stamp.
+/// Whether events are made of a name that isn't the trigger's own variable, or that variable reads
+/// no stamp.
 pub(crate) fn hands_other(variable: &Option<Var>, action: &Option<Action<'_>>) -> bool
     ensures { result ≡ hands_other variable.now action.now }
 {
@@ -110,7 +111,8 @@ fn reads_as(variable: &Option<Var>, name: &[u8]) -> bool
     }
 }
 
-/// What the words of sort items name, in order: by hits alone, where there are none.
+/// What the words of sort items name, in order. If there are no sort items, the trigger sorts only
+/// by hits.
 pub(crate) fn sort_of(
     alloc: Global,
     keys: &[KeyItem],

@@ -44,7 +44,7 @@ pub(crate) fn without_end(text: &[u8]) -> &[u8]
     rest
 }
 
-/// What a tail has after `if` and one or more spaces or tabs, where it begins so.
+/// What a tail has after `if` and one or more spaces or tabs, if it begins so.
 fn behind_if(tail: &[u8]) -> Option<&[u8]>
     ensures { option_copied result ≡ behind_if tail.now }
 {
@@ -55,7 +55,7 @@ fn behind_if(tail: &[u8]) -> Option<&[u8]>
     }
 }
 
-/// The filter of a tail that begins at a place: none where it is empty.
+/// The filter of a tail that begins at a place: none if the tail is empty.
 #[tactic(auto, unfolding(crate::specs::TriggerIs::tail_filter))]
 pub(crate) fn filter_in(
     alloc: Global,

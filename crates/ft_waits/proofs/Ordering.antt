@@ -92,7 +92,7 @@ entries-moved xs ys moved distinct sorted =
     ∙ sym (find-moved pos_cmp_total pos_same q xs ys moved distinct (IsDistinct-from_sorted pos_cmp (keys_of ys) sorted))
     ∙ sym (get-from_entries pos_cmp_total xs q)))
 
--- the acts of a microsecond are taken where a later one begins
+-- the acts of a microsecond are taken when a later one begins
 pub settled : (old new : Tasks) (sums sums_now : Option Summary) (held : List PlacedAct) (latest stamp : ℕ) (acts : List (Pos × Act)) (told out out_now : List Dispatch)
     → latest < stamp → Settles held old sums out new sums_now out_now → Orders old sums held latest acts (told ++ out) → Orders new sums_now [] stamp acts (told ++ out_now)
 settled old new sums sums_now held latest stamp acts told out out_now later settles orders =

@@ -115,7 +115,7 @@ plain-take n text plain =
     or-left (list_any (λ b. b == 10) (take n text)) (list_any (λ b. b == 10) (drop n text))
     (sym (list_any-append (λ b. b == 10) (take n text) (drop n text)) ∙ ap (list_any (λ b. b == 10)) (take-append-drop n text) ∙ plain)
 
--- nothing is kept only of nothing
+-- nothing is kept only if there was nothing
 pub none-kept : (rest unended : List ℕ) → unended ≡ take room rest → unended ≡ [] → rest ≡ []
 none-kept rest unended kept none =
     let size = length-take room rest in
@@ -128,7 +128,7 @@ some-kept rest unended kept some =
     let same : length unended ≡ length (take room rest) = ap length kept in
     omega (arith, size, same, some)
 
--- what is kept where nothing was
+-- what is kept if nothing was kept before
 pub kept-first : (old new rest : List ℕ) → old ≡ [] → new ≡ old ++ take (room - length old) rest → new ≡ take room rest
 kept-first old new rest none is =
     let all : room - 0 ≡ room = omega arith in

@@ -13,7 +13,7 @@ use Rattle.ft_waits.specs.declared.seam.JoinFault.{JoinFault}
 use Rattle.ft_waits.specs.declared.seam.JoinFault.TheVariants as faults
 use Rattle.ft_waits.specs.declared.stream.Waits.{Waits}
 
--- what was read before a part ends at the seam: neither sums up its tasks and CPUs, no more lines than have numbers, the part's events after the last stamp, and no hole that has begun and has not ended
+-- what was read before a part and what was read of the part fit at the seam: they leave out as many kinds of events, neither sums up its tasks and CPUs, together they have no more lines than there are numbers, the part's first event comes after the last stamp before it, and no hole has begun before it that has not ended
 pub record Fit (before part : Reading) : Type 0 where
   pub size : length before.state.left_out.items ≡ length part.state.left_out.items
   pub unsummed : before.state.sums ≡ None
@@ -30,7 +30,7 @@ pub record CanJoin (before part : Waits) : Type 0 where
   pub policy : before.reading.bad_lines ≡ part.reading.bad_lines
   pub fit : Fit before.reading part.reading
 
--- why it can't be
+-- why a part can't be joined
 abbrev pub CannotJoin : JoinFault → Waits → Waits → Type 0
 CannotJoin faults.Failed before part = before.failed ≡ None → part.failed ≡ None → ⊥
 CannotJoin faults.Unended before part = before.unended.items ≢ []

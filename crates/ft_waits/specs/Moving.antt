@@ -5,7 +5,7 @@ use Rattle.ft_fields.specs.Traced.{Traced}
 use Rattle.ft_fields.specs.declared.pos.Pos.{Pos}
 use Rattle.ft_dispatch.specs.Acts.{Act}
 
--- how many events a CPU has, of some
+-- how many of these events a CPU has
 abbrev pub count_of : List Traced → ℕ → ℕ
 count_of events cpu = count_by (λ e. e.cpu == cpu) events
 

@@ -27,7 +27,7 @@ pub struct Without {
 /// How many events are left out.
 #[derive(Drop)]
 pub struct LeftOut {
-    /// Which are.
+    /// Which events these are.
     pub without: Without,
     /// How many events have the name.
     pub events: u64,

@@ -17,15 +17,16 @@
 //!
 //! # Contracts
 //!
-//! - `Waits::new`, `feed`, `finish`: what was told of the pieces is what the whole text tells, however
-//!   it is cut: `dispatches_in` (`specs/Reading.antt`). Events count in the order of stamp, CPU and
-//!   line, as in the desk; what a dispatch is, `ft_dispatch` says. `finish` reports how many lines there
-//!   are, how many of them can't be read, and the first of these (`lines_read`); and how many switches
-//!   are missing, as far as events show it by the task that ran (`missing_in`, `specs/Missing.antt`). A
-//!   text is refused at the first line that can't be read, unless such lines are skipped, or whose stamp
-//!   is before the last event's (`refused`); otherwise it fails only for memory, and for more than
-//!   4,294,967,295 lines. A stream that failed answers the same from then on. Lets through: running out
-//!   of memory at any time; how early a dispatch is told, and which are told before a failure.
+//! - `Waits::new`, `feed`, `finish`: what was told of the pieces is what the whole text tells,
+//!   however it is cut: `dispatches_in` (`specs/Reading.antt`). Events count in the order of stamp,
+//!   CPU and line, as in the desk; `ft_dispatch` says what a dispatch is. `finish` reports how many
+//!   lines there are, how many of them can't be read, and the first of these (`lines_read`); and
+//!   how many switches are missing, as far as events show it by the task that ran (`missing_in`,
+//!   `specs/Missing.antt`). A text is refused at the first line that can't be read, unless such
+//!   lines are skipped, or whose stamp is before the last event's (`refused`); otherwise it fails
+//!   only for memory, and for more than 4,294,967,295 lines. A stream that failed answers the same
+//!   from then on. Lets through: running out of memory at any time; how early a dispatch is told,
+//!   and which are told before a failure.
 //! - `Waits::leave_out`: events of a name that pass a filter say nothing of who runs (`acts_of`, by
 //!   `specs/LeftOut.antt`): the dispatches are those of `dispatches_in` without them, and all else is
 //!   told of the whole text. `finish` reports how many events have the name, and how many of them pass
@@ -37,13 +38,15 @@
 //! - `Waits::events`, `last`: the counts and the last stamp of the lines that have ended so far; exact
 //!   (`history_so_far`). `has_begun`: whether bytes were read; exact.
 //! - `waits_in`: the same of pieces that are all there.
-//! - `Waits::join`: a text and the text after it, which another stream read from its own start, are joined as if
-//!   one stream had read both: `JoinsTexts` (`specs/Joining.antt`). Of the part's dispatches the caller keeps the first one
-//!   of each task: they are completed, and of all others only the places move (law `ft_dispatch::first_ones_join`).
-//!   Refused, with all as before, for the reasons of `CannotJoin`: so is a stream that sums up, on either side, since
-//!   who waits at the seam changes the idle time with waiters of the whole part. `meets` is the test alone, and
-//!   `join_met` joins a part that passed it. Lets through: running out of memory at any time,
-//!   after which the stream has failed; joining streams that leave out as many kinds of events, but others.
+//! - `Waits::join`: a text and the text after it, which another stream read from its own start, are
+//!   joined as if one stream had read both: `JoinsTexts` (`specs/Joining.antt`). Of the part's
+//!   dispatches the caller keeps the first one of each task: they are completed, and of all others
+//!   only the places move (law `ft_dispatch::first_ones_join`). Refused, with all as before, for
+//!   the reasons of `CannotJoin`: so is a stream that sums up, on either side, since who waits at
+//!   the seam changes the idle time with waiters of the whole part. `meets` is only the test, and
+//!   `join_met` joins a part that passed it. Lets through: running out of memory at any time, after
+//!   which the stream has failed; joining streams that leave out the same number of kinds of
+//!   events, but different kinds.
 //! - `moved_place`: a place of a part that was read apart, behind so many events of each CPU; exact,
 //!   `moved_within` (`specs/Moving.antt`). `places_move`: the law that such places are those of the whole.
 #![tactic(auto)]

@@ -14,13 +14,13 @@ use std::alloc::{AllocError, Global};
 /// Switches that are missing in a text though no line reports them, as far as its events show it.
 #[derive(Clone, Copy, Debug, PartialEq, Eq)]
 pub struct Missing {
-    /// How many events another task ran than the one that their CPU went to last.
+    /// At how many events a task ran other than the one that their CPU went to last.
     pub switches: u64,
     /// The place of the first of these events.
     pub first: Option<Pos>,
 }
 
-/// Of no CPU it is known what it runs.
+/// It is not known of any CPU what it runs.
 #[tactic(auto, unfolding(crate::specs::Missing::running))]
 pub(crate) fn none_running(alloc: Global) -> Result<Vec<Option<i32>>, AllocError>
     ensures len { IfOk result (λ running. vec_len running ≡ 8192) }

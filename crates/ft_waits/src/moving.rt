@@ -8,9 +8,9 @@ ghost use Rattle.ft_waits.specs.Reading.{place_after, acts_of, CountsEvents};
 
 use ft_fields::Pos;
 
-/// A place whose line was counted from the start of a part, counted from the start of the whole: `counts`
-/// has how many events each CPU had before the part, by its number, and none of a CPU past its end. `None`
-/// if the line is past 4,294,967,295 then.
+/// A place whose line was counted from the start of a part, counted from the start of the whole:
+/// `counts` has how many events each CPU had before the part, by the CPU's number; a CPU past the
+/// end of `counts` had none. `None` if the line is past 4,294,967,295 then.
 pub fn moved_place(place: Pos, counts: &[u32]) -> Option<Pos>
     ensures { result ≡ moved_within (slice_index counts.now) place }
 {

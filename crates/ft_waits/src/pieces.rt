@@ -19,7 +19,7 @@ use ft_summary::Summary;
 use memchr::memchr;
 use std::alloc::{AllocError, Global};
 
-/// So many bytes are kept of a line that has not ended: one more than a line may have.
+/// How many bytes are kept of a line that has not ended: one more than a line may have.
 const ROOM: usize = 4097;
 
 /// Splits off the first line of a text, if byte 10 ends it.
@@ -199,9 +199,9 @@ impl Waits {
         })
     }
 
-    /// Leaves events out of the text to come: they say nothing of who runs, and all else is as it would be
-    /// with them. Of several of these each counts the events that it leaves out. Refused for memory, and
-    /// once bytes of the text were read: the stream is as before then.
+    /// Leaves events out of the text to come: they say nothing of who runs, and all else is as it
+    /// would be with them. If there are several of these, each counts the events that it leaves
+    /// out. Refused for memory, and once bytes of the text were read: the stream is as before then.
     pub fn leave_out(&mut self, without: Without) -> Result<(), WithoutFault>
         ensures adds { OnOk result ((choice : Choice) (text : List ℕ) (told : List Dispatch)
             → HasRead choice self.old text told

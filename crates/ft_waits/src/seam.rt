@@ -121,7 +121,8 @@ impl Reading {
 }
 
 impl Waits {
-    /// Whether a part can be joined, or why not: each reason but memory for which `join` is refused.
+    /// Whether a part can be joined, or why not: each reason for which `join` is refused, except
+    /// memory.
     pub fn meets(&self, part: &Waits) -> Result<(), JoinFault>
         ensures ok { OnOk result (CanJoin self.now part.now) }
         ensures err { IfErr result (λ fault. CannotJoin fault self.now part.now) }
@@ -156,8 +157,8 @@ impl Waits {
         Ok(())
     }
 
-    /// Joins a part that can be joined (`meets`), as `join` does. Fails only for memory: the stream has
-    /// failed then.
+    /// Joins a part that can be joined (`meets`), as `join` does. Fails only if memory runs out:
+    /// the stream has failed then.
     pub fn join_met(
         &mut self,
         part: Waits,
@@ -192,11 +193,11 @@ impl Waits {
     /// and completes `ones`; of the part's other dispatches only the places move. Both texts are to be
     /// read with the same choice.
     ///
-    /// Refused, with all as before: if one of the two failed, the text before the part ends within a line,
-    /// the two don't skip the same lines or don't leave out as many kinds of events, one of the two sums up
-    /// its tasks and CPUs, they have more than 4,294,967,295 lines together, the part's first event is not
-    /// after the last stamp before it, or a CPU lost events at the seam. If memory runs out the stream has
-    /// failed.
+    /// Refused, with all as before: if one of the two failed, the text before the part ends within
+    /// a line, the two don't skip the same lines or don't leave out as many kinds of events, one of
+    /// the two sums up its tasks and CPUs, they have more than 4,294,967,295 lines together, the
+    /// part's first event is not after the last stamp before it, or a CPU lost events at the seam.
+    /// If memory runs out, the stream has failed.
     pub fn join(
         &mut self,
         part: Waits,

@@ -86,7 +86,8 @@ fn waited(dispatch: &Dispatch) -> Option<u64> {
     dispatch.place.stamp.checked_sub(began.place.stamp)
 }
 
-/// The waits of task 42 in a text, those that it has not given as none.
+/// How long task 42 waited before each of its dispatches in a text; `None` if a dispatch ends no
+/// wait.
 fn waits_of_42(alloc: Global, text: &[u8], cut: usize) -> Result<Vec<Option<u64>>, WaitsFault> {
     let read = read_cut(alloc, BadLines::Refuse, text, cut)?;
     let mut waits = Vec::new(alloc);
@@ -338,7 +339,7 @@ fn a_part_is_not_joined_if_one_of_the_two_sums_up(rt: HostRuntime) {
     assert!(rt; fault == Some(JoinFault::Overlaps));
 }
 
-/// What a stream answers that is fed a text twice.
+/// What a stream answers if it is fed a text twice.
 fn fed_twice(alloc: Global, text: &[u8]) -> Result<bool, AllocError> {
     let mut waits = Waits::new(alloc, BadLines::Refuse)?;
     let mut out = Vec::new(alloc);

@@ -89,7 +89,7 @@ unload_stays base cpu = maybe (Stay base) _ (finite.get base.lanes cpu) _ (λ _.
 
 -- ---- triggers
 
--- a look-up where a trigger was put
+-- a look-up after a trigger was put in
 ids_with : (triggers : Triggers) (id : ℕ) (hist : Hist) (q : ℕ) → is_some (finite.get (finite.insert triggers id hist) q) ≡ cond (eq_by_cmp nat_cmp q id) true (is_some (finite.get triggers q))
 ids_with triggers id hist q = ap is_some (get-insert nat_cmp_total triggers id hist q) ∙ by (eq_by_cmp nat_cmp q id)
   where
@@ -97,7 +97,7 @@ ids_with triggers id hist q = ap is_some (get-insert nat_cmp_total triggers id h
     by true = refl
     by false = refl
 
--- where one with the id is there, the same ids are
+-- if one with the id is there, the same ids are
 ids_again : (triggers : Triggers) (id : ℕ) (hist : Hist) → is_some (finite.get triggers id) ≡ true → (q : ℕ) → is_some (finite.get (finite.insert triggers id hist) q) ≡ is_some (finite.get triggers q)
 ids_again triggers id hist there q = ids_with triggers id hist q ∙ by (eq_by_cmp nat_cmp q id) refl
   where

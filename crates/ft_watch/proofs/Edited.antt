@@ -44,7 +44,7 @@ edit_told old new left word place after tables result shown is same text refused
       base = anyway result (left ≡ new) same;
     })
 
--- the tables are known where the edit was told, and else nothing is
+-- the tables are known if the edit was told, and else nothing is
 pub edit_known : (old new : Base) (before now : TextsById) (known : Known) (result : Result Performed AllocError) → new.triggers ≡ old.triggers → AreShown old before
     → OnOk result ((id : ℕ) → finite.get now id ≡ option_map (λ _. texts_at new id) (finite.get before id)) → OnOk result (known ≡ knowns.Shown) → OnErr result (known ≡ knowns.Nothing)
     → AreKnown known new now

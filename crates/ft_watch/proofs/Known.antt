@@ -12,7 +12,7 @@ use Rattle.ft_watch.specs.declared.known_tables.Known.TheVariants as knowns
 use Rattle.ft_watch.specs.inner.Told.{TextsById, AreAttached, AreKnown, attached_at_most}
 use Rattle.ft_watch.proofs.Shown.{shown_attached}
 
--- the attached triggers have tables, where at most that is known
+-- the attached triggers have tables, if at most that is known
 at_most : (known : Known) (base new : Base) (before now : TextsById) → (AreAttached base before → AreAttached new now) → AreKnown known base before → AreKnown (attached_at_most known) new now
 at_most knowns.Shown base new before now further is = further (shown_attached base before is)
 at_most knowns.Attached base new before now further is = further is

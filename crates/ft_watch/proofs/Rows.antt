@@ -36,7 +36,7 @@ found_either q (x ∷ xs) ys =
       | false ↦ found_either q xs ys
     ]
 
--- a look-up where a key's row was given a text, or taken away
+-- a look-up after a key's row was given a text, or taken away
 pub get-with_text : (key : List Part) (text : Option (List ℕ)) (table : Texts) (q : List Part) → finite.get (with_text key text table) q ≡ cond (eq_by_cmp key_cmp q key) text (finite.get table q)
 get-with_text key None table q = get-remove key_cmp_total table key q
 get-with_text key (Some text) table q = get-insert key_cmp_total table key text q
@@ -172,7 +172,7 @@ module _ (id : ℕ) (before now : Texts) where
             (sym (ap (λ o. cond (is_some o) (finite.get before e.0) (finite.get now e.0)) (not_again e rest t.sorted)))
         by q false apart = t.table q ∙ ap (λ b. cond (is_some (cond b (Some e.1) (find key_cmp q rest))) (finite.get before q) (finite.get now q)) apart
 
-  -- where no key is left, the table has the rows that it has now, and all keys are told
+  -- if no key is left, the table has the rows that it has now, and all keys are told
   pub telling_none : (keys : FinMap key_cmp (Unit {0})) (left : List (List Part × Unit {0})) (table : Texts) (told start : ChangedLines) → left ≡ [] → AreAmong keys before now → Telling keys left table told start
       → (table ≡ now) × (told ≡ with_table id before now start)
   unfolding told_rows
@@ -225,7 +225,7 @@ module _ {X : Type 0} where
       by true o = sym (or_right (is_some o) true refl)
       by false o = refl
 
-  -- where none is left, all are there
+  -- if none is left, all are there
   pub keys_at_last : (keys : Keys) (es : List (List Part × X)) → es ≡ [] → (q : List Part) → is_some (finite.get keys q) ≡ (is_some (finite.get keys q) || is_some (find key_cmp q es))
   keys_at_last keys es none q = sym (or-false (is_some (finite.get keys q))) ∙ ap (λ (l : List (List Part × X)). is_some (finite.get keys q) || is_some (find key_cmp q l)) (sym none)
 

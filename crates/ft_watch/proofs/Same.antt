@@ -61,7 +61,7 @@ module _ {K : Type 0} {R : K → K → Ordering} (total : IsTotalOrder R) (same 
         by true passes = nothing (finite.get a q) (in_a q passes) ∙ sym (nothing (finite.get b q) (in_b q passes))
         by false fails = refl
 
-    -- where both maps have each key that passes, the same keys pass in the same order
+    -- if both maps have each key that passes, the same keys pass in the same order
     pub same_keys : filter p (finite.keys a) ≡ filter p (finite.keys b)
     same_keys =
         keys-kept p a

@@ -74,7 +74,7 @@ module _ (among : RowIsAmong) (base : Base) (id : ℕ) where
       by (Some hist) attached = ap (ok_in None) (sym is ∙ row_is hist attached key)
       by None none = absurd (not_both text NoTrigger (sym is ∙ no_row none key))
 
-  -- where a row is refused, there is none
+  -- if a row is refused, there is none
   pub refused_row : (key : List Part) (refused : Refused) → row_text_shown base id key ≡ Err refused → None ≡ finite.get (texts_at base id) key
   refused_row key refused is = by (finite.get base.triggers id) refl
     where
@@ -208,7 +208,7 @@ names_rows among old new edited tables same shown reports makes =
     of_edited (Some held) None reports makes id hist attached = tt
     of_edited (Some held) (Some made) reports makes id hist attached = λ key. row_stays among old new same held.items made.items reports makes id hist attached key
 
--- where nothing is attached, no tables show all
+-- if nothing is attached, no tables show all
 pub shown_empty : (base : Base) (tables : TextsById) → base ≡ empty_base → tables ≡ finite.empty → AreShown base tables
 shown_empty base tables empty none id =
     ap (λ (t : TextsById). finite.get t id) none ∙ get-empty nat_cmp id

@@ -25,7 +25,7 @@ is_same_row None (Some now) = false
 is_same_row (Some before) None = false
 is_same_row (Some before) (Some now) = bytes_eq before now
 
--- what is printed of a row by its text before and now: nothing where they are the same, else a `-` line of the one and a `+` line of the other
+-- what is printed of a row by its text before and now: nothing if they are the same, else a `-` line of the one and a `+` line of the other
 unfoldable pub change_lines : ℕ → Option (List ℕ) → Option (List ℕ) → List ℕ
 change_lines id before now = if is_same_row before now then [] else signed_line 45 id before ++ signed_line 43 id now
 
@@ -79,6 +79,6 @@ changed_lines old new = flat_map (λ t. table_lines t.0 (texts_at old t.0) (text
 unfoldable pub changed_count : Base → Base → ℕ
 changed_count old new = sum_by (λ t. length (changed_keys (texts_at old t.0) (texts_at new t.0))) (map.entries old.triggers)
 
--- what is printed of them: their lines, and a last line that tells how many rows these are
+-- what is printed of them: their lines, and a last line with how many rows these are
 unfoldable pub changes_text : Base → Base → List ℕ
 changes_text old new = changed_lines old new ++ (codes "changed " ++ (decimal (changed_count old new) ++ codes "\n"))

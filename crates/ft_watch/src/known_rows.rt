@@ -51,7 +51,7 @@ impl KnownRows {
         }
     }
 
-    /// The table of some rows; of two with one key, the first. Refused for memory.
+    /// The table of some rows; if two have one key, it has the first. Refused for memory.
     fn of_rows(alloc: Global, rows: Vec<TableRow>) -> Result<KnownRows, AllocError>
         ensures { IfOk result (λ table. table ≡ texts_of rows.items) }
     {

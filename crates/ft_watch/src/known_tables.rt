@@ -103,7 +103,7 @@ impl KnownTables {
         Ok(())
     }
 
-    /// Takes the table of a trigger away that was removed, where this was known before.
+    /// Takes away the table of a trigger that was removed; `known` is what was known before that.
     pub(crate) fn remove(&mut self, known: Known, id: u32)
         ensures by_id { seen nat_cmp self.new.by_id ≡ map.remove (seen nat_cmp self.old.by_id) id }
         ensures known { self.new.known ≡ attached_at_most known }
@@ -209,8 +209,8 @@ fn report_all<B: Board>(
     })
 }
 
-/// Adds the lines of a table's rows that changed by an edit, by the rows that the edit names, where it
-/// names some, and takes the rows that it has now. Refused for memory.
+/// Adds the lines of a table's rows that changed by an edit, by the rows that the edit names, if it
+/// gives both `report` and `made`, and takes the rows that the table has now. Refused for memory.
 fn add_changes<B: Board>(
     table: &mut KnownRows,
     desk: &mut Desk<B>,

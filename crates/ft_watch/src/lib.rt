@@ -1,7 +1,7 @@
-//! A desk whose tables are watched: after each accepted insert or strike of a script stand the rows
-//! that it changed, as `hist` prints them, and how many they are. What changed is looked for among
-//! the rows that the board names, where it names some, and else among all rows; what is printed is
-//! the same. And the program `histwatch`, all but its `main`.
+//! A desk whose tables are watched: after each accepted insert or strike of a script, the rows that
+//! it changed are printed as `hist` prints them, and how many they are. What changed is looked for
+//! among the rows that the board names, if it gives both `report` and `made`, and else among all
+//! rows; what is printed is the same. And the program `histwatch`, except its `main`.
 //!
 //! ```ignore
 //! let mut watch = Watch::new(alloc, KeptBoard::new(alloc));
@@ -14,15 +14,15 @@
 //!
 //! # Contracts
 //!
-//! - `Watch`, an `Interpreter`, over every board: `watched` (`specs/Watched.antt`). A command means what
-//!   it means to a desk. An accepted insert or strike prints also `changes_text` of the bases
-//!   before and after it (`specs/ChangedRows.antt`): of each attached trigger in order of id, and of
-//!   each key of its rows before or after in order, a `-` line of the row that was and a `+` line
-//!   of the row that is, where they differ; and then `changed N`, N the number of these rows.
-//!   Exact, whatever rows the board names. Lets through: running out of memory at any time, after
-//!   which the watch answers nothing else to an insert or a strike.
-//! - `run_watch`, over every reader and writer: `RunEnds` of `watched`. How often its reader is
-//!   asked and its writer flushed, `run_counted` over a `Watch` says. Lets through: what `run`
+//! - `Watch`, an `Interpreter`, over every board: `watched` (`specs/Watched.antt`). A command means
+//!   what it means to a desk. An accepted insert or strike prints also `changes_text` of the bases
+//!   before and after it (`specs/ChangedRows.antt`): of each attached trigger in order of id, and
+//!   of each key of its rows before or after in order, a `-` line of the row that was and a `+`
+//!   line of the row that is, if they differ; and then `changed N`, where N is the number of these
+//!   rows. Exact, whatever rows the board names. Lets through: running out of memory at any time,
+//!   after which the watch answers nothing else to an insert or a strike.
+//! - `run_watch`, over every reader and writer: `RunEnds` of `watched`. `run_counted` over a
+//!   `Watch` says how often its reader is asked and its writer flushed. Lets through: what `run`
 //!   does.
 //! - `histwatch`: the exit status is at most 2, as that of `histdesk`. Lets through: what goes to
 //!   standard error.

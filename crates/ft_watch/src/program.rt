@@ -1,4 +1,4 @@
-//! Running a script over a watch, and the program, all but its `main`.
+//! Running a script over a watch, and the program, except its `main`.
 
 ghost use Rattle.std.specs.Prelude.{◌≡◌, ◌≤◌, map};
 ghost use Rattle.ft_answers.specs.Base.{empty_base};
@@ -15,11 +15,11 @@ use std::rt::{Env, Files};
 const NAME: &str = "histwatch";
 
 /// Runs a script as `ft_desk::run` does, over a watch of a board on which nothing is held or
-/// attached: after what an accepted insert or strike prints stand the rows that it changed.
+/// attached: after its own text, an accepted insert or strike prints also the rows that it changed.
 ///
-/// Fails as `ft_desk::run` does, and for memory also where rows that changed find none: the output of
-/// the commands before is then written whole. How often it asks its reader and flushes its writer is
-/// told by `ft_desk::run_counted`, over a `Watch`.
+/// Fails as `ft_desk::run` does, and for memory also if rows that changed find none: the output of
+/// the commands before is then written whole. `ft_desk::run_counted`, over a `Watch`, says how
+/// often it asks its reader and flushes its writer.
 pub fn run_watch<B: Board, R: BufRead, W: Write>(
     alloc: Global,
     board: B,
@@ -38,9 +38,8 @@ pub fn run_watch<B: Board, R: BufRead, W: Write>(
     run_counted(&mut watch, files, &mut script, &mut out)
 }
 
-/// The whole program, over a board that holds nothing: its exit status, 0 where each command of the
-/// script was accepted, 1 where some was refused, and 2 after a fault, which goes to standard
-/// error.
+/// The whole program, over a board that holds nothing: its exit status, 0 if each command of the
+/// script was accepted, 1 if some was refused, and 2 after a fault, which goes to standard error.
 pub fn histwatch<P, B>(rt: &P, board: B) -> u8
 where
     P: Env + Files + Input + Print + Eprint + AllocGlobal,

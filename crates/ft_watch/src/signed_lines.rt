@@ -57,8 +57,8 @@ impl SignedLines {
         self.lines
     }
 
-    /// Adds what is printed of a trigger's row, of which the one was the text and the other is.
-    /// Refused for memory.
+    /// Adds what is printed of a trigger's row, by its text before and its text now. Refused for
+    /// memory.
     pub(crate) fn with_row(
         self,
         id: u32,

@@ -20,7 +20,7 @@ use ft_script::{Command, Numbered, done_line, read_command};
 use std::alloc::{AllocError, Global};
 use std::marker::Model;
 
-/// A desk that does a script's lines, and tells of each accepted insert and strike which rows it
+/// A desk that does a script's lines, and prints for each accepted insert and strike which rows it
 /// changed.
 ///
 /// Contracts see what they see of its board.
@@ -57,11 +57,11 @@ impl<B: Board> Interpreter for Watch<B> {
     }
 
     /// Does what a line of a script asks for, as `ft_desk::perform` does. After what that prints of
-    /// an accepted insert or strike stand the lines of the rows that it changed, in order of trigger
-    /// id, then key, and a line with their number.
+    /// an accepted insert or strike, this prints the lines of the rows that changed, in order of
+    /// trigger id, then key, and a line with their number.
     ///
-    /// Fails for memory alone, also where it is the rows' texts that find none; then the edit may
-    /// have been made, and the watch is of no use any more.
+    /// Fails only for memory, also if it is the rows' texts that find none; then the edit may have
+    /// been made, and the watch is of no use any more.
     fn perform(&mut self, files: &[Vec<u8>], line: &[u8]) -> Result<Performed, AllocError> {
         self.obey(files, line)
     }

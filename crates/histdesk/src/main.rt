@@ -1,6 +1,6 @@
-//! `histdesk [SCRIPT [TRACE]...]`: hist triggers over the text of a tracefs trace. The script has a
-//! command each line; without it, or where it is `-`, it is standard input, and `@1` in it is the
-//! first trace. This is `ft_desk` over the board that keeps tables.
+//! `histdesk [SCRIPT [TRACE]...]`: hist triggers over the text of a tracefs trace. The script has
+//! one command on each line, and `@1` in it is the first trace; without SCRIPT, or if it is `-`,
+//! the script is standard input. This is `ft_desk` over the board that keeps tables.
 //!
 //! ```text
 //! $ printf 'load @1\nattach sched_waking hist:keys=pid\ntotals 1\n' | histdesk - two-wakings.trace

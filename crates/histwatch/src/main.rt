@@ -1,6 +1,7 @@
-//! `histwatch [SCRIPT [TRACE]...]`: `histdesk`, and after the line of each accepted insert or strike
-//! the rows that it changed, as they were, with `-` in front, and as they are, with `+` in front, and
-//! a line with the number of these rows. This is `ft_watch` over the board that keeps tables.
+//! `histwatch [SCRIPT [TRACE]...]`: `histdesk` that also prints, after the line of each accepted
+//! insert or strike, the rows that it changed, as they were, with `-` in front, and as they are,
+//! with `+` in front, and a line with the number of these rows. This is `ft_watch` over the board
+//! that keeps tables.
 //!
 //! ```text
 //! $ printf 'load @1\nattach sched_waking hist:keys=pid\nstrike 1:2\n' | histwatch - two-wakings.trace

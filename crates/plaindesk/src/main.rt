@@ -1,4 +1,4 @@
-//! `plaindesk [SCRIPT [TRACE]...]`: `histdesk` over the board that keeps no tables, and replays at
+//! `plaindesk [SCRIPT [TRACE]...]`: `histdesk` over the board that keeps no tables and replays at
 //! each answer: the slow way, to compare with.
 #![tactic(auto)]
 

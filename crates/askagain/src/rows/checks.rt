@@ -93,7 +93,7 @@ fn is_run<B: Board>(alloc: Global, board: B, row: &Row) -> Result<bool, AllocErr
     let mut out = Vec::new(alloc);
     match run(alloc, board, row.traces.as_slice(), &mut script, &mut out) {
         Ok(status) => Ok(gives(row, out.as_slice(), status)),
-        // Writing to memory fails for memory alone.
+        // Writing to memory fails only if memory runs out.
         Err(RunFault::Memory | RunFault::Write) => Err(AllocError),
         Err(RunFault::Read) => Ok(false),
     }
@@ -160,8 +160,8 @@ impl<K: Board, P: Board> Desks<K, P> {
         Ok(())
     }
 
-    /// Does a line over both desks, where it has to give the same. Neither may be deferred then: so
-    /// an edit that was accepted has answered `Now`.
+    /// Does a line over both desks; it has to give the same over both. Neither desk may be deferred
+    /// then: so an edit that was accepted has answered `Now`.
     fn perform_line(
         &mut self,
         alloc: Global,

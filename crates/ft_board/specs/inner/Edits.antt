@@ -20,7 +20,7 @@ pub record Edit : Type 0 where
 abbrev pub pos_at : Place → ℕ → Pos
 pos_at place stamp = record { stamp = stamp; cpu = place.cpu; line = place.line }
 
--- by an edit of this sign the event at a place comes or goes, which a base holds
+-- an edit of this sign, by which the event that a base holds at a place comes or goes
 pub record IsEdit (sign : Sign) (base : Base) (pos : Pos) (edit : Edit) : Type 0 where
   pub same_before : edit.old.triggers ≡ base.triggers
   pub same_after : edit.new.triggers ≡ base.triggers
@@ -35,7 +35,7 @@ AreBefore sign base pos views = AreOf base.triggers (events_before sign (merged 
 abbrev pub AreAfter : Sign → Base → Pos → Views → Type 0
 AreAfter sign base pos views = AreOf base.triggers (events_after sign (merged base.lanes) pos) views
 
--- the rows that are named are reports of the bases before and after; where no shelves are left, none are named
+-- the rows that are named are reports of the bases before and after; if no shelves are left, none are named
 abbrev pub ReportsEdit : Edit → Views → Edited → Type 0
 ReportsEdit edit views edited =
     (IfSome edited.report (λ rows. IsReport edit.old edit.new rows.items) × (views.shelves ≡ None → edited.report ≡ None))

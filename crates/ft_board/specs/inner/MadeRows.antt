@@ -32,7 +32,7 @@ keys_counted triggers events changes made t = if counts_made t.1 then keys_named
 unfoldable pub updated_rows : Triggers → Events → List ReadingChange → MadeTables → List Changed
 updated_rows triggers events changes made = rows_by (keys_counted triggers events changes made) triggers
 
--- rows have each that differs between these tables and those of what readings find; each is of an attached trigger that counts made events, and none is twice among them
+-- rows include each one that differs between these tables and those of what readings find; each is of an attached trigger that counts made events, and none is there twice
 pub record AreUpdatedRows (triggers : Triggers) (events : Events) (now : Findings) (made : MadeTables) (rows : List Changed) : Type 0 where
   pub once : IsDistinct same_row rows
   pub counted : (id : ℕ) (key : List Part) → is_reported rows id key ≡ true → (hist : Hist) × ((map.get triggers id ≡ Some hist) × (counts_made hist ≡ true))

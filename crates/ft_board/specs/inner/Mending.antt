@@ -16,7 +16,7 @@ use Rattle.ft_board.specs.declared.mend.Basis.TheVariants.{Changes, Shelves}
 use Rattle.ft_board.specs.declared.mend.Mending.{Mending}
 use Rattle.ft_board.specs.inner.Readings.{readings_on}
 
--- tables of made events are those of what readings found, and what is told of these leads to what they find, where it is told
+-- tables of made events are those of what readings found; if changes of readings are told, they lead from that to what readings find now
 pub record CanMendTo (triggers : Triggers) (events : Events) (told : Option (List ReadingChange)) (now : Findings) (tables : MadeTables) : Type 0 where
   pub found : Findings
   pub made : AreMadeBy triggers events found tables
@@ -34,7 +34,7 @@ triggers_in mending = mending.content.now.triggers
 abbrev pub events_in : Mending → Events
 events_in mending = merged mending.content.now.lanes
 
--- a trigger's table can be brought up to date: by changes it can where it is made of what readings found, from which they lead on
+-- a trigger's table can be brought up to date: by changes if it is made of what readings found and they lead on from there, by shelves always
 abbrev pub CanUpdateBy : Triggers → Events → Basis → Hist → Tabled → Type 0
 CanUpdateBy triggers events (Changes changes) hist table = CanUpdate triggers events changes.now hist table
 CanUpdateBy triggers events (Shelves tables) hist table = ⊤
@@ -44,10 +44,10 @@ abbrev pub UpdatesBy : Triggers → Events → Basis → Hist → Tabled → Tab
 UpdatesBy triggers events (Changes changes) hist old new = IsUpdated triggers events changes.now hist old new
 UpdatesBy triggers events (Shelves tables) hist old new = IsMadeTable triggers events (found_in (readings_on tables.now)) hist new
 
--- the same by what tables are brought up to date by
+-- a trigger's table can be brought up to date, with the triggers, the events and the basis of a mending
 abbrev pub CanUpdateTo : Mending → Hist → Tabled → Type 0
 CanUpdateTo mending = CanUpdateBy (triggers_in mending) (events_in mending) mending.basis
 
--- the same
+-- it is brought up to date, with these
 abbrev pub Updates : Mending → Hist → Tabled → Tabled → Type 0
 Updates mending = UpdatesBy (triggers_in mending) (events_in mending) mending.basis

@@ -6,7 +6,7 @@ use Rattle.ft_kept.specs.Shelves.{Readings, Shelves}
 use Rattle.ft_replay.specs.declared.pair.Pair.{Pair}
 use Rattle.ft_replay.specs.Found.{pairs_in}
 
--- what the readings of the trigger with an id found: nothing, where it has no shelf
+-- what the readings of the trigger with an id found: nothing if it has no shelf
 abbrev pub readings_on : Shelves → ℕ → Readings
 readings_on shelves id = option_map_or (λ shelf. shelf.readings) (map.get shelves id) map.empty
 

@@ -24,7 +24,7 @@ use Rattle.ft_board.specs.inner.Readings.{readings_on}
 abbrev pub made_in : Views → MadeTables
 made_in views = seen nat_cmp views.made
 
--- where there are shelves, they are kept of triggers and events, and so are the tables of made events
+-- if there are shelves, they are kept of triggers and events, and so are the tables of made events
 abbrev pub AreOf : Triggers → Events → Views → Type 0
 AreOf triggers events views = IfSome views.shelves (AreKept triggers events) × IfSome views.shelves (λ _. AreMadeBy triggers events (saving_found triggers events) (made_in views))
 
@@ -32,19 +32,19 @@ AreOf triggers events views = IfSome views.shelves (AreKept triggers events) × 
 abbrev pub AreFresh : Base → Views → Type 0
 AreFresh base views = AreOf base.triggers (merged base.lanes) views
 
--- each attached trigger that counts made events, but one, has the table of all that a base's readings make
+-- each attached trigger that counts made events, except one, has the table of all that a base's readings make
 abbrev pub AreMadeBut : ℕ → Base → MadeTables → Type 0
 AreMadeBut id base made = OfEachCounted base.triggers (λ other hist.
     (other ≡ id → ⊥) → IsMadeTable base.triggers (merged base.lanes) (saving_found base.triggers (merged base.lanes)) hist (made_on made other hist))
 
--- the tables of made events are right, where there are shelves, once the trigger with an id has its own, whatever shelf it gets, if it leaves those alone that make such events
+-- if there are shelves, and the trigger with an id leaves alone those that make events, then once it has its shelf, whatever that is, all tables of made events except its own are right
 abbrev pub AwaitTrigger : ℕ → Base → Views → Type 0
 AwaitTrigger id base views = IfSome views.shelves (λ _. LeavesMakers base.triggers id → (shelves : Shelves) → AreKeptOf base shelves → AreMadeBut id base (made_in views))
 
--- the tables of made events can be mended, where there are shelves, by what was told of their readings
+-- if there are shelves, the tables of made events can be mended by what was told of their readings
 abbrev pub CanBeMended : Base → Option (List ReadingChange) → Views → Type 0
 CanBeMended base told views = IfSome views.shelves (λ shelves. CanMendTo base.triggers (merged base.lanes) told (found_in (readings_on shelves)) (made_in views))
 
--- how an edit ends: it answers whether there are shelves; where there were none there are none, and no count of steps falls; where there are none, no table of made events is kept either
+-- how an edit ends: it answers whether there are shelves; if there were none, there are none; no count of steps falls; if there are none, no table of made events is kept either
 abbrev pub EndsAs : Kept → Views → Views → Type 0
 EndsAs kept old new = (kept ≡ kept_of (is_none new.shelves)) × ((old.shelves ≡ None → new.shelves ≡ None) × (StepsGrow old.work new.work × (new.shelves ≡ None → made_in new ≡ map.empty)))

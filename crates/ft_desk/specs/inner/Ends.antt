@@ -1,4 +1,4 @@
--- How the program ends, by what its words name and what is told of its files. All of it is our own choice.
+-- How the program ends, by what its arguments name and what is told of its files. All of it is our own choice.
 use Rattle.std.specs.Prelude.{◌≡◌, ⊤, ℕ, List, [], ◌∷◌, ◌++◌, Option, Some, None, Result, Ok, Err}
 use Rattle.std.specs.Option.{option_map_or}
 use Rattle.ft_script.specs.Files.{FileAt, Bytes, Missing, Untold}
@@ -10,7 +10,7 @@ use Rattle.ft_desk.specs.Output.{Meaning, output_by}
 use Rattle.ft_desk.specs.Program.{TellsFiles, FailsFirst}
 use Rattle.ft_desk.specs.Run.{status_of}
 
--- the status of a script that has these bytes, where they are told
+-- the status of a script that has these bytes, if they are told; a missing script has none
 abbrev pub StatusTells : Meaning → FileAt → Status → Type 0
 StatusTells means (Bytes script) status = status ≡ status_of (output_by means script).refused
 StatusTells means Missing status = ⊥
@@ -30,15 +30,15 @@ abbrev pub told_of_script : (List ℕ → FileAt) → Option (List ℕ) → File
 told_of_script told (Some path) = told path
 told_of_script told None = Untold
 
--- the paths that words name, in the order in which they are read: the script's is the last
+-- the paths that the arguments name, in the order in which they are read: the script's is the last
 abbrev pub paths_of : Named → List (List ℕ)
 paths_of words = words.traces ++ option_map_or (λ path. path ∷ []) words.script []
 
--- the script that the words name is run with the files at the paths that they name
+-- the script that the arguments name is run with the files at the paths that they name
 abbrev pub Runs : (List (List ℕ) → Meaning) → (List ℕ → FileAt) → Option Named → Result Status Fault → Type 0
 Runs means told named result = (words : Named) × (files : List (List ℕ)) × (named ≡ Some words) × TellsFiles told words.traces files × RunTells (means files) (told_of_script told words.script) result
 
--- how the program ends: words that name nothing are refused, the first path that cannot be read is told, and else the script is run
+-- how the program ends: arguments that name nothing are refused, the first path that cannot be read is reported, and else the script is run
 abbrev pub ProgramEnds : (List (List ℕ) → Meaning) → (List ℕ → FileAt) → Option Named → Result Status Fault → Type 0
 ProgramEnds means told named (Err Memory) = ⊤
 ProgramEnds means told named (Err Words) = named ≡ None

@@ -22,12 +22,12 @@ abbrev pub PrintsEdit : {T : Type 0} → (T → List ℕ) → List ℕ → Resul
 PrintsEdit {T = T} shown word edit result =
     (old new : Shown) (after : Result (Base × T) Refused) → EditGives (λ value. value) after old new edit → Prints (edit_outcome shown old.base word after) new.base result
 
--- what an edit of one event says by its place, the edit that gives the place alone says too
+-- what an edit of one event says by its place, the edit that gives only the place says too
 abbrev pub TellsPlace : Result (Done Edited) Refused → Result (Done Place) Refused → Type 0
 TellsPlace edit result =
     (old new : Shown) (after : Result (Base × Place) Refused) → EditGives (λ edited. edited.place) after old new edit → EditGives (λ place. place) after old new result
 
--- what was printed is the outcome of any answer that is this, the base as it was
+-- what was printed is the outcome of any answer that is this, with the base as it was
 abbrev pub PrintsAnswer : {S T : Type 0} → (S → T) → (T → List ℕ) → Result S Refused → Result Performed AllocError → Type 0
 PrintsAnswer {T = T} view shown answer result =
     (old new : Base) (expected : Result T Refused) → new ≡ old → AnswerIs view expected answer → Prints (answer_outcome shown old expected) new result

@@ -57,7 +57,7 @@ fn one_latency(rt: HostRuntime) -> Result<(), Fail> {
     Ok(())
 }
 
-/// Whether rows are just one, with this key and this text.
+/// Whether there is exactly one row, with this key and this text.
 fn is_only(rows: &[TableRow], key: Key, text: &[u8]) -> bool {
     match rows.first() {
         Some(row) => rows.len() == 1 && row.key == key && row.text.as_slice() == text,
@@ -73,8 +73,8 @@ fn is_there(found: Option<Vec<u8>>, text: &[u8]) -> bool {
     }
 }
 
-/// Whether a board tells a table's rows one by one, and the row of a key alone, where the key is in
-/// the table.
+/// Whether a board tells a table's rows one by one, and the row of one key by itself, if the key is
+/// in the table.
 fn tells_rows<B: Board>(alloc: Global, board: B) -> Result<bool, Refused> {
     let mut board = measuring(alloc, board)?;
     let (key, other) = (Key::of_one(Part::Num(42)), Key::of_one(Part::Num(43)));
@@ -94,7 +94,7 @@ fn one_row(rt: HostRuntime) -> Result<(), Fail> {
     Ok(())
 }
 
-/// A board that measures. Where memory ran out for one, it is made of the other.
+/// A board that measures. If memory ran out for one, it is made of the other.
 fn measuring_at_last<B: Board>(alloc: Global, board: B, other: B) -> Result<B, Refused> {
     match measuring(alloc, board) {
         Err(Refused::Memory) => measuring(alloc, other),
@@ -102,7 +102,7 @@ fn measuring_at_last<B: Board>(alloc: Global, board: B, other: B) -> Result<B, R
     }
 }
 
-/// Whether a board measures once. It is asked once more where memory ran out.
+/// Whether a board measures once. It is asked once more if memory ran out.
 fn measures_at_last<B: Board>(alloc: Global, board: B, other: B) -> Result<bool, Refused> {
     let mut board = measuring_at_last(alloc, board, other)?;
     match has_one_latency(&mut board) {

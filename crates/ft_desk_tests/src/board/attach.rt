@@ -2,7 +2,7 @@
 
 use super::*;
 
-/// Attaches a trigger, once more where memory ran out: its id.
+/// Attaches a trigger, once more if memory ran out: its id.
 fn attach_at_last<B: Board>(
     alloc: Global,
     board: &mut B,
@@ -14,8 +14,8 @@ fn attach_at_last<B: Board>(
     }
 }
 
-/// Attaches a saver and its reader, each once more where memory ran out: their ids. A refusal uses
-/// up no id.
+/// Attaches a saver and its reader, each once more if memory ran out: their ids. A refusal uses up
+/// no id.
 fn attach_both<B: Board>(alloc: Global, mut board: B) -> Result<[u32; 2], Refused> {
     let saver = attach_at_last(alloc, &mut board, SAVER)?;
     let reader = attach_at_last(alloc, &mut board, READER)?;

@@ -9,8 +9,7 @@ const LINES: [Line; 2] = [
     (Waking(42), 2, 6_012_000_200),
 ];
 
-/// Loads wakings on two CPUs, once more where memory ran out: how many. A refused load leaves no
-/// lane.
+/// Loads wakings on two CPUs, once more if memory ran out: how many. A refused load leaves no lane.
 fn load_at_last<B: Board>(alloc: Global, mut board: B) -> Result<u64, Refused> {
     match load_lines(alloc, &mut board, &LINES) {
         Err(Refused::Memory) => load_lines(alloc, &mut board, &LINES),

@@ -23,7 +23,7 @@ fn names(done: &Done<Edited>, rows: &[Changed]) -> bool {
     }
 }
 
-/// Whether a switch touches its reader's table alone, a waking those of its saver and of the
+/// Whether a switch touches only its reader's table, and a waking those of its saver and of the
 /// reader.
 fn names_rows<B: Board>(alloc: Global, board: B) -> Result<bool, Refused> {
     let mut board = board_with(alloc, board, &[WAKING], &[SAVER, READER])?;

@@ -25,8 +25,8 @@ fn lists<B: Board>(board: &B, text: Option<&[u8]>) -> bool {
     }
 }
 
-/// Inserts a waking on CPU 1, once more where memory ran out: its place. A refusal leaves the lane
-/// as it was, which lists that text.
+/// Inserts a waking on CPU 1, once more if memory ran out: its place. A refusal leaves the lane as
+/// it was, which lists that text.
 fn insert_at_last<B: Board>(
     board: &mut B,
     stamp: u64,
@@ -40,7 +40,7 @@ fn insert_at_last<B: Board>(
     }
 }
 
-/// Whether CPU 1 lists both wakings. It is asked once more where memory ran out.
+/// Whether CPU 1 lists both wakings. It is asked once more if memory ran out.
 fn lists_both<B: Board>(board: &B) -> bool {
     let text = match board.list(1) {
         Err(Refused::Memory) => board.list(1),

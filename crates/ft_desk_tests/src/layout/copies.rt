@@ -87,7 +87,8 @@ fn places_and_triggers_are_copied(rt: HostRuntime) -> Result<(), Fail> {
     Ok(())
 }
 
-/// Pushes an event of no task on CPU 1, at stamp 5: its line. None where memory ran out, or the lane's numbers.
+/// Pushes an event of no task on CPU 1, at stamp 5: its line. None if memory or the lane's numbers
+/// ran out.
 fn pushed(lanes: &mut Lanes) -> Option<u32> {
     let mut event = Event::blank();
     event.cpu = 1;

@@ -9,7 +9,7 @@ use Rattle.ft_fields.specs.Traced.{Traced}
 use Rattle.ft_fields.specs.declared.event.Body.TheVariants as bodies
 use Rattle.ft_event.specs.Line.{◌>>=◌, line_with, turn_from}
 
--- the event of these columns, where this was traced
+-- the event of these columns, with what was traced
 abbrev pub traced_with : Front → Body → Traced
 traced_with front body = record { task = front.task.now; pid = front.pid; cpu = front.cpu; stamp = front.stamp; body = body }
 

@@ -28,7 +28,7 @@ abbrev pub count_or_none : Option (ℕ × List ℕ) → List ℕ → Option ℕ 
 count_or_none None text = (None, text)
 count_or_none (Some count) text = (Some count.0, count.1)
 
--- the mark, where the text is the label and nothing more
+-- the mark, if the text is the label and nothing more
 abbrev pub closed_by : List ℕ → List ℕ → Mark → Option Mark
 closed_by label text mark = if is_at_end (behind label text) then Some mark else None
 

@@ -13,7 +13,7 @@ pub record Notes (key : List Part) (old new : Grouped) : Type 0 where
   pub keys : (q : List Part) → list_any (same_key q) new.keys ≡ (list_any (same_key q) old.keys || same_key q key)
   pub runs : (q : List Part) → run_of new q ≡ run_of old q
 
--- an event comes after those of its key, which is noted, if it has a key
+-- if an event has a key, the key is noted, and the event comes after those of its key
 pub record Adds (key : Option (List Part)) (event : Pos × Traced) (old new : Grouped) : Type 0 where
   pub keys : (q : List Part) → list_any (same_key q) new.keys ≡ (list_any (same_key q) old.keys || option_map_or (same_key q) key false)
   pub runs : (q : List Part) → run_of new q ≡ run_of old q ++ (if option_map_or (same_key q) key false then event ∷ [] else [])

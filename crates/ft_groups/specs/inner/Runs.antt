@@ -15,7 +15,7 @@ use Rattle.ft_store.specs.declared.stored.Stored.{Stored}
 use Rattle.ft_groups.specs.Grouped.{Grouped, referenced_events}
 use Rattle.ft_groups.specs.declared.runs.Runs.{Runs}
 
--- the events with their places of the run at an index, none after the last
+-- the events of the run at an index, with their places; none after the last run
 abbrev pub nth_run : List (Vec (Bor (Pos × Stored)) Global) → ℕ → List (Pos × Traced)
 nth_run runs index = option_map_or (λ run. referenced_events run.items) (slice_get runs index) []
 

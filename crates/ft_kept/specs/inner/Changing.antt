@@ -30,11 +30,11 @@ pub record MayChange (act : Act) (acts : Acts) (shelves : Shelves) : Type 0 wher
   pub counts : hit act.trigger.now act.event.now ≡ Some act.key
   pub was : acts act.at ≡ act_before act.sign (act.key, act.event.now)
 
--- the acts as it has come or gone
+-- the acts after it has come or gone
 abbrev pub acts_after : Act → Acts → Acts
 acts_after act acts = set acts act.at (act_after act.sign (act.key, act.event.now))
 
--- what was recorded says how shelves changed, and few keys were recorded, where one trigger was asked
+-- what was recorded says how shelves changed, and few keys were recorded, if one trigger was asked
 abbrev pub HasToldAct : Act → Changes → Changes → Shelves → Shelves → Type 0
 HasToldAct act = HasToldFew ((act.at.trigger, act.trigger.now) ∷ [])
 
@@ -51,7 +51,7 @@ pub record IsInPlace (act : Act) (acts : Acts) (old new : Shelves) : Type 0 wher
   pub stays : StaysBut act.at (kept_on old) (kept_on new)
   pub right : IsRight (role_on old) (values_by (triggers_of act.scene)) (acts_after act acts) (kept_on new) act.at
 
--- the act as a change of its trigger's hits, where it reads nothing
+-- the act as a change of its trigger's hits, if it reads nothing
 abbrev pub change_by : Sign → Act → HitChange
 change_by Insert act = changes.Insert (record { spot = traced act.at.pos; key = act.key; values = values_at act.trigger.now act.at.pos act.event.now None })
 change_by Retract act = changes.Retract (record { spot = traced act.at.pos; key = act.key })

@@ -26,7 +26,7 @@ pub record OneHitChanges (pos : Pos) (key : List Part) (values : Option (List �
   pub hit : map.get after.table.hits (mark_at pos key) ≡ values
   pub hits : (m : Mark) → (m ≡ mark_at pos key → ⊥) → map.get after.table.hits m ≡ map.get shelf.table.hits m
 
--- hits and readings stay as they were but at one place
+-- hits and readings stay as they were, except at one place
 abbrev pub StaysBut : At → Kept → Kept → Type 0
 StaysBut at old new = (q : At) → (q ≡ at → ⊥) → ((key : List Part) → hits_here new q key ≡ hits_here old q key) × (read_here new q ≡ read_here old q)
 

@@ -5,7 +5,7 @@ use Rattle.ft_fields.specs.declared.key.Part.{Part}
 use Rattle.ft_pairs.specs.declared.at.At.{At}
 use Rattle.ft_kept.specs.Acts.{Acts}
 
--- the acts are the same but at one place, where this act stands on one side alone
+-- the acts are the same, except at one place, where this act stands on only one side
 pub record IsOneAct (at : At) (act : List Part × Traced) (before after : Acts) : Type 0 where
   pub elsewhere : (q : At) → (q ≡ at → ⊥) → after q ≡ before q
   pub here : ((before at ≡ None) × (after at ≡ Some act)) ⊎ ((before at ≡ Some act) × (after at ≡ None))

@@ -72,7 +72,7 @@ pub record NextIsSettled (scene : Scene) (acts : Acts) (variable : Variable) (af
   pub is_next : IsNext ((kept_on old).ops variable) (Some after) next
   pub settled : AreSettled scene acts (IsReadAt next) old new
 
--- at a place stands a read of a variable whose key came into its saver's table or went out
+-- at a place there is a read of a variable whose key came into its saver's table or went out
 pub record IsSwitched (old new : Shelves) (at : At) : Type 0 where
   pub variable : Variable
   pub reads : (kept_on new).ops variable at ≡ Some Read

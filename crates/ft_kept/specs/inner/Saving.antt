@@ -33,7 +33,7 @@ pub record HasFollowed (act : Act) (acts : Acts) (moves : Moved) (old new : Shel
   pub others : (id : ℕ) → (id ≡ act.at.trigger → ⊥) → map.get new id ≡ map.get old id
   pub moved : MovesKeys act.key moves (admits_on old act.at.trigger) (admits_on new act.at.trigger)
 
--- at a place stands a read of a key that moved
+-- a read of a key that moved stands at a place
 abbrev pub ReadsMoved : Act → Moved → Shelves → At → Type 0
 ReadsMoved act moves shelves q = (key : List Part) × (IsMoved act.key moves key × ((kept_on shelves).ops (variable_at act key) q ≡ Some Read))
 

@@ -61,7 +61,7 @@ abbrev pub all_from : AllSlots → ℕ → List Traced → AllSlots
 all_from all place [] = all
 all_from all place (e ∷ es) = all_from (all_with all e.cpu place) (place + 1) es
 
--- the slots of a CPU put in, where there are any
+-- the slots of a CPU put in, if there are any
 abbrev pub all_put : AllSlots → ℕ → SlotsOf → AllSlots
 all_put all cpu slots = if slots.next == 1 then all else map.insert all cpu slots
 
@@ -90,7 +90,7 @@ IsFreeOf all events = (cpu : ℕ) → has_cpu events cpu ≡ true → map.get al
 abbrev pub AgreeBeside : List Traced → AllSlots → AllSlots → Type 0
 AgreeBeside events old new = (cpu : ℕ) → has_cpu events cpu ≡ false → map.get new cpu ≡ map.get old cpu
 
--- where slots that are put in change nothing, all is as it was
+-- each CPU for which slots that are put in change nothing has what it had
 abbrev pub AgreeUnmoved : List SlotsOf → AllSlots → AllSlots → Type 0
 AgreeUnmoved by_cpu old new = (cpu : ℕ) → map.get (all_merged old 0 by_cpu) cpu ≡ map.get old cpu → map.get new cpu ≡ map.get old cpu
 

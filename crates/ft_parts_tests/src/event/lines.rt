@@ -41,7 +41,7 @@ fn a_line_is_skipped_or_has_a_fault(rt: HostRuntime) {
             b"a-1 [000] 1.000000: sched_waking: comm=x".as_slice(),
             Err(LineFault::BadPayload),
         ),
-        // Texts are cut at byte 10, so a direct caller alone meets one.
+        // Texts are cut at byte 10, so only a direct caller meets one.
         (b"a-1 [000] 1.000000:\n".as_slice(), Err(LineFault::NoTask)),
     ] {
         assert_eq!(rt; read_line(line), answer);

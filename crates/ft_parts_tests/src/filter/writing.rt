@@ -14,7 +14,7 @@ const JOINED: &[u8] =
 const JOINED_WRITTEN: &[u8] = b"!(pid == -1 || prio < 120) && (comm ~ 'a\"*' || target_cpu & 3) || \
     !!(comm != \"x\" && pid >= 16)";
 
-/// The filter of wakings with that text, asked again where memory ran out.
+/// The filter of wakings with that text, asked again if memory ran out.
 fn joined_at_last(alloc: Global) -> Result<Filter, FilterFault> {
     match parse(alloc, JOINED, Name::Waking) {
         Err(FilterFault::Memory) => parse(alloc, JOINED, Name::Waking),
@@ -22,8 +22,8 @@ fn joined_at_last(alloc: Global) -> Result<Filter, FilterFault> {
     }
 }
 
-/// Whether a filter is written after these bytes, asked again where memory ran out, which has to
-/// leave them.
+/// Whether a filter is written after these bytes. It is asked again if memory ran out, which has to
+/// leave them as they are.
 fn is_written_at_last(filter: &Filter, line: &mut Vec<u8>, before: &[u8]) -> bool {
     filter.write(line).is_ok() || line.as_slice() == before && filter.write(line).is_ok()
 }

@@ -26,12 +26,12 @@ fn has_ids(triggers: &Triggers, want: &[u32]) -> bool {
     at == want.len() && triggers.len() == at
 }
 
-/// Whether the trigger of an id has a filter, where it is attached.
+/// Whether the trigger of an id has a filter, if it is attached.
 fn is_filtered(triggers: &Triggers, id: u32) -> Option<bool> {
     Some(triggers.get(id)?.filter().is_some())
 }
 
-/// Whether both are attached, and the second alone has a filter.
+/// Whether both are attached, and only the second has a filter.
 fn has_both(triggers: &Triggers) -> bool {
     has_ids(triggers, &[3, 7])
         && is_filtered(triggers, 3) == Some(false)

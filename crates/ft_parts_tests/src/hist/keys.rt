@@ -49,11 +49,11 @@ fn numbers_stand_before_texts(rt: HostRuntime) -> Result<(), Fail> {
     Ok(())
 }
 
-/// The first part of the key that a trigger counts a waking of a priority under.
+/// The first part of the key under which a trigger counts a waking of this priority.
 fn part_of_prio(trigger: &Trigger, prio: i32) -> Option<Part> {
     let event = waking(0, prio).ok()?;
     let mut work = Work::new();
-    // Contracts alone see what it counts.
+    // Only contracts see what it counts.
     work.tick_put();
     trigger.hit_of(&event, &mut work)?.part(0)
 }

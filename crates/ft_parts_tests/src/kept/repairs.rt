@@ -90,7 +90,7 @@ fn a_saving_comes_between(rt: HostRuntime) -> Result<(), Fail> {
     Ok(())
 }
 
-/// A reading whose saving goes finds the one before, and where there is none it is no hit.
+/// A reading whose saving goes finds the one before; if there is none, the reading is no hit.
 #[test]
 fn a_saving_goes_that_was_found(rt: HostRuntime) -> Result<(), Fail> {
     let steps = [

@@ -70,7 +70,7 @@ pub(super) struct Found {
 pub(super) struct Shown {
     pub(super) saver: Counts,
     pub(super) reader: Counts,
-    /// What one reading found, where the others found nothing.
+    /// What one reading found, if any did. The others found nothing.
     pub(super) found: Option<Found>,
 }
 

@@ -6,7 +6,7 @@ use ft_lanes::Lanes;
 use std::alloc::Global;
 use std::test::*;
 
-/// Pushes an event: its line. None where memory ran out, or the lane's numbers.
+/// Pushes an event, and returns its line. None if memory ran out, or the lane's numbers.
 fn pushed(lanes: &mut Lanes, event: Event) -> Option<u32> {
     if lanes.next_line(event.cpu) > 4_294_967_295 {
         return None;
@@ -23,8 +23,7 @@ fn event_in(line: &[u8]) -> Option<Event> {
     }
 }
 
-/// Lanes that hold the events of these trace lines. None where a line has no event, or memory ran
-/// out.
+/// Lanes that hold the events of these trace lines. None if a line has no event, or memory ran out.
 fn lanes_of(alloc: Global, lines: &[&[u8]]) -> Option<Lanes> {
     let mut lanes = Lanes::new(alloc);
     for line in lines {

@@ -51,7 +51,7 @@ fn has_first(pairs: &Pairs, count: usize) -> bool {
         && found(pairs, at(170, 2)) == second
 }
 
-/// Whether the three operations stand there, the save of PID 5 alone.
+/// Whether the three operations stand there, and the save only for PID 5.
 fn has_three(pairs: &Pairs) -> bool {
     has_first(pairs, 3)
         && pairs.op_at(&pid(5), at(100, 1)) == Some(Op::Save)
@@ -113,8 +113,8 @@ fn places_stand_by_stamp_then_trigger(rt: HostRuntime) {
     assert!(rt; at(100, 2) < at(100, 10) && at(100, 10) < at(101, 1));
 }
 
-/// Whether an operation is put after the first so many, asked again where memory ran out, which has
-/// to leave them.
+/// Whether an operation is put after the first so many. It is asked again if memory ran out, which
+/// has to leave them as they are.
 fn is_put(pairs: &mut Pairs, count: usize, at: At, op: Op) -> bool {
     put(pairs, 5, at, op).is_ok() || has_first(pairs, count) && put(pairs, 5, at, op).is_ok()
 }

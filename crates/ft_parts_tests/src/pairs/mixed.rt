@@ -72,7 +72,7 @@ impl Both {
         }
     }
 
-    /// Puts an operation where none stands, and takes away one that does.
+    /// Puts an operation at a place, or takes away the one that stands there.
     fn put_or_take(&mut self, number: i64, at: At, op: Op) -> Result<bool, AllocError> {
         let key = pid(number);
         match self.pairs.op_at(&key, at) {
@@ -110,7 +110,7 @@ impl Both {
         agree
     }
 
-    /// Puts the operations of a list, where the PID has none.
+    /// Puts the operations of a list, if the PID has none.
     fn put_key(&mut self, number: i64, run: Vec<(At, Op)>) -> Result<bool, AllocError> {
         let key = pid(number);
         // Of two at one place the first stays.

@@ -9,7 +9,7 @@ fn has_no_hits(table: &Table) -> bool {
     are_totals(table, 0, 0, 0) && is_edge(table, None, None) && is_row(table, pid(5), None)
 }
 
-/// Whether a table of two keys has a hit of PID 5 at stamp 10 alone.
+/// Whether a table of two keys has only a hit of PID 5 at stamp 10.
 fn has_one_hit(table: &Table) -> bool {
     are_totals(table, 1, 1, 0)
         && is_edge(table, Some(pid(5)), None)
@@ -140,8 +140,8 @@ fn has_first(table: &Table, count: usize) -> bool {
     }
 }
 
-/// Whether a hit is put in after the first so many, asked again where memory ran out, which has to
-/// leave the table.
+/// Whether a hit is put in after the first so many. It is asked again if memory ran out, which has
+/// to leave the table as it is.
 fn is_put(table: &mut Table, count: usize, hit: &Hit) -> bool {
     put(table, *hit).is_ok() || has_first(table, count) && put(table, *hit).is_ok()
 }

@@ -169,7 +169,7 @@ fn keys_that_match_those_of_a_rich_text(rt: HostRuntime) {
     );
 }
 
-/// What a text on wakings is answered, when asked again where memory ran out.
+/// What a text on wakings is answered. It is asked again if memory ran out.
 fn written_at_last(alloc: Global, text: &str) -> Result<Vec<u8>, TriggerFault> {
     match written(alloc, Name::Waking, text) {
         Err(TriggerFault::Memory) => written(alloc, Name::Waking, text),
@@ -186,7 +186,7 @@ fn answers_after_want_of_memory(rt: HostRuntime) {
     }
 }
 
-/// The trigger of the rich text, asked again where memory ran out.
+/// The trigger of the rich text, asked again if memory ran out.
 fn rich_at_last(alloc: Global) -> Result<Trigger, TriggerFault> {
     match rich(alloc) {
         Ok(trigger) => Ok(trigger),
@@ -194,8 +194,8 @@ fn rich_at_last(alloc: Global) -> Result<Trigger, TriggerFault> {
     }
 }
 
-/// Whether a trigger is written after these bytes, asked again where memory ran out, which has to
-/// leave them.
+/// Whether a trigger is written after these bytes. It is asked again if memory ran out, which has
+/// to leave them as they are.
 fn is_written_at_last(trigger: &Trigger, line: &mut Vec<u8>, before: &[u8]) -> bool {
     trigger.write(line).is_ok() || line.as_slice() == before && trigger.write(line).is_ok()
 }

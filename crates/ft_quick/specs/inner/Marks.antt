@@ -1,13 +1,13 @@
--- Marks of a line's first 64 bytes: bit k tells of byte k.
+-- Marks of a line's first 64 bytes: bit k is for byte k.
 use Rattle.std.specs.Prelude.{◌≡◌, ◌<◌, ◌≤◌, ℕ, Bool, if◌then◌else◌, ◌+◌, min, List, length, slice_index}
 use Rattle.std.specs.Int.{bit_at}
 
--- the line's first 64 bytes, with zeros after them where it has fewer
+-- the line's first 64 bytes, with zeros after them if it has fewer
 pub record IsFirst (line bytes : List ℕ) : Type 0 where
   pub long : length bytes ≡ 64
   pub each : (k : ℕ) → k < 64 → slice_index bytes k ≡ slice_index line k
 
--- a place is marked just where it passes
+-- a place is marked if and only if it passes
 abbrev pub IsMarks : (ℕ → Bool) → ℕ → Type 0
 IsMarks p marks = (k : ℕ) → k < 64 → bit_at marks k ≡ if p k then 1 else 0
 

@@ -24,7 +24,7 @@ use Rattle.ft_replay.specs.Named.{events_on}
 use Rattle.ft_repair.specs.declared.triggers.Member.{Member}
 use Rattle.ft_repair.specs.KeptFor.{AreKeptFor}
 
--- one trigger alone
+-- only one trigger
 abbrev pub is_one : ℕ → ℕ → Bool
 is_one id other = other == id
 
@@ -74,7 +74,7 @@ pub record CanJoinWith (member : Member) (events : List (Pos × Traced)) (shelve
 
 -- ---- its acts come or go one by one
 
--- of a trigger's acts those that are there before they come or go
+-- the acts of a trigger that are there before they come or go
 abbrev pub own_before : Sign → Triggers → Lanes → Acts
 own_before Insert triggers lanes at = None
 own_before Retract triggers lanes at = acts_of triggers (merged lanes) at
@@ -101,7 +101,7 @@ HaveMoved member sign old new =
 
 -- ---- a trigger leaves
 
--- the shelf of a trigger can go: the shelves are views of acts, which are those of all other triggers, and what the trigger still does it does to no variable of another
+-- the shelf of a trigger can go: the shelves are views of acts; those of all other triggers are the ones at all held events, and those of this trigger do nothing to a variable of another
 pub record CanLeave (id : ℕ) (base : Base) (shelves : Shelves) : Type 0 where
   pub acts : Acts
   pub kept : AreKeptFor base.triggers base.lanes acts shelves

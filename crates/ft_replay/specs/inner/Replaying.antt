@@ -48,12 +48,12 @@ new_counters triggers = fold (with_counter triggers) map.empty (map.entries trig
 
 -- ---- a hit
 
--- pairs, and one more where the hit at a place read
+-- pairs, and one more if the hit at a place read
 abbrev pub pairs_with : Pos → Option Pos → List Pair → List Pair
 pairs_with at None pairs = pairs
 pairs_with at (Some saved) pairs = pairs ++ record { saved = saved; read = at } ∷ []
 
--- a counter with one more hit, and its pair where it read
+-- a counter with one more hit, and its pair if it read
 abbrev pub counter_with : Mark → Option Pos → List ℤ → Counting → Counting
 counter_with mark read values counter = record counter { table = with_hit counter.table mark values; pairs = pairs_with mark.spot.pos read counter.pairs }
 
@@ -69,7 +69,7 @@ after_hit values (Reads saver) at key (counter, saved) =
       map.remove saved (record { saver = saver; key = key }),
     )) (map.get saved (record { saver = saver; key = key })) (counter, saved)
 
--- counters and variables after a hit of a key, where the trigger has a counter
+-- counters and variables after a hit of a key, if the trigger has a counter
 abbrev pub after_key : Hist → Traced → At → Counters × Saved → List Part → Counters × Saved
 after_key hist event at (counters, saved) key =
     option_map_or (λ counter.

@@ -1,4 +1,4 @@
--- Words of private functions: a save at one hit, and the keys at the edge of a table.
+-- Definitions for private functions: a save at one hit, and the keys at the edge of a table.
 use Rattle.std.specs.Prelude.{◌≡◌, ◌==◌, ◌&&◌, ℕ, Bool, false, not, List, Option, Some, None, if◌then◌else◌}
 use Rattle.std.specs.Option.{option_map_or}
 use Rattle.ft_fields.specs.declared.key.Part.{Part}
@@ -18,7 +18,7 @@ use Rattle.ft_shelves.specs.declared.sign.HitChange.{HitChange}
 use Rattle.ft_shelves.specs.declared.sign.Sign.{Sign}
 use Rattle.ft_shelves.specs.declared.sign.Sign.TheVariants.{Insert, Retract}
 
--- the operations on a key's variable with a save at a hit of the key, where that is of an event of the trace (kernel: histogram.rst, inter-event hist triggers)
+-- the operations on a key's variable with a save at a hit of the key, if that is of an event of the trace (kernel: histogram.rst, inter-event hist triggers)
 abbrev pub with_save : ℕ → Spot → Ops → Ops
 with_save id spot ops q = if spot.maker == 0 && same_at q (record { pos = spot.pos; trigger = id }) then Some Save else ops q
 
@@ -41,7 +41,7 @@ pub record FollowsTable (id : ℕ) (key : Option (List Part)) (was : Bool) (old 
   pub ops : (k : List Part) (q : At) → ops_of new.ops k q
       ≡ (if option_map_or (same_key k) key false then switched was (is_in old.table k) old.table.hits id k (ops_of old.ops k) q else ops_of old.ops k q)
 
--- a shelf with the change, where the hit's own save comes or goes with it, if its key was in the table, and no key has followed the table yet
+-- a shelf with the change: the hit's own save comes or goes with it, if its key was in the table, and no key has followed the table yet
 pub record OwnChanges (id : ℕ) (change : HitChange) (was : Bool) (old new : Shelved) : Type 0 where
   pub shelf : new ≡ record (with_change change old) { ops = new.ops }
   pub ops : (key : List Part) (q : At) → ops_of new.ops key q ≡ with_own id change was key (ops_of old.ops key) q

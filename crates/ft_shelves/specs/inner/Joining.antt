@@ -43,12 +43,12 @@ reads_of_run id run = list_map (act_at id) run
 
 -- ---- what was found
 
--- what the event in a place of a run read, if it is a hit: what its reading found, if some found
+-- what the event at an index of a run read, if it is a hit: nothing if nothing reads, else what its reading found
 abbrev pub read_at : Option (List (Option At)) → ℕ → Option (Option Pos)
 read_at None i = Some None
 read_at (Some found) i = option_map (λ saved. Some saved.pos) (slice_index_or found i None)
 
--- so each event of a run read
+-- each event of a run read, by its place, what it read by its index
 abbrev pub AreReadAt : Option (List (Option At)) → (Pos → Option (Option Pos)) → List (Pos × Traced) → Type 0
 AreReadAt found read run = (i : ℕ) (d : Pos × Traced) → i < length run → read (slice_index_or run i d).0 ≡ read_at found i
 
@@ -56,7 +56,7 @@ AreReadAt found read run = (i : ℕ) (d : Pos × Traced) → i < length run → 
 abbrev pub readings_of_run : (Pos → Option (Option Pos)) → List (Pos × Traced) → List (Pos × Pos)
 readings_of_run read run = chosen (λ pos. pos) (λ pos event. what_read (read pos)) run
 
--- what the reading at a place found, by a list; of those that name the place the last one tells (our own choice)
+-- what the reading at a place found, by a list; if several of the list name the place, the last one tells (our own choice)
 abbrev pub found_last : List (Pos × Pos) → Pos → Option Pos
 found_last readings = update_all (eq_by_cmp pos_cmp) (λ _. None) readings
 

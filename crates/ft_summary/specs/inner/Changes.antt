@@ -96,7 +96,7 @@ changed_in tasks change pid q = if is_counted pid && int_eq pid q then Some (cha
 abbrev pub number_waiting : BTreeMap Task Standing → ℕ
 number_waiting tasks = count_by standing_waits (values tasks)
 
--- the number once a task changed that waited or didn't, and waits or doesn't
+-- the number of tasks that wait once a task changed, by whether it waited and whether it waits
 abbrev pub count_after : ℕ → Bool → Bool → ℕ
 count_after waiting waited waits =
     if waits && not waited then min (waiting + 1) (2 ^ 64 - 1)
@@ -108,7 +108,7 @@ count_after waiting waited waits =
 abbrev pub found_cpu : BTreeMap ℕ Cpu → ℕ → Option Cpu
 found_cpu cpus cpu = lookup (λ number. is_eq (nat_cmp cpu number)) cpus.entries
 
--- how long the run lasted that a switch ends
+-- the length of the run that a switch ends
 abbrev pub run_of : Option Cpu → ℤ → ℕ → ℕ
 run_of None prev_pid stamp = 0
 run_of (Some cpu) prev_pid stamp = if int_eq cpu.pid prev_pid then stamp - cpu.stamp else 0

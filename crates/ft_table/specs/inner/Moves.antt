@@ -8,7 +8,7 @@ use Rattle.ft_hits.specs.declared.mark.Mark.{Mark}
 use Rattle.ft_hits.specs.Hits.{Hits}
 use Rattle.ft_table.specs.Tabled.{first_hits}
 
--- the first hits of all keys but one
+-- the first hits of all keys except one
 unfoldable pub others : Hits → List Part → Hits
 others hits key = map.retain_keys (first_hits hits) (λ m. not (same_key m.key key))
 

@@ -56,7 +56,7 @@ pub record IsWithout (mark : Mark) (old new : Ordered) : Type 0 where
   pub size : new.size ≡ old.size
   pub marks : (i : ℕ) → IsRank mark_cmp old.marks mark i → new.marks ≡ remove old.marks i
 
--- the same marks, but one of them moved to another
+-- the same marks, except that one of them has moved to another
 pub record IsMoved (from to : Mark) (old new : Ordered) : Type 0 where
   pub size : new.size ≡ old.size
   pub marks : (i j : ℕ) → IsRank mark_cmp old.marks from i → IsRank mark_cmp (remove old.marks i) to j → new.marks ≡ insert (remove old.marks i) j to
@@ -76,7 +76,7 @@ abbrev pub later_mark : Option Mark → Mark → Mark
 later_mark None m = m
 later_mark (Some o) m = if is_lt (mark_cmp m o) then o else m
 
--- a mark came to some at its rank
+-- a mark came to some marks, at its rank
 pub record HasCome (m : Mark) (old : List Mark) (i : ℕ) (new : List Mark) : Type 0 where
   pub rises : Rises mark_cmp old
   pub rise : Rises mark_cmp new

@@ -25,7 +25,7 @@ pub record ReadsLines (reading : Reading) (lines : List (List ℕ)) (told : List
   pub losses : Keeps reading.losses notes
   pub state : Follows reading.state (events_of lines) told
 
--- a line reads as another one, and is the same, if that is skipped
+-- a line reads as another one does, and is the same line if the other one is skipped
 abbrev pub IsLike : List ℕ → List ℕ → Type 0
 IsLike other line = (line_of line ≡ line_of other) × ((line_of other ≡ Ok lines.Skip) → line ≡ other)
 
@@ -33,11 +33,11 @@ IsLike other line = (line_of line ≡ line_of other) × ((line_of other ≡ Ok l
 abbrev pub TakesLine : List ℕ → Reading → List Dispatch → Reading → List Dispatch → Type 0
 TakesLine other old out new out_now = (line : List ℕ) (before : List (List ℕ)) (told : List Dispatch) → IsLike other line → ReadsLines old before (told ++ out) → ReadsLines new (line ∷ before) (told ++ out_now)
 
--- a line with this event is
+-- a line with this event is read after whatever lines
 abbrev pub TakesEvent : Traced → Reading → List Dispatch → Reading → List Dispatch → Type 0
 TakesEvent event old out new out_now = (line : List ℕ) (before : List (List ℕ)) (told : List Dispatch) → line_of line ≡ Ok (lines.Event event) → ReadsLines old before (told ++ out) → ReadsLines new (line ∷ before) (told ++ out_now)
 
--- a line without an event that gives and reports this is, which adds no dispatch
+-- a line without an event, which gives and reports this, is read after whatever lines, and adds no dispatch
 abbrev pub TakesQuietly : Result Line LineFault → Note → Reading → Reading → Type 0
 TakesQuietly given note old new = (line : List ℕ) (before : List (List ℕ)) (told : List Dispatch) → line_of line ≡ given → NoteIs line note → ReadsLines old before told → ReadsLines new (line ∷ before) told
 

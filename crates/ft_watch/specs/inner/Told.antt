@@ -43,7 +43,7 @@ with_table id before now told = record { lines = told.lines ++ table_lines id be
 abbrev pub texts_code : Coded Texts
 texts_code = map.code (coded_list part.the_row.coded) (coded_list coded_ℕ)
 
--- rows, where a key's has this text, or is not there
+-- rows in which a key's row has this text, or is not there
 abbrev pub with_text : List Part → Option (List ℕ) → Texts → Texts
 with_text key text texts = option_map_or (map.insert texts key) text (map.remove texts key)
 
@@ -63,7 +63,7 @@ lines_since tables base = flat_map (λ t. table_lines t.0 t.1 (texts_at base t.0
 abbrev pub count_since : List (ℕ × Texts) → Base → ℕ
 count_since tables base = sum_by (λ t. length (changed_keys t.1 (texts_at base t.0))) tables
 
--- the rows of a table that an edit doesn't name are as they were, where it names some
+-- if an edit gives both `report` and `made`, the rows of a table that it doesn't name are as they were
 abbrev pub NamesRows : Edited → Base → ℕ × Texts → Type 0
 NamesRows edited base table =
     IfSome edited.report (λ held. IfSome edited.made (λ made. (key : List Part) → is_reported held.items table.0 key ≡ false → is_reported made.items table.0 key ≡ false → map.get (texts_at base table.0) key ≡ map.get table.1 key))

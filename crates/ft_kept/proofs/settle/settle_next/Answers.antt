@@ -1,4 +1,4 @@
--- The next operation stands where it is said to, and is settled; where there is none, nothing is.
+-- The next operation stands where it is said to, and is settled; if there is none, nothing is.
 use Rattle.std.proofs.Common.{Some, sym, subst}
 use Rattle.std.proofs.lemmas.Result.{on_ok_weaker}
 use Rattle.ft_pairs.specs.declared.at.Op.TheVariants.{Read}

@@ -1,4 +1,4 @@
--- A key that has no operations has just those of the list then.
+-- A key that has no operations has exactly those of the list then.
 use Rattle.std.proofs.Common.{List, sym, ap, subst, ◌∙◌}
 use Rattle.std.specs.FinMap as map
 use Rattle.std.proofs.lemmas.Result.{on_ok_weaker}

@@ -62,7 +62,7 @@ impl Plain {
     }
 }
 
-/// The later of two operations, where the first may be none.
+/// The later of two operations, the first of which may be missing.
 fn later(last: Option<(At, Op)>, next: (At, Op)) -> Option<(At, Op)> {
     match last {
         Some(last) if next.0 < last.0 => Some(last),

@@ -11,7 +11,7 @@ use Rattle.ft_lanes.specs.Held.{Lane}
 use Rattle.std.specs.Option.{IfSome}
 use Rattle.ft_repair.proofs.events.let_lane_go.Given as goal
 
--- the tables are kept of all events but those of the lines before, for which the tests were; their forms stayed, the readings that changed were told, and none where the lines are plain; no count of steps fell
+-- the tables are kept of all events except those of the lines before, for which the tests were; their forms stayed, the readings that changed were told, and none if the lines are plain; no count of steps fell
 abbrev pub invariant-loop-line : goal.invariant-loop-line
 invariant-loop-line l = record {
   going : IsGoing (triggers_of l.scene) l.scene.lanes.now l.cpu l.line-iterator l.tables;

@@ -1,4 +1,4 @@
--- Each key's saves are put where the key is in the table, and no key comes twice.
+-- Each key's saves are put if the key is in the table, and no key comes twice.
 use Rattle.std.proofs.Common.{◌≡◌, ◌+◌, Bool, true, false, cond, sym, ap, subst, ◌∙◌, arith, refl, Some, None, Option}
 use Rattle.std.specs.Prelude.{◌&&◌, option_and_then}
 use Rattle.std.specs.FinMap as map

@@ -1,4 +1,4 @@
--- An event without its names adds the same, and so does any where no field is summed.
+-- An event without its names adds the same, and so does any event if no field is summed.
 use Rattle.std.proofs.Common.{◌≤◌, ℕ, rules, sym, ap, subst, ◌∙◌, w64}
 use Rattle.std.specs.List.{list_any}
 use Rattle.std.proofs.lemmas.Int.{to_z-of_z}

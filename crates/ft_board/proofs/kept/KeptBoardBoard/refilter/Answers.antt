@@ -15,7 +15,7 @@ use Rattle.ft_board.proofs.kept.KeptBoardBoard.refilter.Goals as goal
 pub refilter-requires : goal.refilter-requires
 refilter-requires c = λ hist is x given. c.requires hist (ap (λ (shown : Shown). map.get shown.base.triggers c.args.id) (sym c.self.view_is) ∙ is) x given
 
--- where no made event is counted, the tables of made events take no step
+-- if no made event is counted, the tables of made events take no step
 pub returns-clause-costs : goal.returns-clause-costs
 returns-clause-costs c nothing reads =
     let base : Base = c.self.inside.content in

@@ -16,7 +16,7 @@ use Rattle.ft_made.specs.MadeTables.{found_in}
 use Rattle.ft_replay.specs.Merged.{merged}
 use Rattle.ft_board.proofs.views.Views.change.Goals as goal
 
--- where the first option is there, it is the second
+-- if the first option is there, it is the second
 both_there : {X Y : Type 0} (first : Option (Bor X)) (second : Option Y) → option_and first second ≡ option_and_then (λ (_ : X). second) (option_copied first)
 both_there None second = refl
 both_there (Some x) second = refl
@@ -37,7 +37,7 @@ pub returns-clause-costs : goal.returns-clause-costs
 returns-clause-costs c none =
     subst (ChangeCosts c.args.sign c.args.content.now c.args.pos c.args.event.now c.args.self.now.work) (sym ((c.mend-kept.ensures.nothing none).1 ∙ c.made_rows-made.ensures.nothing none)) c.let_change.ensures.costs
 
--- where no reading changed, mending takes no memory
+-- if no reading changed, mending takes no memory
 pub returns-clause-now : goal.returns-clause-now
 returns-clause-now c small gone =
     let none = c.let_change.ensures.quiet (plain_of c.args.sign c.args.content.now.triggers c.args.event.now small) in

@@ -1,4 +1,4 @@
--- a trigger goes that leaves those alone that make events: the tables of the others stay
+-- a trigger goes that leaves alone those that make events: the tables of the others stay
 use Rattle.std.proofs.Common.{sym, subst}
 use Rattle.ft_base.specs.OneTrigger.{base_without}
 use Rattle.ft_board.proofs.MadeStays.{left_if}

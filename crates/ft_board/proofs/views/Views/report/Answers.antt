@@ -8,7 +8,7 @@ use Rattle.ft_kept.specs.Shelves.{Shelves}
 use Rattle.ft_kept.specs.declared.changes.KeyChange.{KeyChange}
 use Rattle.ft_board.proofs.views.Views.report.Goals as goal
 
--- what holds of an answer, where it is not refused, holds of what is made of it
+-- what holds of an answer, if it is not refused, holds of what is made of it
 if_answered : {T E : Type 0} (P Q : T → Type 0) (answer : Result T E) → ((t : T) → P t → Q t) → IfOk answer P → IfSome (result_ok answer) Q
 if_answered P Q (Ok t) then is = then t is
 if_answered P Q (Err e) then is = tt

@@ -1,4 +1,4 @@
--- No events are grouped where nothing stands.
+-- Groups in which nothing stands are those of no events.
 use Rattle.std.proofs.Common.{sym, ap, ◌∙◌, length}
 use Rattle.std.specs.FinMap as map
 use Rattle.std.specs.FinMap.{get-empty}

@@ -43,7 +43,7 @@ returns-in_default-clause-told c = record { keys = []; few = λ whose. omega ari
 -- ---- a hit
 
 module _ (hist : Hist) (event : Traced) (key : List Part) (one : hit hist event ≡ Some key) where
-  -- its act is there before, where the event is
+  -- its act is there before, if the event is
   is_before : (sign : Sign) → option_and_then (act_under hist) (event_before sign event) ≡ act_before sign (key, event)
   is_before Insert = refl
   is_before Retract = ap (λ (o : Option (List Part)). option_map (λ key. (key, event)) o) one

@@ -1,4 +1,4 @@
--- Where there is no shelf, or one with nothing on it, nothing is kept.
+-- If there is no shelf, or one with nothing on it, nothing is kept.
 use Rattle.std.proofs.Common.{refl, sym, ap, ◌∙◌}
 use Rattle.ft_pairs.specs.ByKey.{OpsByKey, ops_of}
 use Rattle.ft_table.specs.Tabled.{Tabled}

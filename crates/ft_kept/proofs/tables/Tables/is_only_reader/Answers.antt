@@ -1,4 +1,4 @@
--- Where none of the shelves is another reader's, each reader is the one.
+-- If none of the shelves is another reader's, each reader is the one.
 use Rattle.std.proofs.Common.{◌≡◌, ℕ, ◌∷◌, sym, ap, subst, ◌∙◌, refl, true≢false}
 use Rattle.std.proofs.lemmas.Bool.{eq-eqb}
 use Rattle.std.specs.FinMap as map

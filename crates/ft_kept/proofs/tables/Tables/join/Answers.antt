@@ -1,4 +1,4 @@
--- The hits of all groups are on the shelf, with what they save, and so all acts of a trigger came that reads nothing.
+-- The hits of all groups are on the shelf, with what they save, and so all acts of a trigger that reads nothing came.
 use Rattle.std.proofs.Common.{sym, ap, subst, ◌∙◌, Some, inl, inr}
 use Rattle.std.specs.Option.{option_copied_mut}
 use Rattle.std.proofs.lemmas.Result.{on_ok_weaker}

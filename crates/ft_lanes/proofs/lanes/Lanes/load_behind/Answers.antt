@@ -14,7 +14,7 @@ use Rattle.ft_lanes.proofs.Views.{at_ok}
 use Rattle.ft_lanes.proofs.Loads.{behind, first_held-slots, free-from, lanes-loaded, stored-all}
 use Rattle.ft_lanes.proofs.lanes.Lanes.load_behind.Goals as goal
 
--- where the CPUs are free of lanes, they are free of slots
+-- if the CPUs are free of lanes, they are free of slots
 apart : (store : List Traced) (all : AllSlots) (lanes : Lanes) (es : List Traced) → lanes_by (stored_at store) all ≡ lanes → first_held lanes es ≡ None → first_cpu (map.contains_key all) es ≡ None
 apart store all lanes es is none = first_held-slots (stored_at store) all es ∙ ap (λ m. first_held m es) is ∙ none
 

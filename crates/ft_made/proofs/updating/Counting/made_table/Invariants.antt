@@ -6,7 +6,7 @@ use Rattle.ft_made.specs.Laws.{MakeNone}
 use Rattle.ft_made.proofs.MadeTables.{IsFilledBut}
 use Rattle.ft_made.proofs.updating.Counting.made_table.Given as goal
 
--- the table is filled but for the readings of the triggers that are left; no count of steps fell, and where no trigger makes events, none that is left does, and no count rose
+-- the table is filled, except for the readings of the triggers that are left; no count of steps fell, and if no trigger makes events, none that is left does, and no count rose
 abbrev pub invariant-loop-id : goal.invariant-loop-id
 invariant-loop-id g l = record {
   way : IsFilledBut l.self.triggers.now (g.R.KeptReadings.pairs l.readings) (merged l.self.lanes.now) l.self.trigger.now l.id-iterator l.table;

@@ -6,7 +6,7 @@ use Rattle.ft_made.specs.MadeTables.{IsMadeTable}
 use Rattle.ft_made.proofs.MadeTables.{IsOnTheWay}
 use Rattle.ft_made.proofs.updating.Counting.update_made.Given as goal
 
--- whatever readings found at first, the table is made of what they have come to find, and the changes that are left lead on; no count of steps fell, and nothing is done where nothing changed
+-- whatever readings found at first, the table is made of what they have come to find, and the changes that are left lead on; no count of steps fell, and nothing is done if nothing changed
 abbrev pub invariant-loop-change : goal.invariant-loop-change
 invariant-loop-change l = record {
   way : (found now : Findings) → Lead l.changes found now → IsMadeTable l.self.triggers.now (merged l.self.lanes.now) found l.self.trigger.now l.fn.table

@@ -1,4 +1,4 @@
--- A read more stands, of those that are to be put.
+-- One more read stands, of those that are to be put.
 use Rattle.std.proofs.Common.{◌<◌, ◌+◌, length, fold, drop, ap, sym, subst, ◌∙◌, rules}
 use Rattle.std.specs.FinMap as map
 use Rattle.std.proofs.lemmas.List.{at_drop_more}

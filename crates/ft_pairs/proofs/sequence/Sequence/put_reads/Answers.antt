@@ -1,4 +1,4 @@
--- Where no reads were, those that come are all.
+-- If there were no reads, those that come are all.
 use Rattle.std.proofs.Common.{◌≡◌, false, [], sym, ap, subst, ◌∙◌, inr}
 use Rattle.std.specs.Prelude.{IfSome, is_some}
 use Rattle.std.specs.FinMap as map

@@ -1,4 +1,4 @@
--- A mark is in the table where the last one that is in doesn't stand before it.
+-- A mark is in the table exactly if the last one that is in doesn't stand before it.
 use Rattle.std.proofs.Common.{◌≡◌, ℕ, ◌-◌, ◌<◌, ◌≤◌, List, Bool, true, false, not, refl, sym, ap, subst, ◌∙◌, arith, nat_lt, Some, inl, inr}
 use Rattle.std.proofs.lemmas.Bool.{cases_lt}
 use Rattle.std.proofs.lemmas.Bool.Decides.{nat_tests}

@@ -32,7 +32,7 @@ before : (hits : Hits) (m : Mark) (v : List ℤ) (order : List Mark) (o : Option
 before hits m v order o is first after e =
     is ∙ order-before-insert hits m v o first ∙ ap (λ (h : Hits). order_before h m.key o) (sym e)
 
--- the key's first hit then, where it had none, and where the new one is before its first
+-- the key's first hit then, if it had none, and if the new one is before its first
 first_now : (hits after : Hits) (m : Mark) (v : List ℤ) → first_place hits m.key ≡ None → after ≡ map.insert hits m v → first_place after m.key ≡ Some m.spot
 first_now hits after m v none e = ap (λ (h : Hits). first_place h m.key) e ∙ first_place-insert hits m v ∙ first-empty m.spot v (map.entries (hits_of hits m.key)) none
 

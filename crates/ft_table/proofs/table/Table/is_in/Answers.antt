@@ -1,4 +1,4 @@
--- A key is in where its first mark is.
+-- A key is in exactly if its first mark is.
 use Rattle.std.proofs.Common.{List, take, map as list_map, sym, ap, subst, ◌∙◌}
 use Rattle.std.specs.List.{Contains, list_any}
 use Rattle.ft_fields.specs.Parts.{same_key}
