@@ -7,7 +7,7 @@ folder=$(mktemp -d)
 trap 'rm -rf -- "$folder"' EXIT
 trace=$folder/trace
 
-# The program that is measured. Without the variable it is the launcher, which builds it where it is stale.
+# The program that is measured. Without the variable it is the launcher, which builds it if it is stale.
 histdesk=${HISTDESK:-$here/../histdesk}
 
 # Wakeup latencies: a waking saves its time, and the switch to its task reads it.
@@ -20,7 +20,7 @@ make_trace() {
     python3 "$here/make_trace.py" "$@"
 }
 
-# Sets `histdesk` to the program itself where it is the launcher, which looks for stale sources at each call.
+# Sets `histdesk` to the program itself if it is the launcher, which looks for stale sources at each call.
 take_program() {
     if [[ -z ${HISTDESK:-} ]]; then
         "$here/../build/build" histdesk
@@ -33,7 +33,7 @@ take_large_pages() {
     export GLIBC_TUNABLES=${GLIBC_TUNABLES:+$GLIBC_TUNABLES:}glibc.malloc.hugetlb=1
 }
 
-# Has the launcher build the program where it is stale, which is not measured, and warms the trace's pages.
+# Has the launcher build the program if it is stale, which is not measured, and warms the trace's pages.
 warm() {
     : >"$folder/nothing"
     "$histdesk" "$folder/nothing" "$trace"

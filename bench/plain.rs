@@ -1,17 +1,17 @@
-//! What whole runs are measured against: a plain program in safe Rust with std alone, which reads a trace once, replays it
+//! What whole runs are measured against: a plain program in safe Rust with only std, which reads a trace once, replays it
 //! once and prints what `histdesk` prints for the same work.
 //!
-//! `plain load|table|pairs TRACE`: the load alone; `hist:keys=pid` over wakings, printed; the totals of a reader of wakeup
+//! `plain load|table|pairs TRACE`: only the load; `hist:keys=pid` over wakings, printed; the totals of a reader of wakeup
 //! latencies, with its saver.
 //!
 //! It is written for speed, with no dependency: the file's text stays, and names point into it; payloads are cut from the
 //! right; events stand in one vector in the order of lines, from which a trigger's are taken in merged order by a walk;
-//! tables are hash maps, whose hash is one multiplication. It proves nothing, has triggers of these forms alone, and keeps
+//! tables are hash maps, whose hash is one multiplication. It proves nothing, has only triggers of these forms, and keeps
 //! nothing for edits, listings or latencies: of each key a table has the count, and what was saved last. A line with a
 //! fault ends it, without a word on which line or fault, and it takes more lines for good or skipped ones than
 //! REFERENCE.md does.
 
-// What an event has is held, as the desk holds it, also where nothing here reads it.
+// What an event has is held, as the desk holds it, even if nothing here reads it.
 #![allow(dead_code)]
 
 use std::collections::HashMap;
@@ -293,7 +293,7 @@ struct Row {
 }
 
 impl Table {
-    /// Counts a hit: the row of its key, where that is in.
+    /// Counts a hit: the row of its key, if that is in.
     fn count(&mut self, key: i32) -> Option<&mut Row> {
         if self.rows.len() == SIZE && !self.rows.contains_key(&key) {
             self.dropped += 1;

@@ -1,6 +1,6 @@
 #!/usr/bin/env bash
-# watch.sh [EVENTS]: times strikes of wakings by histwatch, which prints the rows that they change, where a saver and a reader
-# are attached, and where a table of the events that the reader makes is attached too, against histdesk over the same scripts.
+# watch.sh [EVENTS]: times strikes of wakings by histwatch, which prints the rows that they change, if a saver and a reader
+# are attached, and if a table of the events that the reader makes is attached too, against histdesk over the same scripts.
 # shellcheck source-path=SCRIPTDIR
 set -euo pipefail
 

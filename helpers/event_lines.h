@@ -41,7 +41,7 @@ struct kind {
 
 static struct kind kinds[KINDS];
 
-/* ---- Text. Each of these appends to `to` and gives the end; NULL where there is no plain text. */
+/* ---- Text. Each of these appends to `to` and gives the end; NULL if there is no plain text. */
 
 static inline char *put(char *to, const char *text, size_t length)
 {

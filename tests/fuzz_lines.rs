@@ -242,7 +242,7 @@ fn switch(text: &[u8], event: &mut Event) -> Result<(), u32> {
     Ok(())
 }
 
-/// The common part of a line's event, and what stands after its stamp; `None` where the line is skipped.
+/// The common part of a line's event, and what stands after its stamp; `None` if the line is skipped.
 fn columns(line: &[u8]) -> Result<Option<(Event, &[u8])>, u32> {
     if line.len() > 4096 {
         return Err(7);
@@ -386,7 +386,7 @@ fn sources(text: &[u8]) -> Vec<Vec<u8>> {
 
 // ---- What is compared.
 
-/// Ends the program where what the library gives isn't the model's.
+/// Ends the program if what the library gives isn't the model's.
 fn same<T: PartialEq + std::fmt::Debug>(what: &str, line: &[u8], library: T, model: T) {
     if library != model {
         println!("{what} of \"{}\"\n  library: {library:?}\n  model:   {model:?}", line.escape_ascii());

@@ -84,7 +84,7 @@ done
 program=$(realpath -- "$1")
 [[ -f $program && -x $program ]] || stop "no program: $1"
 
-# needs COMMAND PACKAGE: ends the run where the command is missing.
+# needs COMMAND PACKAGE: ends the run if the command is missing.
 needs() {
     command -v "$1" >/dev/null || stop "$1 is missing: apt-get install $2"
 }
@@ -97,7 +97,7 @@ needs python3 python3
 
 folder=$(mktemp -d)
 
-# Leaves what the run has made where --keep says, also if the guest failed.
+# Leaves what the run has made in the folder that --keep names, even if the guest failed.
 finish() {
     if [[ -n $keep && -z $all ]]; then
         mkdir -p -- "$keep"

@@ -1,6 +1,6 @@
 #!/usr/bin/env bash
 # lint.sh: what others' programs find in the scripts of this repository: shellcheck in all that is bash; flake8, or pyflakes
-# where there is no flake8, in all that is Python, which has black's form; and mypy in the Python packages and in build, whose
+# if there is no flake8, in all that is Python, which has black's form; and mypy in the Python packages and in build, whose
 # types are strict. Which findings are left out stands in .shellcheckrc and .flake8, or beside the line. It prints what was
 # found, what was not tried since a program is missing, and a last line with the counts.
 # shellcheck disable=SC2154 # what counts.sh assigns

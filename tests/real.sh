@@ -3,7 +3,7 @@
 # PROGRAM, a built histdesk, answers over that trace with what the plain model in Python answers (model/model.py): tables,
 # totals, latencies and lists, before and after twenty edits. By hand, never in CI: it needs root and tracefs, and takes
 # some minutes, since the model replays at each answer. It prints what differs, and a last line with the counts. The
-# status is 0, or 1 where an answer differs, or 2 where it could not run.
+# status is 0, or 1 if an answer differs, or 2 if it could not run.
 set -euo pipefail
 
 usage='usage: tests/real.sh [OPTION].. PROGRAM
@@ -54,7 +54,7 @@ folder=$(mktemp -d)
 work=
 # shellcheck disable=SC2317 # the trap calls it
 finish() {
-    # The loop ends by itself where its folder is gone, and each round of the workload ends soon.
+    # The loop ends by itself if its folder is gone, and each round of the workload ends soon.
     rm -rf -- "$folder"
     [[ -z $work ]] || wait "$work" 2>/dev/null || true
 }

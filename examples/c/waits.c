@@ -9,7 +9,7 @@
 #define TEXT(literal) (const uint8_t *)(literal), sizeof(literal) - 1
 enum { MOST_WAITS = 20 };
 
-/* Ends the program where a call was refused, with the library's words. */
+/* Ends the program if a call was refused, with the library's words. */
 static void must(uint32_t code, histdesk *desk, const char *what) {
     histdesk_refusal refusal = {.number = code};
     uint8_t words[160];

@@ -23,7 +23,7 @@ Percent = int | float | str | Fraction
 PERCENTS = (50, 90, 99)
 # Products of microseconds and counts may pass 64 bits, so each is summed in two halves, of so many bits below.
 LOW_BITS = 26
-# So many bits of a number are used where two are joined to one.
+# How many bits of a number are used when two are joined to one.
 BITS = 63
 
 
@@ -96,7 +96,7 @@ class Counts:
     """Waits counted by key and by length in microseconds, with the longest of each key, and how many were doubtful.
 
     A key is a tuple of numbers and texts, which `fields` names. `Waits.counts` makes it. What several recordings give is added
-    up exactly, so percentiles of all together are exact too. It can be pickled, and two are equal where they hold the same.
+    up exactly, so percentiles of all together are exact too. It can be pickled, and two are equal if they hold the same.
 
     | Form | What it gives |
     |---|---|
@@ -464,7 +464,7 @@ def sum_pairs(key: NDArray[np.int64], micros: NDArray[np.int64], count: NDArray[
         low = np.unique(micros, return_inverse=True)[1]
         bits = bits_of(low)
     pairs = join_pairs(key, low, bits)
-    # Quick where the pairs of columns stand one after the other, each in order.
+    # Quick if the pairs of columns stand one after the other, each in order.
     order = pairs.argsort(kind="stable")
     pairs = pairs[order]
     starts = starts_of(pairs)

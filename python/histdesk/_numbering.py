@@ -20,7 +20,7 @@ class Numbers:
     """Gives each different row of some 64-bit words a number from 0 on, in the order in which rows are looked up first.
 
     A table has the number of one row for each value of a hash. That row is compared with the one that is looked up, since a
-    hash says nothing for sure; where it is another one, the row is looked up by its bytes."""
+    hash says nothing for sure; if it is another one, the row is looked up by its bytes."""
 
     def __init__(self, words: int) -> None:
         """Take rows of so many words, four at most."""

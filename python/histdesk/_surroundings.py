@@ -57,7 +57,7 @@ def gather(
     that are wanted.
 
     If they are more than a desk holds, they are those of the CPUs of the wait and of its task; with `look`, which is for a wait
-    that is explained alone, if they are many.
+    that is explained by itself, if they are many.
 
     Parameters
     ----------
@@ -111,7 +111,7 @@ class Around:
     """The events around a wait: those of a stretch of time, and those of some moments before and after it."""
 
     def __init__(self, source: Source, wait: Wait, margin: int, is_alone: bool) -> None:
-        """Of a wait, and so many microseconds on both sides. If it is alone, the events are for nothing else."""
+        """Of a wait, and so many microseconds on both sides. If it is explained by itself, the events are for nothing else."""
         self._source, self._wait, self._is_alone = source, wait, is_alone
         self._start = wait.begin.stamp - margin
         self._until = (wait.end.stamp if wait.end else last_of(source)) + margin + 1

@@ -183,7 +183,7 @@ class Kept(WaitSink):
     def take(self, waits: Structs) -> None:
         start, self._count = self._count, self._count + len(waits)
         if self._count > len(self._records):
-            # In place where it can be: no other array stands on this one's memory yet.
+            # In place if it can be: no other array stands on this one's memory yet.
             self._records.resize(max(self._count, len(self._records) * 9 // 8), refcheck=False)
         self.write(waits, self._records[start : self._count])
         self.besides += besides_of(start, waits)

@@ -5,7 +5,7 @@
 
 The program accepts each form of a script's command, and prints what the table says; it refuses the commands of the prompt.
 `--help` of the launchers (tools/words), the table of histdesk(1), the sections of histdesk(7) and the tables of
-docs/REFERENCE.md have the same forms, in the same words where they describe them. histdesk-tools(1) names the commands of the
+docs/REFERENCE.md have the same forms, in the same words if they describe them. histdesk-tools(1) names the commands of the
 prompt. `help` describes each command within the width of a document. The last line says how many things hold.
 """
 

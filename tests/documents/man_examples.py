@@ -5,7 +5,7 @@
 
 An example shows a script by `$ cat NAME`, and then what `$ PROGRAM NAME TRACE` prints, with a trace of FOLDER; or it is a
 session of commands of the tools beside the traces of FOLDER, and what each of them prints. Programs are found on the PATH.
-A session isn't tried where the tools have no numpy. The last line says how many of them print just what the page shows.
+A session isn't tried if the tools have no numpy. The last line says how many of them print just what the page shows.
 """
 
 import os

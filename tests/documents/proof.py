@@ -6,7 +6,7 @@
 
 It lists the definitions that must be believed: from the contracts that carry the theorem, the imports of definitions are
 followed from file to file; each file met is in the list once, and no other is. None of them is in a folder specs/inner,
-where words of private functions stand. What it quotes stands in a source or a definition, whatever its line breaks. Each
+where definitions for private functions stand. What it quotes stands in a source or a definition, whatever its line breaks. Each
 figure of its table of sizes is within a twentieth of what is there. The last line says how many files, quotes and figures
 hold.
 """
@@ -45,7 +45,7 @@ def of_crate(path: str) -> str:
 
 
 def home(crate: str, module: str) -> Optional[str]:
-    """The file of definitions that a crate knows by this name, its own or one that it passes on; None where it is none:
+    """The file of definitions that a crate knows by this name, its own or one that it passes on; None if it is none:
     what the prover makes of Rust's own types has no file, and what the kit has is not listed."""
     file, lib = f"{crate}/specs/{module.replace('.', '/')}.antt", f"{crate}/specs/Lib.antt"
     if os.path.exists(os.path.join(CRATES, file)):

@@ -30,7 +30,7 @@ NO_ATTRIBUTE = re.compile(r"\.(data|hex|log2|rt|script|so|trace|usecs)\b")
 
 
 class Member(NamedTuple):
-    """What a name stands for: the class that it is of or answers, where that is known, and the parameters that it takes."""
+    """What a name stands for: the class that it is of or answers, if that is known, and the parameters that it takes."""
 
     kind: str
     parameters: FrozenSet[str] = frozenset()
@@ -117,7 +117,7 @@ class Page:
             self.wrong.append(f"{self.path}: `{code}`: the package has no {name}")
 
     def meant(self, node: ast.expr, code: str) -> List[Member]:
-        """What an expression may stand for; nothing where that isn't known."""
+        """What an expression may stand for; nothing if that isn't known."""
         if isinstance(node, ast.Name):
             # The package, a class of it, or a variable, which may have the name of a function.
             return [Member(kind) for kind in self.kinds if kind == node.id or node.id not in self.kinds and kind != PACKAGE]

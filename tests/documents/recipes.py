@@ -121,7 +121,7 @@ def preemptions(things):
 
 
 def waits(things):
-    """From the last waking before a switch to the task; but where it ran as it was woken, and then could run on."""
+    """From the last waking before a switch to the task; but if it ran as it was woken, and then could run on."""
     kept = [thing for thing in things if thing.what != "out" or thing.state[0] == "R"]
     return neighbours(kept, "woken", "in", ("in", "out", "woken"))
 

@@ -16,7 +16,7 @@ The pages are all that pages.py knows; the script of a page of READ reads its ot
   has to read them.
 - A block of no kind is a form or a picture, and `rust` and `rattle` are code of this repository, which is not run here.
 
-A block after a line `<!-- not run: WHY -->` is not run. What needs the library or numpy isn't tried where these are missing.
+A block after a line `<!-- not run: WHY -->` is not run. What needs the library or numpy isn't tried if these are missing.
 The last lines say how many blocks were not run, and how many commands and blocks hold.
 """
 
@@ -142,7 +142,7 @@ def is_here(code):
 
 
 def lacking(kind, text):
-    """What a command needs that isn't here; None where it can be tried."""
+    """What a command needs that isn't here; None if it can be tried."""
     reports = kind in ("pycon", "python") or re.search(r"\btools/(waits|why|diff|view|export|desk)\b", text)
     if (reports or "tools/explain" in text) and not is_here("import histdesk"):
         return "the library"

@@ -48,7 +48,7 @@ def fails(case, what, lines):
 
 
 def is_known(case, what, why, lines):
-    """A known difference is what is wanted where it is: it passes, and is told."""
+    """A known difference is what is wanted there: it passes, and is told."""
     counts["known"] += 1
     passes()
     print(f"known: {what}: {text_shown(case)}: {why}")

@@ -2,7 +2,7 @@
 # c_library.sh [LIBRARY [HISTDESK]]: tests the C library, libhistdesk.so.0, by programs in C: the header, what the object
 # exports and asks for, the rows and random scripts, line by line, with numbers held against texts and with growths of memory
 # refused, a desk that is full, each growth of a session refused in turn, what is held of the heap once all events are struck,
-# buffers of just their size, threads, waits, parts and lines (under valgrind where it is installed), and the example. Where
+# buffers of just their size, threads, waits, parts and lines (under valgrind if it is installed), and the example. Where
 # HISTDESK is given, more random scripts are held against that program. Without a word, LIBRARY is the one that the variable
 # LIBHISTDESK names, or the one built here. It prints what went wrong, and a last line with the counts.
 # shellcheck disable=SC2154 # what counts.sh assigns

@@ -179,7 +179,7 @@ class Edits(unittest.TestCase):
     def test_insert(self):
         edit = self.desk.insert(LINE)
         self.assertEqual((edit.cpu, edit.line, edit.deferred), (1, 3, False))
-        # The wait of task 7 begins 20 us later: 10 us, where it was one of 30.
+        # The wait of task 7 begins 20 us later: it is 10 us now, and was 30.
         self.assertEqual(
             sorted(edit.changed),
             [

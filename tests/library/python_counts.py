@@ -159,7 +159,7 @@ class Plain(unittest.TestCase):
                     self.assertEqual(row.task, last[row.pid])
 
     def test_wrong_keys(self):
-        """What can't be a key is refused, where a key that isn't there has nothing."""
+        """What can't be a key is refused; a key that isn't there has nothing."""
         counts = quietly_found(crowded(1)).counts("name")
         self.assertEqual((counts.percentile(99, ("nobody", "woken")), counts.histogram(("nobody", "woken"))), (None, []))
         self.assertEqual((counts.longer(5, ("nobody", "woken")), counts.row(("nobody", "woken"))), (0, None))

@@ -111,7 +111,7 @@ class Tool(unittest.TestCase):
         return ran.returncode, ran.stdout, ran.stderr.decode().replace(path, "TRACE")
 
     def written(self, content, *words):
-        """What the tool writes where all is well. It says at most that switches are missing."""
+        """What the tool writes if all is well. It says at most that switches are missing."""
         status, out, told = self.ran(content, *words)
         missing = "".join(f"export: TRACE: {line}\n" for line in plain_waits.missing_told(content))
         self.assertEqual((status, told), (0, missing if words[0] == "waits" and "--events" not in words else ""))
@@ -333,7 +333,7 @@ class Latencies(Tool):
 class Waits(Tool):
     def test_known(self):
         for name, known in all_known().items():
-            # What the doubtful ones are, hangs on which events are lost; they are told from each other by hand alone.
+            # What the doubtful ones are, hangs on which events are lost; they are told from each other only by hand.
             if name.startswith("damaged"):
                 continue
             status, out, _ = self.ran(known.text, "waits", "--json")

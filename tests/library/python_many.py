@@ -4,7 +4,7 @@ killed, beside a plain reckoning over all of them; recordings that can't be read
 
     python_many.py [TEST]...
 
-The library is found as the package finds it. What needs numpy or Dask is skipped where they are missing: lines at the end say
+The library is found as the package finds it. What needs numpy or Dask is skipped if they are missing: lines at the end say
 what wasn't tried, and the last one how many tests hold.
 """
 
@@ -603,7 +603,7 @@ class ByDask(Alike):
         self.addCleanup(self.has_two)
 
     def has_two(self):
-        """Those that were killed are made anew; where one of them doesn't begin on a busy machine, all are."""
+        """Those that were killed are made anew; if one of them doesn't begin on a busy machine, all are."""
         import distributed
 
         try:

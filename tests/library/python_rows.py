@@ -135,7 +135,7 @@ class Script:
         return edit
 
     def tables(self):
-        """Each row of all tables, by its trigger and key; None where they are many."""
+        """Each row of all tables, by its trigger and key; None if they are many."""
         triggers = self.desk.triggers()
         if sum(trigger.totals().entries for trigger in triggers) > MOST_ROWS:
             return None

@@ -194,7 +194,7 @@ class Who(Asked):
                 self.assertEqual((status, json.loads(body)), (403, {"error": "asked by another name, or from another page"}))
 
     def test_only_here(self):
-        """It listens on this machine alone."""
+        """It listens only on this machine."""
         for family, address in ((socket.AF_INET, "127.0.0.2"), (socket.AF_INET6, "::1")):
             with self.assertRaises(OSError), socket.socket(family) as other:
                 other.settimeout(5)

@@ -389,7 +389,7 @@ class Shown(unittest.TestCase):
         self.assertEqual((again.tasks, again.cpus, again.lines()), (answer.tasks, answer.cpus, answer.lines()))
 
     def test_example(self):
-        """That of the documentation, which is skipped where numpy isn't there."""
+        """That of the documentation, which is skipped if numpy isn't there."""
         text = histdesk.summary.__doc__.replace("# doctest: +SKIP", "")
         example = doctest.DocTestParser().get_doctest(text, {"summary": histdesk.summary}, "summary", None, None)
         tried = doctest.DocTestRunner().run(example)

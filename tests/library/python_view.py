@@ -286,7 +286,7 @@ class Shown(unittest.TestCase):
                 self.assertEqual(re.findall("sched_[a-z]+", file.read()), [], name)
 
     def test_stretch_of_time(self):
-        """A stretch of time is shown as a recording of its events alone; lines are counted from its first event on."""
+        """A stretch of time is shown as a recording of only its events; lines are counted from its first event on."""
         text = recordings.simulated(3).text
         stamps = sorted(event.place.stamp for event in plain_waits.events_of(text))
         start, until = stamps[len(stamps) // 4], stamps[-20]
@@ -682,7 +682,7 @@ class Strikes(unittest.TestCase):
                 )
 
     def test_waits_told(self):
-        """A wait that begins elsewhere without struck events is told as it is then, where that is asked for."""
+        """A wait that begins elsewhere without struck events is told as it is then, if that is asked for."""
         lines = [waking(0, 1000, 2), waking(0, 1100, 2, target=1), switch(0, 1200, "<idle>-0", "w-2", state="R")]
         view = view_of(text_of(lines))
         self.assertEqual(view.wait(0, (0, 3), after=True)["begin"], 1100)
@@ -733,7 +733,7 @@ class Strikes(unittest.TestCase):
         self.check(view, text, [])
 
     def test_tables_of_one_desk_after_the_other(self):
-        """A desk without some events serves for more of them, and a new one is made where some come back."""
+        """A desk without some events serves for more of them, and a new one is made if some come back."""
         text = example("recipes.trace")
         view = view_of(text)
         for condition, hits in (("pid < 60", 64), ("pid > 0", 0), ("pid < 60", 64), ("common_pid == 24659", 62), ("", 0)):

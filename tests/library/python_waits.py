@@ -109,7 +109,7 @@ class Waits(unittest.TestCase):
 
     def test_damaged(self):
         """A wait that isn't doubtful is one that its task had, or the end of one across a gap; and none that spans no gap is
-        missing. Lines are other ones where events before are lost."""
+        missing. Lines have other numbers if events before them are lost."""
         sure = 0
         for seed in range(30):
             known = recordings.simulated(seed, holes=1 + seed % 4)
@@ -660,7 +660,7 @@ class Shown(unittest.TestCase):
         self.assertEqual(_wait_answer.ranges(()), "")
 
     def test_example(self):
-        """That of the documentation, which is skipped where numpy isn't there."""
+        """That of the documentation, which is skipped if numpy isn't there."""
         text = histdesk.waits.__doc__.replace("# doctest: +SKIP", "")
         example = doctest.DocTestParser().get_doctest(text, {"waits": histdesk.waits}, "waits", None, None)
         tried = doctest.DocTestRunner().run(example)

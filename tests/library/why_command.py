@@ -141,7 +141,7 @@ class Places(Command):
 
 
 class Chosen(Command):
-    """Which waits are told where no place is named; their lengths are those that recordings.py writes down."""
+    """Which waits are told if no place is named; their lengths are those that recordings.py writes down."""
 
     def test_worst(self):
         text = all_known()["kinds"].text

@@ -90,7 +90,7 @@ class Script:
         self.most_keys = max(self.most_keys, len({said["pid"] for said in held if "pid" in said}))
 
     def held_line(self):
-        """A line that is held, an early one where the draw says so."""
+        """A line that is held, an early one if the draw says so."""
         held = [(e["stamp"], cpu, at) for cpu, lane in self.desk.lanes.items() for at, e in lane["events"].items()]
         if self.draw.random() < 0.6:
             held = sorted(held)[: len(held) // 3]

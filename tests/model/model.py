@@ -31,7 +31,7 @@ class Refused(Exception):
 class Desk:
     def __init__(self):
         self.lanes, self.triggers, self.next_id = {}, {}, 1
-        # What replaying told, where no edit came after.
+        # What replaying told, if no edit came after.
         self.told = None
 
     # ---- edits

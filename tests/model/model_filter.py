@@ -138,7 +138,7 @@ def read_filter(text, fields):
 
 @functools.cache
 def read_pattern(pattern):
-    """The items of a pattern of `~`, None for `*` and else the bytes that one byte is of; None where it is no pattern."""
+    """The items of a pattern of `~`, None for `*` and else the bytes that one byte is of; None if it is no pattern."""
     if "\\" in pattern or pattern.startswith("!"):
         return None
     items, at = [], 0

@@ -37,7 +37,7 @@ def fail_if(met, fault):
 
 
 def read_line(line):
-    """The line's event, or None where the line is skipped."""
+    """The line's event, or None if the line is skipped."""
     fail_if(len(line) > 4096, 7)
     if is_skipped(line):
         return None

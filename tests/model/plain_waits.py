@@ -41,7 +41,7 @@ def lines_of(text: bytes) -> List[str]:
 
 def events_of(text: bytes, without: Callable[[str], bool] = lambda line: False) -> Iterator[Event]:
     """The events that matter here, in the order of the lines; those of other names, and of lines that are left out, count as
-    lines of their CPU alone."""
+    lines of their CPU only."""
     counts: Dict[int, int] = {}
     for found in filter(None, map(LINE.fullmatch, lines_of(text))):
         cpu = int(found["cpu"])

@@ -37,7 +37,7 @@ const { choose, colour, forgetStyles, KEYS, lanes, openTab, overTime, rem, side,
 
 
 def missing():
-    """What isn't there and is needed; None where all is."""
+    """What isn't there and is needed; None if all is."""
     for module in ("numpy", "selenium"):
         try:
             __import__(module)

@@ -84,7 +84,7 @@ class ByKeys(Page):
         self.until(lambda: self.find("#filter").get_attribute("aria-invalid") == "true")
         self.press(" 100", Keys.ENTER)
         self.assertEqual(self.focus(), "worst-rows")
-        # Enter stays where the text is refused.
+        # Enter stays if the text is refused.
         self.press("/", " &&")
         self.until(lambda: self.find("#filter").get_attribute("aria-invalid") == "true")
         self.press(Keys.ENTER)

@@ -10,13 +10,13 @@ made once more at once, with memory. Of each run is held:
 
 - a call answers what the row says, or runs out of memory and then, made again, answers what the row says;
 - `strike`, `unload` and `remove` never run out of memory;
-- after an accepted edit the desk is deferred just where the edit answered `Later`, which it never does on a desk that
-  isn't deferred: a `strike` where no attached trigger has a variable, a `remove` of a trigger that reads none;
+- after an accepted edit the desk is deferred exactly if the edit answered `Later`, which it never does on a desk that
+  isn't deferred: a `strike` if no attached trigger has a variable, a `remove` of a trigger that reads none;
 - the rows that an accepted insert or strike names are those that it names with memory, or there is no report, as on a
   deferred desk;
 - an insert or a strike that a refused growth defers has a growth before that, of what is gathered for its report, which
   costs it the report alone: it answers `Now`;
-- what is refused, or runs out of memory, leaves the desk deferred or not as it was; but where tables are asked for and
+- what is refused, or runs out of memory, leaves the desk deferred or not as it was; but if tables are asked for and
   the text of the answer runs out of memory, the desk may be deferred no more;
 - after a table, totals or latencies that were answered the desk isn't deferred, and a `list` leaves it as it was.
 
@@ -72,7 +72,7 @@ class Desk:
         return not any(sign in text for text in asked)
 
     def hold(self, command, want, answer, again):
-        """Holds an answer to a command, where with memory it is `want`."""
+        """Checks an answer to a command that with memory is `want`."""
         word = command.split()[0]
         is_memory = answer.text == MEMORY
         demand(answer.text == want.text or is_memory and not again, "another answer")
@@ -140,7 +140,7 @@ class Row:
             return answers, int(file.read())
 
     def hold(self, wanted, answers):
-        """Holds the answers of a run, where with memory they are `wanted`: what it came to."""
+        """Checks the answers of a run that with memory are `wanted`: what it came to."""
         desk, left, came = Desk(), iter(answers), CameTo()
         for number, (command, want) in enumerate(zip(self.commands, wanted)):
             for again in [False, True]:

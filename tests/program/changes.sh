@@ -18,7 +18,7 @@ watched_row() {
 }
 
 # watches HISTWATCH: what it prints of its example, of words that are refused, and of edits by chance, and that it ends
-# cleanly where a growth of memory is refused.
+# cleanly if a growth of memory is refused.
 watches() {
     gives watched 0 "" "$1" "$examples/changes.script" "$examples/wakeups.trace"
     prints watched "$examples/changes.expected"

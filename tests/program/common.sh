@@ -81,7 +81,7 @@ if (($# == 0)); then
     askagain=$(built askagain)
     histwatch=$(built histwatch)
 fi
-# The launcher builds the program where it is stale, which no limit holds for.
+# The launcher builds the program if it is stale, which no limit holds for.
 if ! "$histdesk" - </dev/null >/dev/null; then
     echo "not run: $histdesk"
     echo "0 passed, 1 failed"

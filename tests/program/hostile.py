@@ -32,7 +32,7 @@ from model_line import MADE, fields_of
 
 PARTS = 100
 LINES, FILTERS, TRIGGERS, SCRIPTS = 200, 50, 50, 20
-# Lines of a trace, where many traces are loaded.
+# Lines of a trace, if many traces are loaded.
 TRACE = 5
 # A run that takes more seconds is ended, and fails.
 LIMIT = 120
@@ -177,7 +177,7 @@ def script_session(draw, name):
     session.ask_all()
     last = draw.choice([texts.command(draw), "#", " ", "list 0", "hist 1"])
     session.perform(last[: draw.randrange(1, len(last) + 2)])
-    # A last line without its end is a line too, but where it is empty.
+    # A last line without its end is a line too, unless it is empty.
     session.ending = draw.choice(["\n", ""]) if session.told[-1][0] else "\n"
     return session
 

@@ -98,7 +98,7 @@ static void write_count(void) {
 }
 
 /* Counting begins where main does. What the loader and the C library ask for before it isn't the program's: a program
-   has no say in how it ends where that is refused. */
+   has no say in how it ends if that is refused. */
 static int counted_main(int count, char **words, char **environment) {
     at = number_of("REFUSE_AT");
     from = number_of("REFUSE_FROM");

@@ -10,8 +10,8 @@ may have changed, or `-- no report`. Of each report is held, by the tables that 
 - it has at most 2 rows of a trigger that reads no variable, and 4 and two for each trigger that reads the same variable of
   one that does; none of a trigger on `wakeup_latency`.
 
-First come three edits whose rows are known by hand, then EDITS (500 where none are given) by chance, over full tables, with
-two readers of one variable, one of which makes events. That a report is the same or none where growths are refused is
+First come three edits whose rows are known by hand, then EDITS (500 if none are given) by chance, over full tables, with
+two readers of one variable, one of which makes events. That a report is the same or none if growths are refused is
 held by `asked_again.py`.
 """
 
@@ -52,7 +52,7 @@ def switch(cpu, micros, before, pid):
 
 
 def answers(program, script, trace):
-    """What each command of a script prints, its report (None where it has none) and whether the desk is deferred."""
+    """What each command of a script prints, its report (None if it has none) and whether the desk is deferred."""
     with tempfile.TemporaryDirectory() as folder:
         paths = [os.path.join(folder, name) for name in ["script", "trace1"]]
         for path, lines in zip(paths, [script, trace]):

@@ -1,5 +1,5 @@
 #!/usr/bin/env bash
-# streams.sh [HISTDESK [PLAINDESK [ASKAGAIN [HISTWATCH]]]]: what HISTDESK does where the disk is full, and that a
+# streams.sh [HISTDESK [PLAINDESK [ASKAGAIN [HISTWATCH]]]]: what HISTDESK does if the disk is full, and that a
 # script which is typed is answered as it comes. program.sh says more of these words.
 set -uo pipefail
 
@@ -23,7 +23,7 @@ types() {
     : >"$folder/seen"
     timeout "$limit" "$histdesk" - <"$folder/typed" >"$folder/seen" &
     run=$!
-    # Open for reading too, so that no writing ends this script where the program has ended.
+    # Open for reading too, so that no writing ends this script if the program has ended.
     exec 3<>"$folder/typed"
     echo 'hist 1' >&3
     if comes "$folder/seen" "refused 10"; then

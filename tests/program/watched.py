@@ -8,7 +8,7 @@ over full tables (crowded_script.py), some hundreds accepted. Of each script `hi
 each attached trigger before and after each accepted insert and strike. By these tables, the `-` and `+` lines after each
 such edit are told, in order of trigger id, then key, and how many rows changed; `histwatch` must print the output of
 `histdesk` with these lines, byte for byte, end with its status and say nothing on standard error. ASKAGAIN, if it is given,
-watches over the board that keeps no tables, where no edit has a report: of the shorter scripts it must print the same.
+watches over the board that keeps no tables, on which no edit has a report: of the shorter scripts it must print the same.
 """
 
 import os

@@ -3,7 +3,7 @@
 
     beside_perf.py [SECONDS]
 
-By hand, as root, with perf. It records the scheduler's events (of one second where none are given), lets `perf sched latency`
+By hand, as root, with perf. It records the scheduler's events (of one second if none are given), lets `perf sched latency`
 tell of each task how many waits it had and how long the greatest was, and the package of the same events, turned by from-perf.
 perf counts from the sched_wakeup on, takes a task that left in state R+ for one that sleeps, has no wait of a task that was
 woken just before it slept, and has one of 0 us for a task of which it hasn't heard before it runs: for the comparison the text

@@ -106,7 +106,7 @@ builds nothing 0 ""
 asked=()
 builds "the rest" 0 "$building, 2 of 5 crates; see *" ft_c histwatch
 builds "nothing is left" 0 ""
-# What is compiled of C, where a compiler and the headers are; a fault in it keeps nothing else from being built.
+# What is compiled of C, if a compiler and the headers are there; a fault in it keeps nothing else from being built.
 compiled() {
     gives "$1" 0 "" ls -- "$root/helpers/out/$1"
     echo int >>"$root/helpers/$2"

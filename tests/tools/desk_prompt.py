@@ -188,7 +188,7 @@ class Terminal:
 
 
 def lines_to_type(row):
-    """The lines of a row's script, or None where nobody types them."""
+    """The lines of a row's script, or None if nobody types them."""
     lines = content(row, "script").split(b"\n")
     good = all(re.fullmatch(rb"[ -~]{0,400}", line) for line in lines) and re.fullmatch(rb"[ -~\n]*", content(row, "expected"))
     return lines[: -1 if not lines[-1] else None] if good and len(lines) <= MOST_TYPED else None

@@ -4,7 +4,7 @@
     explain_rows.py [--watched] EXPLAIN ROW... > WHAT WENT WRONG
 
 The plain model, asked command by command, says which line of the script each output belongs to. After each refused
-line of it, and nowhere else, stands an explanation: with that line's number and, where the refusal has a place, a caret
+line of it, and nowhere else, stands an explanation: with that line's number and, if the refusal has a place, a caret
 under that byte of the command; of a refused trace with its line. With --watched the program is histwatch, and after
 each accepted insert and strike stand rows that it changed and how many they are. The last line says how many rows hold.
 HISTDESK names the program, as for explain.
@@ -72,7 +72,7 @@ def is_tail(shown, tail, command):
 
 
 def behind_rows(told, at):
-    """Where the rows that changed end, with the line after them that says how many they are; None where it does not."""
+    """Where the rows that changed end, with the line after them that says how many they are; None if it does not."""
     start = at
     while told[at : at + 1] and re.match("[-+] [0-9]+ { ", told[at]):
         at += 1

@@ -210,7 +210,7 @@ def all_rows():
 
 
 def words_of(refusal):
-    """The words of a refusal; those of its fault alone, where that is a text's."""
+    """The words of a refusal; only those of its fault, if that is a text's."""
     words = refusal_words(f"refused {refusal}")
     return words.partition(": ")[2] if re.match("[389]:", refusal) else words
 

@@ -128,7 +128,7 @@ def line(fields: bytes, task: bytes = b"t-3", cpu: int = 2, name: bytes = b"sche
 
 WOKEN = b"comm=w pid=7 prio=120 target_cpu=001"
 LEFT = b"prev_comm=p prev_pid=5 prev_prio=120 prev_state=%s ==> next_comm=n next_pid=6 next_prio=100"
-# Each event, and the line that is made of it; none where it is left to perf.
+# Each event, and the line that is made of it; none if it is left to perf.
 GOOD = [
     (event(waking()), line(WOKEN)),
     (event(switch(), SWITCH), line(LEFT % b"S", name=b"sched_switch")),

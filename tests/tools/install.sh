@@ -45,7 +45,7 @@ used_programs() {
     done
 }
 
-# The tools that need numpy, or what they report where there is none.
+# The tools that need numpy, or what they report if there is none.
 used_reports() {
     local tool
     if ! "${alone[@]}" python3 -c 'import numpy' 2>"$folder/err"; then

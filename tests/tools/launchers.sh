@@ -1,6 +1,6 @@
 #!/usr/bin/env bash
 # launchers.sh HISTDESK [HISTWATCH]: what the launchers say beside these programs, in a folder that stands for the repository,
-# where nothing has to be built. It prints what went wrong, and a last line with the counts.
+# if nothing has to be built. It prints what went wrong, and a last line with the counts.
 # shellcheck disable=SC2154 # what counts.sh assigns
 set -uo pipefail
 

@@ -192,7 +192,7 @@ class Turned(NamedTuple):
 
 
 def turned(tools: str, path: str, programs: str = "") -> Turned:
-    """What the converter in that folder makes of a recording; by the programs in the folder `programs`, where one is named."""
+    """What the converter in that folder makes of a recording; by the programs in the folder `programs`, if one is named."""
     environ = {**os.environ, "PATH": f"{programs}:{os.environ['PATH']}" if programs else os.environ["PATH"]}
     words = [sys.executable, os.path.join(tools, converter(path)), path]
     ran = subprocess.run(words, capture_output=True, timeout=LIMIT, env=environ)
@@ -345,7 +345,7 @@ exec trace-cmd record "$@"
 """
 EVENTS = [word for name in _schema.TRACED_EVENTS for word in ("-e", name)]
 OTHER_EVENTS = ["-e", "irq", "-e", "timer_start", "-e", "sched_migrate_task"]
-# The name of a buffer, which is an instance of tracefs while it is recorded, and stays where that fails.
+# The name of a buffer, which is an instance of tracefs while it is recorded, and stays if that fails.
 INSTANCE = "histdesk-quickly"
 # What each is of, and whether it is turned quickly.
 BY_TRACE_CMD: Dict[str, Tuple[List[str], bool]] = {
@@ -382,7 +382,7 @@ def record_by_trace_cmd(folder: str) -> Dict[str, str]:
 
 
 def check_trace_cmd(folder: str, made: Dict[str, str], slow: str, quick: str) -> None:
-    """Both ways give the same, and the quick one is taken where it is to be."""
+    """Both ways give the same, and the quick one is taken if it is to be."""
     ended = os.path.join(folder, "ended")
     real = os.path.join(compiled(quick), "trace_cmd_lines")
     watched = copied(folder, "watched-trace-cmd", quick)

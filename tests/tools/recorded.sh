@@ -39,7 +39,7 @@ for _ in range(5000):
         os.write(to_back, b"x")
 ')
 
-# lost_of CPU: how many events of a CPU record said to be lost; 0 where it said nothing of it.
+# lost_of CPU: how many events of a CPU record said to be lost; 0 if it said nothing of it.
 lost_of() {
     sed -nE "s/^record: CPU $1 lost ([0-9]+) of .*/\1/p" "$folder/err" | grep . || echo 0
 }
@@ -100,7 +100,7 @@ is "holes are where the text has them" "$python" "$folder/holes.py" "$folder/tra
 is "no holes are where nothing was lost" "$python" "$folder/holes.py" "$folder/whole"
 "$python" -c 'import histdesk; histdesk.waits' 2>/dev/null || not_tried "waits: the package has none"
 "$python" -c 'import numpy' 2>/dev/null || not_tried "waits: numpy is missing"
-# A wait is doubtful where it spans a hole, by stamps alone; and no row's greatest wait is one of these.
+# A wait is doubtful if it spans a hole, only by stamps; and no row's greatest wait is one of these.
 cat >"$folder/doubts.py" <<'END'
 import sys
 import warnings

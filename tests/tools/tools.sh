@@ -1,6 +1,6 @@
 #!/usr/bin/env bash
 # tools.sh [HISTDESK [HISTWATCH]]: runs the scripts of tools/ as a user would: explain over the rows and over a table of
-# refusals and faults, by HISTWATCH too where it is given, desk over the rows and on a terminal, the others on short texts
+# refusals and faults, by HISTWATCH too if it is given, desk over the rows and on a terminal, the others on short texts
 # and on a folder that stands for tracefs. Without a word, it runs the launcher. It prints what went wrong, and a last line
 # with the counts.
 # shellcheck disable=SC2154 # what counts.sh assigns
@@ -86,7 +86,7 @@ if [[ -n $histwatch ]]; then
     prints watched "$(<"$examples/changes.expected")"
 fi
 
-# Programs that stand for the desk, where it would take long or never print it.
+# Programs that stand for the desk, if it would take long or never print it.
 script full 'echo "refused 7"; echo "refused 15"; echo "refused 1"; echo "refused 99"' 'echo told >&2' 'exit 3'
 printf '%s\n' '# full' 'insert x' 'attach sched_switch hist:keys=next_pid' 'load @1' 'load @2' >"$folder/asked"
 HISTDESK=$folder/bin/full gives full 3 told "$tools/explain" "$folder/asked"
@@ -490,7 +490,7 @@ printf '%s\n' "$trace" >"$model/trace"
 script mkdir "cp -r -- '$model' \"\$2\""
 script rmdir "rm -rf -- '$folder/gone'" "mv -- \"\$2\" '$folder/gone'"
 
-# counts OVERRUN..: the counts of the two CPUs, of which the second one has lost 6 events otherwise where it has overwritten some.
+# counts OVERRUN..: the counts of the two CPUs, of which the second one has lost 6 events otherwise if it has overwritten some.
 counts() {
     printf '%s\n' 'entries: 3' "overrun: $1" 'commit overrun: 0' 'bytes: 99' 'dropped events: 0' 'read events: 9' \
         >"$model/per_cpu/cpu0/stats"

@@ -334,7 +334,7 @@ def is_limit(text: bytes) -> bool:
 
 
 def check_ahead(seed: int) -> None:
-    """A file is read ahead in pieces that are its bytes; where it can't be read, that is raised."""
+    """A file is read ahead in pieces that are its bytes; if it can't be read, that is raised."""
     from histdesk.convert.conversion import SIZE, Ahead, Source
 
     for size in (0, 1, SIZE, SIZE + 1, 9 * SIZE + 7):

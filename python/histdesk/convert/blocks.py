@@ -131,7 +131,7 @@ class Memory:
             raise Unfit("no file of memory") from None
         os.ftruncate(self.file, PIECES * PIECE_ROOM)
         self.pieces = memoryview(mmap.mmap(self.file, PIECES * PIECE_ROOM))
-        # Both ends are held, so that nothing goes wrong where that program has ended.
+        # Both ends are held, so that nothing goes wrong if that program has ended.
         self.freed, self.freeing = os.pipe()
         self.count = 0
 

@@ -13,7 +13,7 @@ from .text_format import TextFormat
 COLUMNS = 16
 TAIL = rb"(-[0-9]+ +(?:\( *[0-9-]+\) +)?\[[0-9]+\] +(?:[^ :\n]+ +)?)([0-9]{1,10})\.([0-9]{6}|[0-9]{9}): *(.*)"
 STRICT = re.compile(rb"(.{16})" + TAIL, re.DOTALL)
-# Only of a longer name, or where blanks were taken away, the line is cut as the desk does it.
+# Only for a longer name, or if blanks were taken away, the line is cut as the desk does it.
 LOOSE = re.compile(rb"( *[^\n]*?)" + TAIL, re.DOTALL)
 LOST = re.compile(rb"CPU:([0-9]+) \[(?:LOST )?([0-9]+ )?EVENTS(?: DROPPED)?\]")
 # What has a CPU and a stamp is no piece of a name.

@@ -27,7 +27,7 @@ from .text_format import Groups, TextFormat
 
 # So many bytes are converted at once.
 SIZE = 1 << 18
-# So many seconds a pipe is left alone that had less, for as long as more comes.
+# How many seconds a pipe that had less is left alone, for as long as more comes.
 PAUSE = 0.002
 # So many pieces of a file are read ahead.
 AHEAD = 8

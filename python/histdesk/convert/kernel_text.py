@@ -15,7 +15,7 @@ if TYPE_CHECKING:
     from .text_format import Groups
 
 # A digit as nine: if a line matches with that for each of its digits, it matches with its own, since every place of the
-# pattern that takes a nine takes any digit. Lines that differ in digits alone are looked at once.
+# pattern that takes a nine takes any digit. Lines that differ only in digits are looked at once.
 SHAPE = bytes.maketrans(b"012345678", b"9" * 9)
 # So many shapes of plain lines are kept.
 MOST = 1 << 16

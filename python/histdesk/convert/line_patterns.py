@@ -30,7 +30,7 @@ _OTHER = rb"(?![ ]*" + LABELS + rb":)(?:[ ][^\n]{0,2048})?"
 
 SURE = re.compile(rb"^" + _FRONT + rb"(?:" + _OWN + rb"|" + _OTHER + rb")$", re.VERBOSE | re.MULTILINE)
 """Matches lines that hold an event which the desk reads, and no others. A few that it reads don't match: those with odd names,
-very long ones, numbers near their limits. It matches a line alone (`SURE.fullmatch(line)`, without its line break) and
+very long ones, numbers near their limits. It matches a line by itself (`SURE.fullmatch(line)`, without its line break) and
 the lines of a whole text: `SURE.sub(b"", text)` leaves those that are not sure, each at its number."""
 
 SKIPPED = re.compile(

@@ -15,7 +15,7 @@ REST = rb"((?:sched_(?:switch:[ ]{1,64}%b|wak(?:ing|eup(?:_new)?):[ ]{1,64}%b)|(
     line_patterns.LABELS,
 )
 # A stamp of six or nine digits, as two groups: all digits but the sixth after the point, then that one, and the next one too
-# where there are nine.
+# if there are nine.
 STAMP = rb"([0-9]{1,9}\.[0-9]{5})([0-9](?=:)|[0-9]{2}(?=[0-9]{2}:))[0-9]*:"
 # An odd line, as one group: one that isn't plain.
 ODD = rb"|^([^\n]*)\n"
@@ -44,7 +44,7 @@ class NotConvertible(Exception):
 
 class Line(NamedTuple):
     """A line's parts. `middle` is what stands between the task's name and the stamp, with the dash; a label has no colon,
-    and is empty where there is none; `lead` stands before the name."""
+    and is empty if there is none; `lead` stands before the name."""
 
     task: bytes
     middle: bytes

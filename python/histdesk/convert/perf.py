@@ -22,7 +22,7 @@ PLAIN = (
 )  # fmt: skip
 TAIL = rb"(\[[0-9]+\]) +([0-9]{1,10})\.([0-9]{6}|[0-9]{9}): +([^ \n]+):(?: (.*))?"
 STRICT = re.compile(rb"(.{16}) (?=[ 0-9-]{5,7} \[) *(-1|[0-9]+) " + TAIL, re.DOTALL)
-# Only of a longer name, or where blanks were taken away, it is the shortest that fits.
+# Only for a longer name, or if blanks were taken away, it is the shortest that fits.
 LOOSE = re.compile(rb" *([^\n]*?) +(?:-?[0-9]+/)?(-1|[0-9]+) +" + TAIL, re.DOTALL)
 LOST = re.compile(rb".*\[([0-9]+)\] +[0-9]+\.[0-9]+: +PERF_RECORD_LOST lost ([0-9]+) *")
 ASIDE = re.compile(rb"|#.*|.* [0-9]+\.[0-9]+: +PERF_RECORD_[A-Z_]+(?: .*)?")

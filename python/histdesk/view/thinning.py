@@ -1,4 +1,4 @@
-"""What ran on a CPU, in at most so many stretches: where there are more, short ones that lie side by side are put together."""
+"""What ran on a CPU, in at most so many stretches: if there are more, short ones that lie side by side are put together."""
 
 from __future__ import annotations
 

@@ -88,7 +88,7 @@ static bool read_filter(text rest, command *asked) {
 static const struct {
     const char *word;
     kind kind;
-    bool (*read)(text rest, command *asked); /* NULL: a number alone */
+    bool (*read)(text rest, command *asked); /* NULL: only a number */
 } forms[] = {{"load", LOAD, read_load}, {"strike", STRIKE, read_strike}, {"attach", ATTACH, read_attach},
              {"filter", REFILTER, read_filter}, {"unload", UNLOAD, NULL}, {"remove", REMOVE, NULL}, {"hist", HIST, NULL},
              {"totals", TOTALS, NULL}, {"lat", LATENCIES, NULL}, {"list", LIST, NULL}};

@@ -52,7 +52,7 @@ static void done(int line, uint32_t want, uint32_t code) {
         wrong(line, "code %" PRIu32 ", not %" PRIu32, code, want);
 }
 
-/* A call with this code, asked again where memory ran out, after `same`, which says what must be as it was. */
+/* A call with this code, asked again if memory ran out, after `same`, which says what must be as it was. */
 #define KEEPS(want, call, same)                                \
     do {                                                       \
         uint32_t code = (call);                                \

@@ -89,7 +89,7 @@ static bool takes(histdesk *desk, uint64_t count, answer *own) {
     return true;
 }
 
-/* Feeds a piece of the text in pieces of this size: the first code that isn't 0, or HISTDESK_CLOSED where a copy is wrong. */
+/* Feeds a piece of the text in pieces of this size: the first code that isn't 0, or HISTDESK_CLOSED if a copy is wrong. */
 static uint32_t feeds(histdesk *desk, size_t from, size_t end, size_t cut, answer *own) {
     uint64_t count;
     uint32_t code = HISTDESK_OK;

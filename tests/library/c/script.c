@@ -1,6 +1,6 @@
 /* script [--numbers|--refusing] SCRIPT [TRACE]...: runs a script through the library and prints what the program `histdesk`
  * prints, with its status. With --numbers the rows, latencies, events, triggers and reports that the library answers as
- * numbers are held against its texts and against each other; where they don't fit, it says so and ends with status 3. With
+ * numbers are held against its texts and against each other; if they don't fit, it says so and ends with status 3. With
  * --refusing a part of the library's growths of memory is refused, by chance from a fixed start: a call that runs out of
  * memory is made again, with memory, and the output is the same. */
 #include "heap.h"
@@ -43,7 +43,7 @@ static bool ran_out(uint32_t code) {
     return is_refusing && code == HISTDESK_MEMORY;
 }
 
-/* The code of a call, which is made again where memory ran out; and of one that never wants memory. */
+/* The code of a call, which is made again if memory ran out; and of one that never wants memory. */
 #define TRIED(call) (refuse_growths(), ran_out(call) ? (call) : code_told)
 #define SURE(call) (refuse_growths(), (void)ran_out(call), code_told)
 

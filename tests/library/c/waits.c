@@ -102,7 +102,7 @@ static uint32_t leaves_out(histdesk *desk, uint32_t event, const char *filter) {
     return histdesk_waits_without(desk, event, (const uint8_t *)filter, strlen(filter));
 }
 
-/* Reads the text in pieces of this size in a stream that has begun: the first code that isn't 0, or HISTDESK_CLOSED where a
+/* Reads the text in pieces of this size in a stream that has begun: the first code that isn't 0, or HISTDESK_CLOSED if a
  * copy is wrong. */
 static uint32_t reads_on(histdesk *desk, size_t cut, answer *own) {
     uint64_t count;
