@@ -1,6 +1,6 @@
 # shellcheck shell=bash disable=SC2034,SC2154 # what other scripts read and set
-# common.sh: what the scripts of this folder share, each of which reads it and sets `here` before, the folder. It sets `folder`,
-# one for this run, `trace` in it, and `times`, how often each run is timed.
+# common.sh: what the scripts of this folder share. Each of them sets `here`, this folder, and then reads it. It sets `folder`,
+# a folder for this run, `trace`, a file in that, and `times`, how often each run is timed.
 
 times=${TIMES:-5}
 folder=$(mktemp -d)
@@ -39,7 +39,7 @@ warm() {
     "$histdesk" "$folder/nothing" "$trace"
 }
 
-# took COMMAND..: the time of one run, in nanoseconds. What it prints is in FOLDER/out.
+# took COMMAND..: prints the time of one run, in nanoseconds. What the run prints is in FOLDER/out.
 took() {
     local start
     start=$(date +%s%N)
@@ -47,12 +47,12 @@ took() {
     echo $(($(date +%s%N) - start))
 }
 
-# The least of numbers, one a line.
+# Prints the least of numbers, one per line.
 least_number() {
     sort -n | head -n 1
 }
 
-# least COMMAND..: the least time of some runs, in nanoseconds.
+# least COMMAND..: prints the least time of some runs, in nanoseconds.
 least() {
     local run
     for ((run = 0; run < times; run++)); do
@@ -60,7 +60,7 @@ least() {
     done | least_number
 }
 
-# least_script NAME: the same of histdesk with the script FOLDER/NAME over the trace.
+# least_script NAME: prints the same for histdesk with the script FOLDER/NAME over the trace.
 least_script() {
     least "$histdesk" "$folder/$1" "$trace"
 }

@@ -1,5 +1,5 @@
 # shellcheck shell=bash disable=SC2154 # what common.sh and the scripts set
-# crates.sh: what the benches of one crate share, pairs.sh and tables.sh, which read it after common.sh.
+# crates.sh: what pairs.sh and tables.sh share, the benches of one crate each. They read it after common.sh.
 
 # copy_crates CRATE..: copies crates and all that they stand on to a repository in FOLDER.
 copy_crates() {
@@ -17,8 +17,8 @@ copy_crates() {
     done
 }
 
-# add_crate NAME CRATE..: a crate of this folder that stands on those. The gate takes each file that ends in .rt or .antt for
-# one that it has to read, so here they end in .in too.
+# add_crate NAME CRATE..: adds a crate of this folder, which stands on those. The gate takes each file that ends in .rt or
+# .antt for one that it has to read, so here they end in .in too.
 add_crate() {
     local file to
     while read -r file; do
@@ -29,7 +29,7 @@ add_crate() {
     printf '%s: %s\n' "$1" "${*:2}" >>"$folder/crates.txt"
 }
 
-# build_crate NAME WORD..: proves and builds it, and runs it once with these words.
+# build_crate NAME ARGUMENT..: proves and builds it, and runs it once with these arguments.
 build_crate() {
     (cd -- "$folder/crates/$1" && rt run -- "${@:2}" >"$folder/log" 2>&1) || {
         tail -n 40 -- "$folder/log"
@@ -37,7 +37,7 @@ build_crate() {
     }
 }
 
-# least_columns COMMAND..: the least of some runs' numbers, column by column, and after them the memory of the run in KB.
+# least_columns COMMAND..: prints the least of some runs' numbers, column by column, and after them the least memory in KB.
 least_columns() {
     local run
     for ((run = 0; run < times; run++)); do

@@ -1,6 +1,6 @@
 #!/usr/bin/env bash
-# edits.sh [EVENTS]: times 100,000 strikes and 100,000 inserts at so many held events (1,000,000), with their lines of the
-# script and of its output, against loading one event, in the same run.
+# edits.sh [EVENTS]: times 100,000 strikes and 100,000 inserts while so many events are held (1,000,000), with their lines of
+# the script and of its output, against loading one event, in the same run.
 # shellcheck source-path=SCRIPTDIR
 set -euo pipefail
 

@@ -1,7 +1,7 @@
 #!/usr/bin/env bash
-# filters.sh [EVENTS]: at so many held events (1,000,000), with eight triggers on all four events, a saver and its reader
-# among them, times another filter for a trigger without a variable, for the reader and for the saver, against attaching
-# that trigger alone with that filter (the saver: with its reader), in one run.
+# filters.sh [EVENTS]: times giving another filter to a trigger without a variable, to a reader and to its saver, against
+# attaching only that trigger with that filter (the saver: with its reader), in one run. So many events are held
+# (1,000,000), with eight triggers on all four events, these three among them.
 # shellcheck source-path=SCRIPTDIR
 set -euo pipefail
 
@@ -18,13 +18,13 @@ triggers=(
     'sched_switch hist:keys=prev_prio'
     'sched_wakeup hist:keys=prio'
 )
-# All events pass it, so that it leaves as many hits to count as without it.
+# All events pass it, so there are as many hits to count as without it.
 filter='if common_pid >= 0'
 saver_id=1
 reader_id=2
 plain_id=3
 
-# script NAME TRIGGER..: a script that loads and attaches these.
+# script NAME TRIGGER..: writes a script that loads the trace and attaches these triggers.
 script() {
     printf 'load @1\n' >"$folder/$1"
     (($# == 1)) || printf 'attach %s\n' "${@:2}" >>"$folder/$1"

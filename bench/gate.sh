@@ -10,7 +10,7 @@ here=$(dirname -- "$(realpath -- "${BASH_SOURCE[0]}")")
 . "$here/common.sh"
 git clone -q -- "$here/.." "$folder/clone"
 cd -- "$folder/clone"
-# A kit that keeps what passed has a word against it.
+# A kit that keeps what passed has an option against that.
 anew=()
 if grep -qe '--anew' -- "$(command -v rt)"; then
     anew=(--anew)

@@ -4,7 +4,7 @@ import re
 
 
 def held(trace):
-    """Of each event line its CPU, its number among the lines of that CPU, and its bytes."""
+    """Return, for each event line, its CPU, its number among the lines of that CPU, and its bytes."""
     counts = {}
     with open(trace, "rb") as file:
         for line in file:
@@ -16,10 +16,10 @@ def held(trace):
 
 
 def places(trace):
-    """The CPU and number of each, CPU by CPU."""
+    """Return the CPU and number of each event line, CPU by CPU."""
     return sorted((cpu, number) for cpu, number, _ in held(trace))
 
 
 def strikes(some, count):
-    """Commands that strike so many of the places, all over them, none twice."""
+    """Return commands that strike so many of the places, all over them, none twice."""
     return [f"strike {cpu}:{number}\n" for cpu, number in some[:: max(1, len(some) // count)][:count]]

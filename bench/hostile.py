@@ -1,5 +1,5 @@
 #!/usr/bin/env python3
-"""How the time of a program grows with hostile input, for hostile.sh, which says what is printed.
+"""Prints how the time of a program grows with hostile input, for hostile.sh, which says what is printed.
 
     hostile.py PROGRAM FOLDER
 """
@@ -27,7 +27,7 @@ def switch(micros, pid):
     return f" sim-1 [000] d.h.. {stamp(micros)}: sched_switch: {said} next_pid={pid} next_prio=120"
 
 
-# Each of these gives, for a size: a script that is measured, one that is taken off, and the traces of both.
+# Each of these returns, for a size: a script that is measured, one whose time is subtracted, and the traces of both.
 
 
 def filtered(text, events=2000, again=100):
@@ -38,7 +38,7 @@ def filtered(text, events=2000, again=100):
 
 
 def operands(count):
-    """So many operands on 32 levels, each of which is looked at."""
+    """Return so many operands on 32 levels, each of which is looked at."""
     text = ""
     for level in range(33):
         text = "&&".join(["pid<9"] * ((count + level) // 33) + [f"({text})"] * (level > 0))
@@ -50,7 +50,7 @@ def refused(text, count=2000):
 
 
 def named(length):
-    """A trigger with a long name, that comes and goes."""
+    """A trigger with a long name, which comes and goes."""
     name = "v" * length
     text = f"attach sched_waking hist:keys=pid:{name}=common_timestamp.usecs:vals=${name}:sort=${name}"
     return [line for number in range(1, 1001) for line in (text, f"remove {number}")], [], []
@@ -65,13 +65,13 @@ def traced(count, micros, keys=2000, size=2048):
 
 
 def edited(times, *commands):
-    """The commands so often, each time with its number."""
+    """Return the commands so many times, each time with its number."""
     return [command.format(number) for number in range(1, times + 1) for command in commands]
 
 
 def hot_key(operations, edits=10):
-    """A saver's full table. A key with so many operations goes out as an event of a new key comes before all others, and
-    in again as that one is struck."""
+    """A saver's full table. A key with so many operations goes out when an event of a new key comes before all others, and
+    in again when that one is struck."""
     trace = [waking(10**6 + n, n) for n in range(127)]
     for n in range(operations // 2):
         trace += [waking(2 * 10**6 + 2 * n, 999), switch(2 * 10**6 + 2 * n + 1, 999)]
@@ -87,18 +87,18 @@ def first_of_many(keys, edits=500):
 
 
 def other_keys(keys):
-    """A lane that wakes so many tasks, and one that then wakes one more, all others."""
+    """Return a lane that wakes so many tasks, and one that then wakes other tasks, one more of them."""
     return [waking(n, n) for n in range(keys)], [waking(10**7 + n, keys + n, cpu=1) for n in range(keys + 1)]
 
 
 def unloaded(keys):
-    """The first of two lanes goes, all of whose keys are its own."""
+    """The first of two lanes goes; the other one has none of its keys."""
     front = ["load @1", "attach sched_waking hist:keys=pid"]
     return [*front, "unload 0", "totals 1"], [*front, "totals 1"], [line for lane in other_keys(keys) for line in lane]
 
 
 def loaded(keys):
-    """The first of two lanes comes, all of whose keys are its own."""
+    """The first of two lanes comes; the other one has none of its keys."""
     front = ["load @2", "attach sched_waking hist:keys=pid"]
     return [*front, "load @1", "totals 1"], [*front, "totals 1"], *other_keys(keys)
 
@@ -141,7 +141,7 @@ def write(path, lines):
 
 
 def least(program, folder, script, traces):
-    """The least processor time of some runs."""
+    """Return the least processor time of some runs."""
     words = [program, write(f"{folder}/script", script)]
     words += [write(f"{folder}/trace{number}", trace) for number, trace in enumerate(traces, 1)]
     times = []

@@ -1,7 +1,7 @@
 #!/usr/bin/env bash
-# hostile.sh [PROGRAM]: how the time grows that hostile input takes, as it gets twice and four times as large: processor
-# time, the least of some runs, less what the same desk takes without that input. Each line has the size at first, and the
-# times as ratios to the first; what grows in proportion has 1, 2 and 4.
+# hostile.sh [PROGRAM]: prints how the time that hostile input takes grows as the input gets twice and four times as large. It
+# is processor time, the least of some runs, less what the same desk takes without that input. Each line has the size at
+# first, and the times as ratios to the first; what grows in proportion has 1, 2 and 4.
 # shellcheck source-path=SCRIPTDIR
 set -euo pipefail
 

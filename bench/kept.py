@@ -1,8 +1,8 @@
 #!/usr/bin/env python3
 """Writes the scripts of kept.sh into FOLDER, each of which loads the trace and attaches a saver and a reader: strike and
-insert edit so often, strike-totals and insert-totals ask for the reader's totals after each edit, and strike-hist and
-insert-hist print its table after the first PRINTS of them; totals and hist ask three times without an edit. Prints how many
-edits and how many tables that are.
+insert have EDITS edits at most, strike-totals and insert-totals also ask for the reader's totals after each edit, and
+strike-hist and insert-hist print its table after each of the first PRINTS edits; totals and hist ask three times without an
+edit. Prints how many edits and how many tables there are.
 
     kept.py FOLDER TRACE EDITS PRINTS SAVER READER
 """

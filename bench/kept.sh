@@ -1,7 +1,7 @@
 #!/usr/bin/env bash
-# kept.sh [EVENTS..]: at so many held events (10,000, 100,000 and 1,000,000), with a saver and a reader attached, times an
-# insert and a strike, each alone and followed by `totals` or by `hist` of the reader, and the same answers of `plaindesk`,
-# which replays at each, in one run. HISTDESK and PLAINDESK may name programs that are built already.
+# kept.sh [EVENTS..]: times an insert and a strike, each by itself and followed by `totals` or by `hist` of the reader, and the
+# same answers of `plaindesk`, which replays at each, in one run. So many events are held (10,000, 100,000 and 1,000,000), and
+# a saver and a reader are attached. HISTDESK and PLAINDESK may name programs that are built already.
 # shellcheck source-path=SCRIPTDIR
 set -euo pipefail
 
@@ -18,7 +18,7 @@ least_plain() {
     least "$plaindesk" "$folder/$1" "$trace"
 }
 
-# row EDIT: what it takes alone and with each answer.
+# row EDIT: prints how long it takes by itself and with each answer.
 row() {
     local alone with_totals with_hist
     alone=$(least_script "$1")

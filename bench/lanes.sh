@@ -1,7 +1,7 @@
 #!/usr/bin/env bash
-# lanes.sh [EVENTS]: at so many held events (900,000), with eight triggers on all four events, two of them a saver and a
-# reader, times the unloading and the loading of lanes with a hundredth of the events each, against building all tables
-# anew, in one run. What reading their lines takes is taken off.
+# lanes.sh [EVENTS]: times the unloading and the loading of lanes with a hundredth of the events each, against building all
+# tables anew, in one run. So many events are held (900,000), with eight triggers on all four events, two of them a saver
+# and a reader. What reading the lines of the lanes takes is subtracted.
 # shellcheck source-path=SCRIPTDIR
 set -euo pipefail
 
@@ -27,7 +27,7 @@ unload() {
     done
 }
 
-# least_of PART..: the least time with a script that loads the first trace and does these.
+# least_of PART..: prints the least time with a script that loads the first trace and does these.
 least_of() {
     local part
     {

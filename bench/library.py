@@ -1,5 +1,5 @@
 #!/usr/bin/env python3
-"""The library from Python beside the program: a load, latencies as numbers, rows as numbers.
+"""Times the library from Python beside the program: a load, latencies as numbers, rows as numbers.
 
     library.py [EVENTS]
 
@@ -17,7 +17,7 @@ import time
 HERE = os.path.dirname(os.path.realpath(__file__))
 PROGRAM = os.environ.get("HISTDESK") or os.path.join(HERE, "..", "histdesk")
 TIMES = int(os.environ.get("TIMES", "5"))
-# So many wakings, each with its switch: the most that a desk holds.
+# How many wakings there are, each with its switch: the most that a desk holds.
 PAIRS = 524_288
 # The most keys that a table holds.
 KEYS = 131_072
@@ -27,13 +27,13 @@ TABLE = f"hist:keys=pid:size={KEYS}"
 
 
 def large_pages():
-    """The environment in which the C library asks for large pages."""
+    """Return the environment in which the C library asks for large pages."""
     given = os.environ.get("GLIBC_TUNABLES")
     return {**os.environ, "GLIBC_TUNABLES": ":".join(filter(None, [given, "glibc.malloc.hugetlb=1"]))}
 
 
 def write_pairs(path):
-    """Wakings of KEYS tasks in turn, each followed by the switch to the task, 5 us later."""
+    """Write wakings of KEYS tasks in turn, each followed by the switch to the task, 5 us later."""
     switch = "prev_comm=i prev_pid=0 prev_prio=120 prev_state=R ==> next_comm=w next_pid={pid} next_prio=120"
     with open(path, "w", encoding="ascii") as file:
         for at in range(PAIRS):
@@ -45,14 +45,14 @@ def write_pairs(path):
 
 
 def by_program(script, trace):
-    """The seconds of a run of the program."""
+    """Return the seconds that a run of the program takes."""
     begun = time.perf_counter()
     subprocess.run([PROGRAM, "-", trace], input=script.encode(), stdout=subprocess.DEVNULL, check=True, env=large_pages())
     return time.perf_counter() - begun
 
 
 def by_package(what, trace):
-    """What a process of its own measures by the package: one of the functions below, of this trace."""
+    """Return what one of the functions below measures over this trace, in a process of its own."""
     words = [sys.executable, os.path.realpath(__file__), what, trace]
     ran = subprocess.run(words, stdout=subprocess.PIPE, check=True, env=large_pages())
     return [float(word) for word in ran.stdout.split()]
@@ -69,12 +69,12 @@ def desk_of(trace):
 
 
 def load(trace):
-    """A load."""
+    """Return the seconds that a load takes."""
     return [desk_of(trace)[1]]
 
 
 def latencies(trace):
-    """Over a million latencies of two readers, as arrays."""
+    """Return the seconds that it takes to get over a million latencies of two readers as arrays."""
     desk, _ = desk_of(trace)
     readers = []
     for n in (0, 1):
@@ -91,7 +91,7 @@ def latencies(trace):
 
 
 def rows(trace):
-    """The rows of a full table, and its text."""
+    """Return the seconds that it takes to get the rows of a full table, and those for its text."""
     desk, _ = desk_of(trace)
     table = desk.attach("sched_waking", TABLE)
     table.totals()

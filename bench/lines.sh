@@ -1,7 +1,7 @@
 #!/usr/bin/env bash
-# lines.sh [BYTES]: what hostile lines of so many bytes (4,096) cost against plain ones, by the byte. A
+# lines.sh [BYTES]: prints what hostile lines of so many bytes (4,096) cost against plain ones, per byte. A
 # trace of one line, which has a fault at its end, is loaded and refused 100 times in one run under
-# valgrind, which counts instructions; what a load of a line of one byte takes is taken off.
+# valgrind, which counts instructions; what a load of a line of one byte takes is subtracted.
 # shellcheck source-path=SCRIPTDIR
 set -euo pipefail
 
@@ -10,7 +10,7 @@ here=$(dirname -- "$(realpath -- "${BASH_SOURCE[0]}")")
 length=${1:-4096}
 loads=100
 
-# Instructions of a load of the trace.
+# Prints the instructions of a load of the trace.
 each() {
     local count
     valgrind --tool=callgrind --callgrind-out-file=/dev/null "$histdesk" "$folder/loads" "$trace" \
@@ -19,13 +19,13 @@ each() {
     echo $((count / loads))
 }
 
-# line WHAT FRONT PIECE BACK: FRONT, and as much of PIECE as makes a line of the length with BACK.
+# line WHAT FRONT PIECE BACK: the row of a line of the length: FRONT, as much of PIECE as there is room for, and BACK.
 line() {
     python3 "$here/lines.py" "$length" "${@:2}" >"$trace"
     row "$1"
 }
 
-# row WHAT: the row of the trace's line, and `plain`, instructions a byte of the first one.
+# row WHAT: prints the row of the trace's line, and sets `plain` to the instructions per byte of the first one.
 row() {
     local bytes count
     bytes=$(($(stat -c %s "$trace") - 1))

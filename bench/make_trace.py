@@ -5,9 +5,9 @@
 
 A small scheduler is simulated: sleeping tasks are woken (sched_waking on the waker's CPU,
 sched_wakeup on the target's a moment later), the target CPU switches to them some microseconds
-after that, they run, and switch away to the next queued task or to the idle task. Between these
-stand a few other events, lost-events lines and the header. The stamps ascend, EVENTS event lines are
-written, and the same words give the same bytes.
+after that, they run, and switch away to the next queued task or to the idle task. There are also
+a few other events, lost-events lines and the header. The stamps ascend, EVENTS event lines are
+written, and the same arguments give the same bytes.
 """
 
 import argparse
@@ -121,7 +121,7 @@ class Machine:
     # ---- what happens
 
     def wake(self, task):
-        """A sleeping task is to be woken, often from its own CPU's interrupt."""
+        """Wake a sleeping task, often from an interrupt of its own CPU."""
         rng = self.rng
         waker = task.cpu if rng.random() < 0.7 else rng.randrange(self.cpus)
         if rng.random() < 0.15:
@@ -159,7 +159,7 @@ class Machine:
             self.at(self.span(6), self.switch, task.cpu, running, "R+" if running.pid else "R")
 
     def switch(self, cpu, running, state):
-        """`running` gives the CPU away, unless it has done so already."""
+        """Have `running` give the CPU away, unless it has done so already."""
         if self.current[cpu] is not running:
             return
         queue = self.queue[cpu]

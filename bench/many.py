@@ -1,9 +1,9 @@
 #!/usr/bin/env python3
-"""Many recordings asked by one process, by two and by four: waits by name, and the rows of a trigger.
+"""Times questions to many recordings in one process, in two and in four: waits by name, and the rows of a trigger.
 
     many.py [RECORDINGS [EVENTS]]
 
-So many recordings (32) of so many events each (100,000) are made by make_trace.py, each of another seed. Needs numpy. The
+make_trace.py makes so many recordings (32) of so many events each (100,000), each with another seed. Needs numpy. The
 library is what HISTDESK_LIBRARY names or the checkout's. Each way is tried in turn, three times or as often as TIMES says, and
 the least time counts; every answer is the same.
 """
@@ -25,7 +25,7 @@ WAYS = (0, 1, 2, 4)
 
 
 def made(folder, recordings, events):
-    """The paths of recordings, which are made by as many processes as there are processors."""
+    """Make recordings by as many processes as there are processors, and return their paths."""
     paths = [os.path.join(folder, f"{at:04}.trace") for at in range(recordings)]
     waiting, running = list(enumerate(paths)), []
     while waiting or running:
@@ -40,7 +40,7 @@ def made(folder, recordings, events):
 
 
 def timed(paths, question, processes):
-    """The answer, and the seconds that it took."""
+    """Return the answer, and the seconds that it took."""
     begun = time.perf_counter()
     answer = histdesk.many(paths, question, processes=processes, progress=False).answer
     return answer, time.perf_counter() - begun

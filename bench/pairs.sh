@@ -1,7 +1,7 @@
 #!/usr/bin/env bash
 # pairs.sh [OPERATIONS]: times so many saves and reads (1,000,000), over 2,000 keys and with a key for each: as they are
-# put in ascending order, as each is asked what it finds, and as each key is walked. Measured against a BTreeMap by key
-# of BTreeMaps by place of Rust's (plain_pairs.rs), in the same run.
+# put in ascending order, as each is asked what it finds, and as each key is walked. They are measured against a BTreeMap
+# by key of BTreeMaps by place in Rust (plain_pairs.rs), in the same run.
 #
 # The program, of the crate pairs/, is proved and built in a copy of the repository, which takes some minutes.
 # shellcheck source-path=SCRIPTDIR

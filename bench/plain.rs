@@ -293,7 +293,7 @@ struct Row {
 }
 
 impl Table {
-    /// Counts a hit: the row of its key, if that is in.
+    /// Counts a hit, and returns the row of its key, if that is in.
     fn count(&mut self, key: i32) -> Option<&mut Row> {
         if self.rows.len() == SIZE && !self.rows.contains_key(&key) {
             self.dropped += 1;

@@ -1,5 +1,5 @@
 # shellcheck shell=bash disable=SC2154 # what common.sh sets
-# recordings.sh: what the benches over recordings share, turn.sh and waits.sh, which read it after common.sh.
+# recordings.sh: what turn.sh and waits.sh share, the benches over recordings. They read it after common.sh.
 
 # What keeps a machine busy while it is recorded.
 busy='perf bench sched messaging -l 900; perf bench sched pipe -l 60000'
@@ -10,7 +10,7 @@ record_by_perf() {
     perf record -q -a -m 16M -o "$1" "${events[@]/#/-esched:}" bash -c "$busy" >"$folder/out"
 }
 
-# Whether a recording is of perf.
+# Whether perf made a recording.
 is_by_perf() {
     [[ $(head -c 8 -- "$1") == PERFILE2 ]]
 }

@@ -21,7 +21,7 @@ run() {
     awk '{ print ($1 + $2) * 1000 }' "$folder/took" | paste -d ' ' - "$folder/memory" >>"$folder/$name.runs"
 }
 
-# The least time of a command, and the most memory in that run.
+# Prints the least time of a command, and the most memory in that run.
 least_run() {
     least_number <"$folder/$1.runs"
 }

@@ -1,7 +1,7 @@
 #!/usr/bin/env bash
 # tables.sh [HITS]: times a table of so many hits (1,000,000), over 2,000 keys and with a key for each hit:
 # as it is filled in ascending order, and as a hit of a new key comes before all others and goes again.
-# Measured against one BTreeMap and one Vec of Rust's (plain_map.rs), in the same run.
+# It is measured against one BTreeMap and one Vec in Rust (plain_map.rs), in the same run.
 #
 # The program, of the crate tables/, is proved and built in a copy of the repository, which takes some minutes.
 # shellcheck source-path=SCRIPTDIR

@@ -2,11 +2,11 @@
 # turn.sh [RECORDING]..: times what makes a text of what was recorded: tools/record beside `cat` of the same trace, from-perf
 # beside `perf script`, from-trace-cmd beside `trace-cmd report`, and these two also without what build/build compiles for them;
 # and tools/waits of each recording as it is, beside `perf sched latency` and `trace-cmd report`.
-# Without a word it records first, as root, a machine that two benchmarks of perf keep busy, by tracefs and by both tools.
+# Without an argument, it first records, as root, a machine that two benchmarks of perf keep busy, by tracefs and by both tools.
 #
-# The commands over one recording run in turn, seven times or as often as TIMES says, and write into files. It prints for each
-# the least time by the clock, the least time of processors, and the ratio of the first to that of the command beside it. The
-# words of FRONT stand before each: FRONT='chrt -r 1' on a machine that others keep busy.
+# The commands over one recording run in turn, seven times or as often as TIMES says, and write into files. For each, it prints
+# the least time by the clock, the least time of processors, and the ratio of the first to that of the command beside it. What
+# FRONT holds is put before each: FRONT='chrt -r 1' on a machine that others keep busy.
 # shellcheck source-path=SCRIPTDIR
 set -euo pipefail
 
@@ -29,7 +29,7 @@ take_back() {
     rm -rf -- "$folder"
 }
 
-# row WHAT COMMAND..: a command to be timed; the first one is what the others stand beside.
+# row WHAT COMMAND..: adds a command to be timed; the others are compared with the first one.
 row() {
     names+=("$1")
     commands+=("$(printf '%q ' "${@:2}")")
@@ -55,13 +55,13 @@ measure() {
     commands=()
 }
 
-# tell WHAT EVENTS: what is measured next.
+# tell WHAT EVENTS: prints what is measured next.
 tell() {
     printf '\n%s: %d events; the least of %s runs in turn\n\n%-44s %9s %12s %6s\n' "$1" "$2" "$times" command 'clock, s' \
         'processor, s' ratio
 }
 
-# The trace of an instance of tracefs, which stays while it is read again and again.
+# Measures reading the trace of an instance of tracefs, which stays while it is read again and again.
 measure_record() {
     local event
     instance=$tracefs/instances/histdesk.$$
@@ -78,7 +78,7 @@ measure_record() {
     measure
 }
 
-# measure_turned SCRIPT RECORDING COMMAND..: a converter beside this command.
+# measure_turned SCRIPT RECORDING COMMAND..: measures a converter beside this command.
 measure_turned() {
     tell "$1" "$("$tools/$1" "$2" 2>"$folder/err" | grep -vc '^#')"
     row "${*:3:2}" "${@:3}"
@@ -87,7 +87,7 @@ measure_turned() {
     measure
 }
 
-# measure_asked RECORDING COMMAND..: the waits of a recording as it is, beside this command.
+# measure_asked RECORDING COMMAND..: measures the waits of a recording as it is, beside this command.
 measure_asked() {
     tell "waits of $(basename -- "$1")" "$("$python" "$tools/waits" --json "$1" 2>"$folder/err" | sed -nE '1s/.*"events": ([0-9]+),.*/\1/p')"
     row "${*:2:3}" "${@:2}"

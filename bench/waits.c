@@ -1,5 +1,5 @@
-/* waits TRACE: reads a trace by a stream of the library, piece by piece, and prints how many waits it tells and how long they
- * are together: what the engine takes by itself. */
+/* waits TRACE: reads a trace by a stream of the library, piece by piece, and prints how many waits there are and how long
+ * they are together. Its time is what the engine takes by itself. */
 #include <fcntl.h>
 #include <inttypes.h>
 #include <stdio.h>
@@ -11,7 +11,7 @@ static uint8_t piece[1 << 20];
 static histdesk_wait waits[1 << 10];
 static uint64_t told, micros;
 
-/* Adds up the waits that the last call told. */
+/* Adds up the waits that the last call reported. */
 static void add_told(histdesk *desk)
 {
     uint64_t count;

@@ -2,13 +2,12 @@
 # waits.sh [RECORDING [TRACE]]: times the waits of recordings: the engine by itself (waits.c), tools/waits, and the tools that
 # stand on it, beside `wc -l` and what perf says of the same events, `perf sched latency` and `perf sched timehist -s`.
 #
-# First it does so over a synthetic trace of EVENTS events (1,000,000), then over a recording of perf. Without a word it makes
-# that one by perf, as root, of a machine that two benchmarks of perf keep busy. TRACE is what tools/from-perf makes of the
-# recording, which it makes anew if it isn't given. If LONG is set, a synthetic trace of so many events is read in one part
-# and in four at once.
+# First it does so over a synthetic trace of EVENTS events (1,000,000), then over a recording of perf. Without an argument, it
+# records, as root, a machine that two benchmarks of perf keep busy. TRACE is what tools/from-perf makes of the recording; if
+# it isn't given, it is made. If LONG is set, a synthetic trace of so many events is read in one part and in four at once.
 #
-# All commands over one trace run in turn, seven times or as often as TIMES says. It prints for each the least time by the
-# clock, the least time of processors, and the most memory that a process of it had.
+# All commands over one trace run in turn, seven times or as often as TIMES says. For each, it prints the least time by
+# the clock, the least time of processors, and the most memory that a process of it had.
 # shellcheck source-path=SCRIPTDIR
 set -euo pipefail
 
@@ -20,16 +19,16 @@ tools=$(realpath -- "$here/../tools")
 library=$here/../crates/ft_c/out
 # About four million events.
 busy='perf bench sched messaging -l 2700; perf bench sched pipe -l 180000'
-# A slice has so many events.
+# How many events a slice has.
 slice=20000
 
-# row WHAT COMMAND..: a command to be timed.
+# row WHAT COMMAND..: adds a command to be timed.
 row() {
     names+=("$1")
     commands+=("$(printf '%q ' "${@:2}")")
 }
 
-# Runs the commands in turn, and prints what each took; a command that fails is told, with the last line of what it said.
+# Runs the commands in turn, and prints what each took; a command that fails is reported, with the last line of what it said.
 measure() {
     local run at
     for ((run = 0; run < times; run++)); do
@@ -58,7 +57,7 @@ measure() {
     commands=()
 }
 
-# stamp_of LINE: the stamp of the first event from a line of the trace on.
+# stamp_of LINE: prints the stamp of the first event from a line of the trace on.
 stamp_of() {
     tail -n "+$1" -- "$trace" | grep -m 1 -oE '[0-9]+\.[0-9]{6}: ' | tr -d ': '
 }
@@ -71,7 +70,7 @@ rows_of_any() {
     row 'tools/summary' "$python" "$tools/summary" "$trace"
 }
 
-# The commands over a recording of perf, of which the trace is the text.
+# The commands over a recording of perf, whose text is the trace.
 rows_of_recording() {
     local lines middle
     lines=$(wc -l <"$trace")
@@ -91,7 +90,7 @@ rows_of_recording() {
     row 'tools/export waits' "$python" "$tools/export" "$trace" waits
 }
 
-# What a trace is, in a line.
+# Prints what a trace is, in a line.
 tell() {
     local told
     told=$("$python" "$tools/waits" --by kind --json "$trace" 2>"$folder/err" |

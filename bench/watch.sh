@@ -1,6 +1,6 @@
 #!/usr/bin/env bash
-# watch.sh [EVENTS]: times strikes of wakings by histwatch, which prints the rows that they change, if a saver and a reader
-# are attached, and if a table of the events that the reader makes is attached too, against histdesk over the same scripts.
+# watch.sh [EVENTS]: times strikes of wakings by histwatch, which prints the rows that they change, against histdesk over the
+# same scripts: once with a saver and a reader attached, and once also with a table of the events that the reader makes.
 # shellcheck source-path=SCRIPTDIR
 set -euo pipefail
 
@@ -12,7 +12,7 @@ strikes=2000
 # shellcheck disable=SC2016 # for the desk
 made=':onmatch(sched.sched_waking).wakeup_latency($lat,next_pid,next_prio)'
 
-# row NAME PROGRAM: what a strike takes this program, with the triggers of FOLDER/NAME.
+# row NAME PROGRAM: prints how long a strike takes this program, with the triggers of FOLDER/NAME.
 row() {
     local first all
     first=$(least "${!2}" "$folder/$1.first" "$trace")
@@ -29,7 +29,7 @@ printf '%s\n' 'load @1' "attach $saver" "attach $reader$made" 'attach wakeup_lat
     >"$folder/made"
 for name in pair made; do
     cat -- "$folder/$name" "$folder/strikes" >"$folder/$name.strikes"
-    # The first look at the rows is no edit's.
+    # The first look at the rows belongs to no edit.
     (cat -- "$folder/$name" && head -n 1 -- "$folder/strikes") >"$folder/$name.first"
 done
 warm

@@ -6,7 +6,7 @@ from pathlib import Path
 from typing import NamedTuple
 
 ROOT = Path(__file__).resolve().parents[1]
-# What builds keep: of each crate its statements, which crates above it read, and NAME.proved, which is as old as the start of
+# What builds keep: for each crate, its statements, which crates above it read, and NAME.proved, which is as old as the start of
 # its proof; the kit's name; how long builds took; and what the last one printed.
 OUT = ROOT / "build" / "out"
 
@@ -32,13 +32,13 @@ Below = dict[str, list[str]]
 
 
 def read_crates() -> Below:
-    """What each crate depends on, in the order of crates.txt. After the name of a static library stands that it is one."""
+    """Return what each crate depends on, in the order of crates.txt, which has a mark after the name of a static library."""
     lines = (line.partition(":") for line in (ROOT / "crates.txt").read_text(encoding="utf-8").splitlines())
     return {name.split()[0]: below.split() for name, colon, below in lines if colon and not name.startswith("#")}
 
 
 def in_order(crates: Iterable[str], below: Below) -> list[str]:
-    """These crates and all that they depend on, each after those that it depends on."""
+    """Return these crates and all that they depend on, each after those that it depends on."""
     order: dict[str, None] = {}
 
     def add(name: str) -> None:
@@ -53,7 +53,7 @@ def in_order(crates: Iterable[str], below: Below) -> list[str]:
 
 
 def changed(path: str | Path) -> int:
-    """When a file or a folder last changed, in nanoseconds, or -1 if there is none."""
+    """Return when a file or a folder last changed, in nanoseconds, or -1 if there is none."""
     try:
         return os.stat(path).st_mtime_ns
     except OSError:
@@ -61,25 +61,25 @@ def changed(path: str | Path) -> int:
 
 
 def sources_changed(name: str) -> int:
-    """When a source of a crate, or a folder of them, last changed."""
+    """Return when a source of a crate, or a folder of them, last changed."""
     folders = [ROOT / "crates" / name / part for part in ("src", "specs", "proofs")]
     found = (os.path.join(at, file) for folder in folders for at, _, files in os.walk(folder) for file in (".", *files))
     return max(map(changed, found), default=-1)
 
 
 def files_of(name: str) -> list[str]:
-    """The files that are made of a crate, beside its statements."""
+    """Return the files that are made of a crate, besides its statements."""
     return [file for product in PRODUCTS.values() if product.crate == name for file in product.files]
 
 
 def is_made(name: str) -> bool:
-    """Whether all files that are made of a crate are there."""
+    """Return whether all files that are made of a crate are there."""
     return all((ROOT / "crates" / name / "out" / file).exists() for file in files_of(name))
 
 
 def stale_crates(order: list[str], below: Below) -> set[str]:
-    """Those that are to be proved: there is no proof, or no product, or since the proof began a source, crates.txt or the proof
-    of a crate below has changed."""
+    """Return the crates that are to be proved: those that have no proof or no product, or for which a source, crates.txt or the
+    proof of a crate below has changed since their proof began, and those above them."""
     stale: set[str] = set()
     listed = changed(ROOT / "crates.txt")
     proved = {name: changed(OUT / f"{name}.proved") for name in order}
@@ -91,13 +91,13 @@ def stale_crates(order: list[str], below: Below) -> set[str]:
 
 
 def proof_seconds() -> dict[str, int]:
-    """The processor seconds of each crate's proof that was measured."""
+    """Return the processor seconds of each crate's proof that was measured."""
     lines = (ROOT / "build" / "proof_seconds").read_text(encoding="utf-8").splitlines()
     return {name: int(seconds) for name, seconds in (line.split() for line in lines if not line.startswith("#"))}
 
 
 def chains(order: list[str], below: Below, seconds: dict[str, int]) -> dict[str, int]:
-    """The processor seconds of each crate and of those above it in the chain that takes longest."""
+    """Return, for each crate, the processor seconds of it and of those above it, in the chain that takes longest."""
     chain: dict[str, int] = {}
     for name in reversed(order):
         chain[name] = chain.get(name, 0) + seconds.get(name, UNMEASURED)

@@ -1,4 +1,4 @@
-"""Proves crates side by side, those first that the longest chain of others waits for."""
+"""Proves crates side by side, first those for which the longest chain of others waits."""
 
 import os
 import shutil
@@ -39,7 +39,7 @@ class Job(NamedTuple):
     since: str
 
     def send(self, number: int) -> None:
-        """Sends a signal to all processes of the job."""
+        """Send a signal to all processes of the job."""
         try:
             os.killpg(self.process.pid, number)
         except ProcessLookupError:
@@ -53,18 +53,18 @@ class Progress:
         self.is_terminal = sys.stderr.isatty()
 
     def show(self, text: str) -> None:
-        """Shows where the build is."""
+        """Show where the build is."""
         before, after = ("\r\x1b[K", "") if self.is_terminal else ("", "\n")
         print(f"{before}build: {text}", end=after, file=sys.stderr, flush=True)
 
     def end(self, text: str) -> None:
-        """Ends the line of `show` on a terminal, by a text."""
+        """End the line of `show` on a terminal, by a text."""
         if self.is_terminal:
             print(text, end="", file=sys.stderr, flush=True)
 
 
 def most_at_once() -> int:
-    """How many crates are proved at a time."""
+    """Return how many crates are proved at a time."""
     lines = Path("/proc/meminfo").read_text(encoding="ascii").splitlines()
     free = next(int(line.split()[1]) for line in lines if line.startswith("MemAvailable:"))
     return max(1, min(len(os.sched_getaffinity(0)), free // MEMORY_PER_CRATE))
@@ -98,7 +98,7 @@ class Build:
         self.progress = Progress()
 
     def run(self) -> None:
-        """Proves the crates.
+        """Prove the crates.
 
         Raises
         ------
@@ -109,7 +109,7 @@ class Build:
         """
         signals = {signal.SIGCHLD, signal.SIGTSTP, *ENDS}
         heard = {number for number in signals if signal.getsignal(number) != signal.SIG_IGN}
-        # A signal is taken note of only where this waits for one.
+        # A signal is noticed only where this waits for one.
         signal.pthread_sigmask(signal.SIG_BLOCK, heard)
         try:
             self.prove(heard)
@@ -118,7 +118,7 @@ class Build:
             self.clear()
 
     def prove(self, heard: set[signal.Signals]) -> None:
-        """Starts what is ready, and waits, until nothing is left."""
+        """Start what is ready, and wait, until nothing is left."""
         while self.left:
             for name in [name for name in self.waiting if self.left.isdisjoint(self.below[name])]:
                 if len(self.running) < self.most:
@@ -133,7 +133,7 @@ class Build:
                 self.settle(job)
 
     def start(self, name: str) -> None:
-        """Starts a crate. One whose chain is not a tenth shorter than the longest of those that run gets all processors; any
+        """Start a crate. One whose chain is not a tenth shorter than the longest of those that run gets all processors; any
         other one gets two jobs, which give way by a step for each tenth."""
         longest = max(self.chain[other] for other in [name, *(job.name for job in self.running)])
         steps = 10 * (longest - self.chain[name]) // longest
@@ -163,7 +163,7 @@ class Build:
         self.running.append(Job(name, process, time.strftime("%H:%M:%S")))
 
     def settle(self, job: Job) -> None:
-        """Takes note of a job that has ended: the crate is proved, or the build ends with what the job printed last."""
+        """Take note of a job that has ended: the crate is proved, or the build ends with what the job printed last."""
         self.running.remove(job)
         text = (self.work / f"{job.name}.log").read_text(encoding="utf-8", errors="replace")
         with open(graph.OUT / "log", "a", encoding="utf-8") as log:
@@ -175,25 +175,25 @@ class Build:
         self.left.remove(job.name)
 
     def show(self) -> None:
-        """Shows how many crates are proved, and which ones are being proved since when."""
+        """Show how many crates are proved, and which ones are being proved since when."""
         running = ", ".join(f"{job.name} since {job.since}" for job in self.running)
         self.progress.show(
             f"{self.all - len(self.left)} of {self.all} crates proved" + (f"; proving {running}" if running else "")
         )
 
     def hold(self) -> None:
-        """Ctrl-Z reaches only the terminal's own group of processes: what runs is held as long as this is."""
+        """Hold what runs as long as this is held: Ctrl-Z reaches only the terminal's own group of processes."""
         self.send(signal.SIGSTOP)
         os.kill(os.getpid(), signal.SIGSTOP)
         self.send(signal.SIGCONT)
 
     def send(self, number: int) -> None:
-        """Sends a signal to all jobs."""
+        """Send a signal to all jobs."""
         for job in self.running:
             job.send(number)
 
     def clear(self) -> None:
-        """Ends what still runs, even if it is held, and removes the folder of this build."""
+        """End what still runs, even if it is held, and remove the folder of this build."""
         self.send(signal.SIGTERM)
         self.send(signal.SIGCONT)
         for job in self.running:

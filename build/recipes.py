@@ -1,4 +1,4 @@
-"""How the kit proves a crate and compiles it: the command for each."""
+"""How the kit proves a crate and compiles it: the commands for that."""
 
 import shlex
 import shutil
@@ -33,7 +33,7 @@ class Kit(NamedTuple):
 
 
 def find_kit() -> Kit:
-    """The kit whose rt is on the PATH.
+    """Return the kit whose rt is on the PATH.
 
     Raises
     ------
@@ -47,7 +47,7 @@ def find_kit() -> Kit:
 
 
 def rattle(kit: Kit, name: str, jobs: int, below: graph.Below, statements: Callable[[str], Path]) -> list[str]:
-    """The command that proves a crate, without its file and its output.
+    """Return the command that proves a crate, without its file and its output.
 
     Parameters
     ----------
@@ -73,7 +73,7 @@ def rattle(kit: Kit, name: str, jobs: int, below: graph.Below, statements: Calla
 
 
 def program(kit: Kit, words: list[str], folder: Path, name: str) -> list[list[str]]:
-    """The commands that compile a crate to a program of its name in a folder."""
+    """Return the commands that compile a crate to a program of its name in a folder."""
     compiled = [*words, "src/main.rt", *kit.backend, "-o", f"{folder}/{name}.o"]
     linked = [f"{kit.folder}/bin/rattle-link", "--target", TARGET, "--toolchain", f"{kit.folder}/toolchain"]
     objects = [f"{folder}/{name}.o", f"{kit.folder}/c/libos_c.a", f"{kit.folder}/c/liblibc_c.a"]
@@ -81,13 +81,13 @@ def program(kit: Kit, words: list[str], folder: Path, name: str) -> list[list[st
 
 
 def library(kit: Kit, words: list[str], folder: Path) -> list[list[str]]:
-    """The commands that compile a crate to the library for C in a folder."""
+    """Return the commands that compile a crate to the library for C in a folder."""
     compiled = [*words, "src/lib.rt", "--crate-type", "staticlib", *kit.backend, "-o", f"{folder}/libft_c.a"]
     return [compiled, [f"{graph.ROOT}/build/link", str(folder)]]
 
 
 def recipe(kit: Kit, name: str, below: graph.Below, jobs: int, work: Path) -> str:
-    """The commands for sh that prove a crate in its folder.
+    """Return the commands for sh that prove a crate in its folder.
 
     Parameters
     ----------

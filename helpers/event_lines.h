@@ -1,6 +1,6 @@
-/* event_lines.h: the text of the scheduler's four events, made of their raw bytes, for perf_filter.c and trace_cmd_lines.c;
+/* event_lines.h: the text of the scheduler's four events, made from their raw bytes, for perf_filter.c and trace_cmd_lines.c;
  * and the blocks in which both of them hand it to turning_blocks.py. If a field isn't plain, there is no text: the tool itself
- * prints such an event then, and Python turns what it prints. */
+ * then prints the event, and Python converts what it prints. */
 #ifndef EVENT_LINES_H
 #define EVENT_LINES_H
 
@@ -21,13 +21,14 @@ enum { PREV_COMM, PREV_PID, PREV_PRIO, PREV_STATE, NEXT_COMM, NEXT_PID, NEXT_PRI
 
 static const char *const kind_names[KINDS] = {"sched_waking", "sched_wakeup", "sched_wakeup_new", "sched_switch"};
 
-/* The most bytes of a name in the kernel with the zero that ends it, and of a task's name in a line. */
+/* The most bytes of a name in the kernel, with the zero that ends it, and of a task's name in a line. */
 enum { NAME_SIZE = 16, LONGEST_TASK = 30 };
-/* No line is longer, and so many bytes go into a block before it is written. */
+/* The room for a line, which none exceeds, and how many bytes go into a block before it is written. */
 enum { LINE_ROOM = 512, BLOCK_SIZE = 1 << 18 };
-/* Blocks are written into so many pieces of memory, in turn. What is shorter than so many bytes goes with its head. */
+/* How many pieces of memory blocks are written into, in turn; the room of each; and the length below which text goes with its
+ * head. */
 enum { PIECES = 32, PIECE_ROOM = BLOCK_SIZE + LINE_ROOM, SHORT = 1 << 14 };
-/* Greater numbers, and CPUs from this one on, are left to the tool: the desk may not read them. */
+/* Numbers and CPUs from these on are left to the tool: the desk may not read them. */
 enum { NUMBER_LIMIT = 1000000000, CPU_LIMIT = 8000 };
 
 /* A kind of event as a recording has it: the offset of each field, or -1. */
@@ -41,7 +42,7 @@ struct kind {
 
 static struct kind kinds[KINDS];
 
-/* ---- Text. Each of these appends to `to` and gives the end; NULL if there is no plain text. */
+/* ---- Text. Each of these appends to `to` and returns the end; NULL if there is no plain text. */
 
 static inline char *put(char *to, const char *text, size_t length)
 {
@@ -110,7 +111,7 @@ static inline char *put_stamp(char *to, uint64_t nanos)
     return put_pair(put_pair(put_pair(to, fraction / 10000), fraction / 100 % 100), fraction % 100);
 }
 
-/* The signs of a plain name, which mislead nobody who reads the line. */
+/* The characters of a plain name, which mislead nobody who reads the line. */
 static bool is_plain[256];
 
 static inline void set_plain(void)
@@ -225,13 +226,13 @@ static inline bool fits(const struct kind *kind, bool is_switch)
     return !is_switch || kind->state_size == 4 || kind->state_size == 8;
 }
 
-/* ---- Blocks: a head of 16 bytes, and so many bytes of text. Long text is in the next piece of memory that the reader has
- * mapped too, if there is any; a pipe has a byte for each piece that is free again. */
+/* ---- Blocks: a head of 16 bytes, and as many bytes of text as it says. Long text is in the next piece of memory that the
+ * reader has mapped too, if there is any; a pipe has a byte for each piece that is free again. */
 
 enum {
-    LINES = 'L',   /* turned lines */
-    MAPPED = 'M',  /* turned lines, in the next piece of memory */
-    AWAITED = 'A', /* the turned line of the event that the tool prints next */
+    LINES = 'L',   /* converted lines */
+    MAPPED = 'M',  /* converted lines, in the next piece of memory */
+    AWAITED = 'A', /* the converted line of the event that the tool prints next */
     TOLD = 'T',    /* what the tool itself printed */
     END = 'E',     /* all is written */
 };
@@ -295,7 +296,7 @@ static inline void write_block(char what, const char *from, size_t length, uint3
     write_all(from, length);
 }
 
-/* Takes memory by a word FILE:PIPE, two numbers of open files. */
+/* Takes memory by an argument FILE:PIPE, the numbers of two open files. */
 static inline bool take_memory(const char *word)
 {
     char *end;
@@ -328,7 +329,7 @@ static inline void next_piece(void)
     block = memory + (size_t)piece * PIECE_ROOM;
 }
 
-/* Writes the lines that are turned, if any. */
+/* Writes the lines that are converted, if any. */
 static inline void flush_lines(void)
 {
     if (memory && block_used >= SHORT) {

@@ -1,11 +1,12 @@
-/* perf_filter.so: a filter for `perf script --dlfilter`, by which from-perf turns a recording. perf hands it each event before
- * it prints it. A plain event of the scheduler is turned here, and perf prints nothing; any other one is left to perf.
+/* perf_filter.so: a filter for `perf script --dlfilter`, by which from-perf converts a recording. perf hands it each event
+ * before it prints it. A plain event of the scheduler is converted here, and perf prints nothing; any other one is left to
+ * perf.
  *
- * What goes to perf's standard output is blocks (event_lines.h): lines that are turned, and what perf itself prints, in order.
- * The first events of each kind, each new state and every 4096th event are turned here and printed by perf too: the reader
- * compares them. Each --dlarg tells where fields are:
+ * What goes to perf's standard output is blocks (event_lines.h): converted lines, and what perf itself prints, in order. The
+ * first events of each kind, each new state and every 4096th event are converted here and printed by perf too: the reader
+ * compares them. Each --dlarg is one of these:
  *
- *   NAME:ID:SIZE:STATE_SIZE:OFFSET,..   of a kind of event, in the order of event_lines.h
+ *   NAME:ID:SIZE:STATE_SIZE:OFFSET,..   where the fields of a kind of event are, in the order of event_lines.h
  *   states:MASK:PLUS:BIT=TEXT,..        how the kernel's format prints a state
  *   memory:FILE:PIPE                    open files for memory and for what is free of it */
 #define _GNU_SOURCE
@@ -18,20 +19,21 @@
 /* perf fills it in. */
 struct perf_dlfilter_fns perf_dlfilter_fns;
 
-/* So many events of each kind are compared at first, and then one of so many. */
+/* How many events of each kind are compared at first, and of how many one is compared after that. */
 enum { FIRST = 64, EVERY = 4096 };
-/* If of so many events more than so many are left to perf, so are the next ones: what perf prints is turned faster at once. */
+/* If of WINDOW events more than MOST_LEFT are left to perf, so are the NEXT ones: what perf prints is converted faster in one
+ * go. */
 enum { WINDOW = 1024, MOST_LEFT = 640, NEXT = 8192 };
-/* So much of what perf prints is handed on, even if no event is turned after it. */
+/* How much of what perf prints is handed on, even if no event is converted after it. */
 enum { TOLD_SIZE = 1 << 17 };
 enum { BITS = 24, BIT_TEXT = 8 };
-/* perf prints less of one event: its standard output is looked at between two events. */
+/* perf prints less than this for one event, and its standard output is looked at between two events. */
 enum { TOLD_ROOM = 1 << 20 };
 
 /* perf's own text of a kind's name, by which it is found again. */
 static const char *texts[KINDS];
 
-/* What each CPU runs, by its last switch; it is known if it is of this age. */
+/* What each CPU runs, by its last switch; it is known if its age is the present one. */
 static struct {
     unsigned age;
     int tid;
@@ -46,16 +48,16 @@ static struct {
 } state_bits[BITS];
 static int bit_count;
 
-/* What perf prints stays in its stream, with this room, in place of a file of memory: nothing is ever written into that. */
+/* What perf prints stays in its stream, which has this room; nothing is ever written into the file of memory behind it. */
 static char told[TOLD_ROOM];
 static int told_by_perf = -1;
 
-/* So many events were seen in this window, so many of them were left to perf, and so many more are to be. */
+/* How many events were seen in this window, how many of them were left to perf, and how many more are to be. */
 static unsigned seen, left, skipped;
 
 /* ---- What perf prints itself */
 
-/* Hands on what perf has printed, which is in its stream. It may tell of lost events, so no CPU's task is known any more. */
+/* Hands on what perf has printed, which is in its stream. It may report lost events, so no CPU's task is known any more. */
 static void hand_on(void)
 {
     size_t length = __fpending(stdout);
@@ -98,7 +100,7 @@ static bool is_whole(const struct perf_dlfilter_sample *sample, const struct kin
     return id == kind->id && sample->cpu >= 0 && sample->cpu < CPU_LIMIT;
 }
 
-/* Whether an event is one of a virtual machine's, which perf prints otherwise. Older ones don't know. */
+/* Whether an event is one of a virtual machine's, which perf prints differently. Older versions of perf don't say. */
 static bool is_of_guest(const struct perf_dlfilter_sample *sample)
 {
 #ifdef PERF_DLFILTER_HAS_MACHINE_PID
@@ -192,7 +194,7 @@ static char *put_line(char *to, const struct perf_dlfilter_sample *sample, int w
     return to;
 }
 
-/* After an event that is left to perf, or one that is turned, its CPU runs another task. */
+/* Notes that a CPU runs another task after a switch. Which one is known only if the switch is converted. */
 static void note_switch(const struct perf_dlfilter_sample *sample, bool is_turned)
 {
     const char *raw = sample->raw_data;
@@ -216,7 +218,7 @@ static void await(const char *end)
 
 /* ---- What perf calls */
 
-/* Whether an event is to be left to perf since many before it were. */
+/* Whether an event is to be left to perf because many before it were. */
 static bool is_skipped(void)
 {
     if (skipped > 0) {
@@ -230,7 +232,7 @@ static bool is_skipped(void)
     return false;
 }
 
-/* Turns an event at the end of the block; the end of its line, or NULL. */
+/* Converts an event at the end of the block; returns the end of its line, or NULL. */
 static char *turned(const struct perf_dlfilter_sample *sample, int which, void *ctx, int *fresh)
 {
     char *end;

@@ -1,10 +1,11 @@
 /* trace_cmd_lines RECORDING memory:FILE:PIPE: reads a recording of trace-cmd by its own libraries, for from-trace-cmd. Plain
- * events of the scheduler are turned here; any other one is printed as `trace-cmd report -N -t` prints it. Both go to standard
- * output as blocks (event_lines.h), in order; the numbers are open files for memory and for what is free of it.
+ * events of the scheduler are converted here; any other one is printed as `trace-cmd report -N -t` prints it. Both go to
+ * standard output as blocks (event_lines.h), in order; FILE and PIPE are the numbers of open files for memory and for what is
+ * free of it.
  *
  * The first events of each kind, each new state and every 4096th event are compared with what the library prints of their
- * fields. If a recording has several buffers, or what isn't known here, no last block is written: the status is 1, and the
- * recording is turned of trace-cmd's text then. */
+ * fields. If a recording has several buffers, or something that isn't known here, no last block is written, and the status is
+ * 1: the recording is then converted from trace-cmd's text. */
 #define _GNU_SOURCE
 #include <stdarg.h>
 #include <stdio.h>
@@ -14,16 +15,16 @@
 
 #include "event_lines.h"
 
-/* So many events of each kind are compared at first, and then one of so many. */
+/* How many events of each kind are compared at first, and of how many one is compared after that. */
 enum { FIRST = 64, EVERY = 4096 };
-/* The columns of trace-cmd's text for a number of a task and for seconds, and the digits that follow these. */
+/* The columns of trace-cmd's text for the number of a task and for seconds, and the nanoseconds of a second. */
 enum { PID_WIDTH = 5, SECONDS_WIDTH = 5, NANOS = 1000000000 };
-/* So much of what isn't turned here is written at once, if no line that is turned comes between. */
+/* How much of what isn't converted here is written at once, if no converted line comes between. */
 enum { TOLD_SIZE = 1 << 16 };
 
 static struct tep_handle *tep;
 static struct trace_seq info, told;
-/* Why the recording can't be turned here, if it can't. */
+/* Whether the recording has something that isn't known here, so that it can't be converted here. */
 static bool is_unknown;
 
 /* ---- Kinds */
@@ -33,7 +34,7 @@ static const char *const waking_fields[] = {"comm", "pid", "prio", "target_cpu",
 static const char *const switch_fields[] = {"prev_comm", "prev_pid", "prev_prio", "prev_state",
                                             "next_comm", "next_pid", "next_prio"};
 
-/* Sets the place of a field of a kind; whether it has the size that it should have. */
+/* Sets the place of a field of a kind; returns whether it has the size that it should have. */
 static bool find_field(struct kind *kind, struct tep_event *event, const char *name, int which, bool is_switch)
 {
     struct tep_format_field *field = tep_find_field(event, name);
@@ -51,7 +52,7 @@ static bool find_field(struct kind *kind, struct tep_event *event, const char *n
     return field->size == size;
 }
 
-/* Whether a waking's text tells of success. */
+/* Whether a waking's text has its success. */
 static bool tells_success(const struct tep_event *event)
 {
     return event->print_fmt.format && strstr(event->print_fmt.format, "success=");
@@ -107,7 +108,7 @@ static char *put_blanks(char *to, int count)
     return to;
 }
 
-/* A line up to its fields, in trace-cmd's columns. The library prints a stamp below one second otherwise. */
+/* A line up to its fields, in trace-cmd's columns. The library prints a stamp below one second in another form. */
 static char *put_front(char *to, struct tep_record *record, int cpu, int which)
 {
     int pid = tep_data_pid(tep, record);
@@ -141,7 +142,7 @@ static void print_info(struct tep_record *record)
     trace_seq_terminate(&info);
 }
 
-/* Whether the library prints these fields so. */
+/* Whether the library prints these fields in this way. */
 static bool is_printed(struct tep_record *record, const char *text, size_t length)
 {
     print_info(record);
@@ -181,7 +182,7 @@ static char *put_switch(char *to, struct tep_record *record, const struct kind *
     return to ? put_next(put(to, states[slot].text, states[slot].length), kind, record->data) : NULL;
 }
 
-/* A whole line; NULL if it isn't plain, or if the library prints it otherwise, as any other of its kind from now on. */
+/* A whole line; NULL if it isn't plain, or if the library prints it differently: then its kind isn't known from now on. */
 static char *put_line(char *to, struct tep_record *record, int cpu, int which)
 {
     struct kind *kind = &kinds[which];
@@ -200,7 +201,7 @@ static char *put_line(char *to, struct tep_record *record, int cpu, int which)
     return end;
 }
 
-/* ---- What is not turned here */
+/* ---- What is not converted here */
 
 static void flush_told(void)
 {
@@ -236,7 +237,7 @@ static void print_lost(const struct tep_record *record, int cpu)
 
 /* ---- The recording */
 
-/* What the library calls for each event; other answers than 0 end it. */
+/* What the library calls for each event; a result other than 0 ends it. */
 static int take_record(struct tracecmd_input *handle, struct tep_record *record, int cpu, void *data)
 {
     int which = kind_of(record);
@@ -259,7 +260,7 @@ static int take_record(struct tracecmd_input *handle, struct tep_record *record,
     return is_unknown || is_broken ? -1 : 0;
 }
 
-/* Whether a recording is one that is turned here: one buffer, and this machine's order of bytes. */
+/* Whether a recording is one that is converted here: one buffer, and this machine's order of bytes. */
 static bool is_taken(struct tracecmd_input *handle)
 {
     tep = tracecmd_get_tep(handle);

@@ -13,9 +13,9 @@
  * Codes. A call that can be refused returns a code: HISTDESK_OK, the number of the refusal, or HISTDESK_CLOSED if the handle
  * has no desk. If the code isn't HISTDESK_OK, what is held and attached, and what was asked for before, stays as it was, and
  * none of the call's outputs is written; only histdesk_strike_events may have struck some events, and says how many. The
- * comment of each call lists its codes in the order in which they are tested. Two
- * codes are not listed: any call may return HISTDESK_MEMORY instead of an answer, unless its comment says never, and may then
- * be repeated; and each call with a code, except histdesk_new, may return HISTDESK_CLOSED.
+ * comment of each call lists its codes in the order in which they are tested. Two codes are not listed: any call may return
+ * HISTDESK_MEMORY instead of an answer, unless its comment says never, and may then be repeated; and each call with a code,
+ * except histdesk_new, may return HISTDESK_CLOSED.
  *
  * Answers. Anything larger than a number is asked for by one call, which says how large it is, and copied by another. The
  * desk keeps one answer of each kind (a text, rows, latencies, places, triggers, lines, losses) as it was when it was asked
@@ -38,8 +38,8 @@
  * - No pointer is null, even if its length or room is 0: any other pointer is good then. Each points to as much memory as
  *   stated, and memory that a call reads doesn't overlap memory that it writes. Lengths are at most PTRDIFF_MAX.
  * - A bool that a call reads is 0 or 1: the has_place of a refusal that is passed to histdesk_refusal_text or
- *   histdesk_refusal_words, and those of histdesk_strike_events, histdesk_waits_new and histdesk_waits_part. Memory that a call only writes may hold
- *   anything before.
+ *   histdesk_refusal_words, and those of histdesk_strike_events, histdesk_waits_new and histdesk_waits_part. Memory that a call
+ *   only writes may hold anything before.
  * - The two handles of histdesk_waits_join are different, and each is used as described here.
  * - One allocator: malloc, realloc and free, which the library takes from the program, belong together and stay the same
  *   while there is a desk, and all calls with one handle go to one copy of the library.
@@ -221,9 +221,9 @@ typedef struct histdesk_changed {
 } histdesk_changed;
 
 /* How many rows the last accepted insert or strike may have changed, or the strikes of one histdesk_strike_events together.
- * `rows` is about the triggers that count held events: each
- * of their rows that changed, appeared or disappeared is among the reported ones. `made` is the same for the triggers on
- * wakeup_latency. If has_rows or has_made is false, there is no such list, its number is 0, and any row may have changed. */
+ * `rows` is about the triggers that count held events: each of their rows that changed, appeared or disappeared is among the
+ * reported ones. `made` is the same for the triggers on wakeup_latency. If has_rows or has_made is false, there is no such
+ * list, its number is 0, and any row may have changed. */
 typedef struct histdesk_report {
     bool has_rows;
     bool has_made;
@@ -381,8 +381,7 @@ uint32_t histdesk_unfilter(histdesk *desk, uint32_t id);
 uint32_t histdesk_remove(histdesk *desk, uint32_t id);
 
 /* How many rows the last accepted insert or strike may have changed, or the last strikes of many events; before the first one,
- * there is no list. The lists stay
- * until the next one is accepted, or until histdesk_forget. Never HISTDESK_MEMORY. */
+ * there is no list. The lists stay until the next one is accepted, or until histdesk_forget. Never HISTDESK_MEMORY. */
 uint32_t histdesk_report_of(histdesk *desk, histdesk_report *report);
 
 /* Copy the rows that the report counts as `rows`, and those that it counts as `made`, without duplicates. */
@@ -420,7 +419,7 @@ size_t histdesk_rows_copy(histdesk *desk, uint64_t from, histdesk_row *to, size_
 uint32_t histdesk_latencies(histdesk *desk, uint32_t id, uint64_t *count);
 size_t histdesk_latencies_copy(histdesk *desk, uint64_t from, histdesk_latency *to, size_t room);
 
-/* Asks for the attached triggers, by id. No refusal but HISTDESK_MEMORY. */
+/* Asks for the attached triggers, by id. No refusal except HISTDESK_MEMORY. */
 uint32_t histdesk_triggers(histdesk *desk, uint64_t *count);
 size_t histdesk_triggers_copy(histdesk *desk, uint64_t from, histdesk_trigger *to, size_t room);
 
@@ -429,7 +428,7 @@ size_t histdesk_triggers_copy(histdesk *desk, uint64_t from, histdesk_trigger *t
 /* The event that is held at a CPU's line. HISTDESK_NO_LANE, HISTDESK_NO_EVENT; never HISTDESK_MEMORY. */
 uint32_t histdesk_event_at(histdesk *desk, uint32_t cpu, uint32_t line, histdesk_event *event);
 
-/* Asks for the places of all held events, in merged order. No refusal but HISTDESK_MEMORY. */
+/* Asks for the places of all held events, in merged order. No refusal except HISTDESK_MEMORY. */
 uint32_t histdesk_events(histdesk *desk, uint64_t *count);
 
 /* Asks for the places of a CPU's events from a line on, by line number; from line 1 on, these are all. HISTDESK_NO_LANE. */
@@ -450,13 +449,13 @@ size_t histdesk_events_copy(histdesk *desk, uint64_t from, histdesk_event *to, s
  * there may be any number of them. */
 
 /* Asks for the lines of a text: what each is, and where it ends. The last line needs no line break. `count` is how many. No
- * refusal but HISTDESK_MEMORY. */
+ * refusal except HISTDESK_MEMORY. */
 uint32_t histdesk_lines(histdesk *desk, const uint8_t *text, size_t length, uint64_t *count);
 size_t histdesk_lines_copy(histdesk *desk, uint64_t from, histdesk_text_line *to, size_t room);
 
 /* Asks where events were lost, as reported by the lines of a text: each hole is between two events of a CPU that follow one
  * another in the text, whatever their stamps. A line that can't be read reports nothing. Holes come in the order of
- * histdesk_waits_holes. No refusal but HISTDESK_MEMORY. */
+ * histdesk_waits_holes. No refusal except HISTDESK_MEMORY. */
 uint32_t histdesk_losses(histdesk *desk, const uint8_t *text, size_t length, histdesk_losses_read *read);
 size_t histdesk_losses_copy(histdesk *desk, uint64_t from, histdesk_hole *to, size_t room);
 
@@ -565,7 +564,7 @@ size_t histdesk_waits_events(histdesk *desk, uint64_t from, uint32_t *to, size_t
 uint32_t histdesk_waits_last(histdesk *desk, uint64_t *stamp, bool *has);
 
 /* Asks for the waits of the events that the desk holds now, in the order of their ends. `count` is how many. The stream goes
- * on as before. No refusal but HISTDESK_MEMORY. */
+ * on as before. No refusal except HISTDESK_MEMORY. */
 uint32_t histdesk_waits_held(histdesk *desk, uint64_t *count);
 
 /* Writes how sure waits of this text are, once the stream has ended. A task whose CPU was taken from it may have run unnoticed

@@ -1,6 +1,6 @@
 #!/usr/bin/env bash
-# all.sh: all tests of the programs and of the library that stand in this checkout's folders out: program.sh, then library.sh.
-# It prints what went wrong, what was skipped and why, and a last line with the counts of both.
+# all.sh: runs all tests of the programs and of the library that stand in this checkout's folders out: program.sh, then
+# library.sh. It prints what went wrong, what was skipped and why, and a last line with the counts of both.
 set -uo pipefail
 
 tests=$(dirname -- "$(realpath -- "${BASH_SOURCE[0]}")")

@@ -1,8 +1,8 @@
 # shellcheck shell=bash disable=SC2154 # what counts.sh and its readers assign
-# What a command ends with and prints, as tests of programs and of the library ask for it; read after counts.sh.
+# Checks of a command's status and output, for tests of programs and of the library, which read this after counts.sh.
 
-# gives WHAT STATUS ERROR COMMAND..: the command's status, and all that it says on standard error; of the launcher, which says
-# more after the program's line, the first line.
+# gives WHAT STATUS ERROR COMMAND..: checks the command's status, and all that it says on standard error; for the launcher,
+# which says more after the program's line, only the first line.
 gives() {
     local what=$1 want=$2 error=$3 status told
     shift 3
@@ -19,7 +19,7 @@ gives() {
     fi
 }
 
-# prints WHAT FILE: the last command's output is that file.
+# prints WHAT FILE: checks that the last command's output is that file.
 prints() {
     if cmp -s -- "$folder/out" "$2"; then
         pass

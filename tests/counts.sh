@@ -1,7 +1,7 @@
 # shellcheck shell=bash disable=SC2034 # what they read
-# What the tests of the programs count with, read by those in bash.
+# What the tests of the programs count with; those in bash read it.
 
-# A run that takes more seconds is ended, and fails.
+# A run that takes more seconds than this is ended, and fails.
 limit=120
 passed=0
 failed=0
@@ -25,8 +25,8 @@ skip() {
     printf 'not tried: %s\n' "$1"
 }
 
-# part NAME COMMAND..: a test whose last line has counts, as `7 passed, 0 failed, 1 skipped` or `7 of 7 rows hold`. All that it
-# prints is printed if something has failed, otherwise what was skipped.
+# part NAME COMMAND..: runs a test whose last line has counts, such as `7 passed, 0 failed, 1 skipped` or `7 of 7 rows hold`. If
+# something has failed, all that it prints is printed, otherwise only what was skipped.
 part() {
     local name=$1 said last left good=0 bad=1
     said=$("${@:2}" 2>&1 </dev/null)
@@ -52,8 +52,8 @@ part() {
     fi
 }
 
-# python_tests NAME PYTHON FILE..: the tests of these files by pytest, whose report has the counts. All that it prints is
-# printed if something has failed, otherwise what was skipped.
+# python_tests NAME PYTHON FILE..: runs the tests of these files by pytest, whose report has the counts. If something has
+# failed, all that it prints is printed, otherwise only what was skipped.
 python_tests() {
     local name=$1 report=$folder/report.xml said status good bad left
     rm -f -- "$report"
@@ -80,7 +80,7 @@ print(count - wrong - skipped, wrong, skipped)' "$report" 2>/dev/null)
     fi
 }
 
-# holds COMMAND..: as part, by the name of the program.
+# holds COMMAND..: the same as part, with the name of the program.
 holds() {
     part "${1##*/}" "$@"
 }

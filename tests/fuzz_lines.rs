@@ -1,9 +1,11 @@
-//! Lines changed at random, as the library reads them and as a plain model of REFERENCE.md, Trace lines, does. Not part of the gate.
+//! Compares how the library and a plain model of REFERENCE.md, Trace lines, read lines that are changed at random. It isn't
+//! part of the gate.
 //!
 //! `fuzz_lines SECONDS SEED FILE..`: the lines of the files, also with compact columns and with a column of thread groups, are
 //! changed at some places each. Those that the model calls good or skipped are loaded as one text, whose events must be the
-//! model's, to the byte; each one with a fault is loaded alone and must be refused with the model's fault, and one of them
-//! among the good ones, with its line number. Each line is inserted too. The first difference ends the program with status 1.
+//! model's, to the byte. Each one with a fault is loaded alone and must be refused with the model's fault; one of them is
+//! loaded among the good ones too, and must be refused with its line number. Each line is inserted too. The first difference
+//! ends the program with status 1.
 
 use std::collections::HashMap;
 use std::time::{Duration, Instant};
@@ -69,7 +71,7 @@ const BAD_LINE: u32 = 3;
 const NO_EVENT: u32 = 6;
 const FAULTS: usize = 8;
 
-/// Why a text was refused: the code, and of a bad line its fault and number.
+/// Why a text was refused: the code, and for a bad line its fault and number.
 #[derive(PartialEq, Debug)]
 struct Refused {
     code: u32,
@@ -99,7 +101,7 @@ impl Desk {
         self.answer(code).map(|()| events)
     }
 
-    /// Inserts a line: the CPU and line number of its event.
+    /// Inserts a line, and returns the CPU and line number of its event.
     fn insert(&mut self, line: &[u8]) -> Result<[u32; 2], Refused> {
         let mut at = [0; 2];
         let code = unsafe { histdesk_insert(self, line.as_ptr(), line.len(), &mut at) };
@@ -168,7 +170,7 @@ fn name(text: &[u8]) -> Result<Name, u32> {
     Ok(name)
 }
 
-/// Cuts the last word off, which is a label with a part that has the form.
+/// Cuts off the last word, which has to be a label with a part that has the form.
 fn last<'a, T>(text: &'a [u8], label: &str, form: impl Fn(&'a [u8]) -> Option<T>) -> Option<(&'a [u8], T)> {
     let at = text.iter().rposition(|byte| *byte == b' ')?;
     Some((&text[..at], form(text[at + 1..].strip_prefix(label.as_bytes())?)?))
@@ -310,7 +312,7 @@ impl Random {
         parts.split('|').nth(self.below(count)).unwrap_or("").bytes()
     }
 
-    /// A piece of a text, of at most so many bytes.
+    /// The place of a piece of a text of `length` bytes; the piece has at most `most` bytes.
     fn piece(&mut self, length: usize, most: usize) -> std::ops::Range<usize> {
         let from = self.below(length + 1);
         from..from + self.below((length - from).min(most) + 1)
@@ -343,7 +345,7 @@ impl Random {
             }
             7 => line.drain(self.piece(line.len(), 24)).for_each(drop),
             8 => {
-                // Wider columns, longer names and numbers, and seldom a line of about as many bytes as may be.
+                // Wider columns, longer names and numbers, and now and then a line of about as many bytes as it may have.
                 let byte = *self.of(b" 01x-");
                 let longest = 4094 + self.below(6);
                 let count = if self.below(500) == 0 { longest.saturating_sub(line.len()) } else { self.below(40) };
@@ -367,7 +369,7 @@ impl Random {
     }
 }
 
-/// The lines of a text, and those of events with other columns too.
+/// The lines of a text, and those of its events with other columns too.
 fn sources(text: &[u8]) -> Vec<Vec<u8>> {
     let mut lines = Vec::new();
     for line in text.split(|byte| *byte == b'\n') {
@@ -398,7 +400,7 @@ fn text_of<'a>(lines: impl IntoIterator<Item = &'a Vec<u8>>) -> Vec<u8> {
     lines.into_iter().flat_map(|line| line.iter().chain(b"\n")).copied().collect()
 }
 
-/// Holds the events of a desk against those of the lines, whose numbers count from 1 on each CPU.
+/// Compares the events of a desk with those of the lines, whose numbers count from 1 on each CPU.
 fn hold(what: &str, desk: &mut Desk, lines: &[(Vec<u8>, Read)]) {
     let mut counts = HashMap::new();
     let mut expected = HashMap::new();
@@ -421,7 +423,7 @@ fn hold(what: &str, desk: &mut Desk, lines: &[(Vec<u8>, Read)]) {
     }
 }
 
-/// Loads and inserts these lines.
+/// Loads and inserts these lines, and compares what comes of it with the model.
 fn compare(lines: &[(Vec<u8>, Read)], at: usize) {
     let mut desk = Desk::new();
     for (line, read) in lines {

@@ -1,7 +1,8 @@
 #!/usr/bin/env bash
-# fuzz_lines.sh [SECONDS [SEED]]: lines changed at random, by hundred thousands a second, as the library reads them and as a
-# plain model does (fuzz_lines.rs), over the examples and a made trace. It prints how many lines were how, or the first line
-# that they read otherwise. HISTDESK_LIBRARY names another library than the one that build/build makes.
+# fuzz_lines.sh [SECONDS [SEED]]: compares how the library and a plain model (fuzz_lines.rs) read lines that are changed at
+# random, hundreds of thousands a second, from the examples and a made trace. It prints how many lines were events, skipped or
+# had which fault, or the first line that they read differently. HISTDESK_LIBRARY names another library than the one that
+# build/build makes.
 set -euo pipefail
 
 root=$(dirname -- "$(dirname -- "$(realpath -- "${BASH_SOURCE[0]}")")")

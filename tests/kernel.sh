@@ -1,8 +1,8 @@
 #!/usr/bin/env bash
-# kernel.sh [OPTION].. PROGRAM: compares the desk's tables with a real kernel's. By hand, never in CI: it boots a kernel in
-# qemu, without hardware virtualisation, attaches hist triggers there, runs a workload, takes the kernel's `hist` files and
-# the text of its `trace` file, and has PROGRAM, a built histdesk, answer the same triggers from that text. It prints each
-# difference, and a last line with the counts. The status is 0, or 1 if something differs, or 2 if it could not run.
+# kernel.sh [OPTION].. PROGRAM: compares the desk's tables with a real kernel's. It is run by hand, never in CI: it boots a
+# kernel in qemu, without hardware virtualisation, attaches hist triggers there, runs a workload, takes the kernel's `hist`
+# files and the text of its `trace` file, and has PROGRAM, a built histdesk, answer the same triggers from that text. It prints
+# each difference, and a last line with the counts. The status is 0, or 1 if something differs, or 2 if it could not run.
 set -euo pipefail
 
 # shellcheck disable=SC2016 # what stands in backquotes is the text's
@@ -35,7 +35,7 @@ all=
 keep=
 # What --all boots.
 packages=(linux-image-cloud-amd64 linux-image-rt-amd64 linux-image-6.12-cloud-amd64 linux-image-6.12-rt-amd64)
-# A boot that takes more seconds of the processors, or of time on a busy machine, is ended.
+# A boot that takes more seconds of the processors than `limit`, or more of time, on a busy machine, than `patience`, is ended.
 limit=600
 patience=7200
 
@@ -108,8 +108,8 @@ finish() {
 }
 trap finish EXIT
 
-# Puts the kernel of the package in the cache, unless it is there, and prints where it is. A package may only depend on the
-# one that has a kernel, whose version is in its name.
+# Puts the kernel of the package in the cache, unless it is there, and prints where it is. A package may have no kernel and
+# depend on the one that has it, whose version is in its name.
 debian_kernel() {
     local cache=${KERNEL_CACHE:-${XDG_CACHE_HOME:-$HOME/.cache}/histdesk-kernel} name found
     needs apt-get apt
@@ -169,7 +169,7 @@ unpack() {
         stop "the guest showed no whole archive; its last words: $(tail -n 3 -- "$folder/console")"
 }
 
-# Boots each of the packages with one processor and with two, and sums up what each boot told.
+# Boots each of the packages with one processor and with two, and sums up what each boot printed.
 boot_all() {
     local status=0 options
     for package in "${packages[@]}"; do

@@ -2,8 +2,8 @@
 # library.sh LIBRARY HISTDESK HISTWATCH: tests the library, libhistdesk.so.0 with the libhistdesk.a beside it, as its users
 # have it: from C (library/c_library.sh); from Python with the tools over it (library/python_*.py, by pytest), by the python3 on
 # the PATH and by the system's, if they have numpy and pytest; the page of tools/view in a browser (page/page.py); and installed
-# with the programs (tools/install.sh) and in packages (tools/packages.sh). The scripts that all of this stands on are looked
-# through too (lint.sh). It prints what went wrong, what was skipped and why, and a last line with the counts.
+# with the programs (tools/install.sh) and in packages (tools/packages.sh). The scripts that all of this stands on are checked
+# too (lint.sh). It prints what went wrong, what was skipped and why, and a last line with the counts.
 # shellcheck disable=SC2154 # what counts.sh assigns
 set -uo pipefail
 
@@ -14,7 +14,7 @@ histwatch=$(realpath -- "$3")
 export HISTDESK_LIBRARY=$library HISTDESK=$histdesk
 . "$tests/counts.sh"
 
-# Random scripts, each with what the program prints of it.
+# Random scripts, each with what the program prints for it.
 for ((seed = 41; seed <= 50; seed++)); do
     row=$folder/rows/mixed_$seed
     mkdir -p -- "$row"
@@ -26,7 +26,7 @@ export HISTDESK_ROWS=$folder/rows
 
 part "from C" "$tests/library/c_library.sh" "$library" "$histdesk"
 
-# The package needs numpy; of a Python without it, what the tools report is all there is to test.
+# The package needs numpy; with a Python without it, only what the tools report can be tested.
 pythons=()
 for python in python3 /usr/bin/python3; do
     command -v "$python" >/dev/null || continue

@@ -1,7 +1,7 @@
 #!/usr/bin/env bash
-# lint.sh: what others' programs find in the scripts of this repository: shellcheck in all that is bash; flake8, or pyflakes
-# if there is no flake8, in all that is Python, which has black's form; and mypy in the Python packages and in build, whose
-# types are strict. Which findings are left out stands in .shellcheckrc and .flake8, or beside the line. It prints what was
+# lint.sh: checks the scripts of this repository with others' programs: shellcheck for all that is bash; flake8, or pyflakes
+# if there is no flake8, for all that is Python, which must have black's form; and mypy for the Python packages and for build,
+# whose types are strict. .shellcheckrc, .flake8 or the line itself says which findings are left out. It prints what was
 # found, what was not tried since a program is missing, and a last line with the counts.
 # shellcheck disable=SC2154 # what counts.sh assigns
 set -uo pipefail
@@ -9,7 +9,7 @@ set -uo pipefail
 cd -- "$(dirname -- "$(realpath -- "${BASH_SOURCE[0]}")")/.." || exit
 . tests/counts.sh
 
-# The scripts, by their names or first lines, those too that aren't committed yet.
+# The scripts, by their names or first lines, including those that aren't committed yet.
 shells=()
 pythons=()
 while IFS= read -r -d '' file; do
@@ -22,7 +22,7 @@ while IFS= read -r -d '' file; do
     esac
 done < <(git ls-files -z --cached --others --exclude-standard -- . ':!crates' ':!tests/rows' ':!examples')
 
-# lint NAME COMMAND..: what this program finds; it runs beside the others.
+# lint NAME COMMAND..: starts this program, which runs beside the others.
 names=()
 runs=()
 lint() {
@@ -31,7 +31,7 @@ lint() {
     runs+=("$!")
 }
 
-# there PROGRAM WHAT: whether it is installed.
+# there PROGRAM WHAT: succeeds if the program is installed; otherwise it says that WHAT isn't tried.
 there() {
     command -v "$1" >/dev/null || {
         skip "$2, since $1 is missing"
@@ -49,7 +49,7 @@ elif command -v pyflakes3 >/dev/null; then
 else
     there flake8 "faults in Python"
 fi
-# The form of lines is one for each year of black's.
+# Each year's black has a form of lines of its own.
 if [[ $(black --version 2>/dev/null) != "black, 23."* ]]; then
     skip "the form of Python, since there is no black 23"
 else

@@ -1,12 +1,12 @@
 #!/usr/bin/env bash
 # program.sh [HISTDESK [PLAINDESK [ASKAGAIN [HISTWATCH]]]]: runs a program as a user would, by scripts of one subject
-# each, program/*.sh, which take the same words and can be run by themselves: the rows, the examples, words and files,
-# streams, limits, hostile bytes, growths of memory that are refused, and which rows edits change; then the launchers
+# each, program/*.sh, which take the same arguments and can be run by themselves: the rows, the examples, arguments and
+# files, streams, limits, hostile bytes, growths of memory that are refused, and which rows edits change; then the launchers
 # (tools/launchers.sh), how they build (tools/building.sh), the tools around it (tools/tools.sh) and the documents.
-# Where PLAINDESK is given, it runs the rows, the full desks and the hostile bytes too; ASKAGAIN runs the rows in
-# memory, and asks a second time for what found no memory, in some of them; HISTWATCH prints which rows edits change.
-# Without words, it runs the launcher and those of the other three that are built. It prints what went wrong, what was
-# skipped and why, and a last line with the counts.
+# PLAINDESK, if it is given, runs the rows, the full desks and the hostile bytes too; ASKAGAIN runs the rows in memory,
+# and asks a second time for what found no memory, in some of them; HISTWATCH prints which rows edits change. Without
+# arguments, it runs the launcher and those of the other three that are built. It prints what went wrong, what was skipped
+# and why, and a last line with the counts.
 set -uo pipefail
 
 tests=$(dirname -- "$(realpath -- "${BASH_SOURCE[0]}")")

@@ -1,8 +1,8 @@
 #!/usr/bin/env bash
 # real.sh [OPTION].. PROGRAM: records five seconds of a workload that it starts itself, by tools/record, and compares what
 # PROGRAM, a built histdesk, answers over that trace with what the plain model in Python answers (model/model.py): tables,
-# totals, latencies and lists, before and after twenty edits. By hand, never in CI: it needs root and tracefs, and takes
-# some minutes, since the model replays at each answer. It prints what differs, and a last line with the counts. The
+# totals, latencies and lists, before and after twenty edits. It is run by hand, never in CI: it needs root and tracefs, and
+# takes some minutes, since the model replays at each answer. It prints what differs, and a last line with the counts. The
 # status is 0, or 1 if an answer differs, or 2 if it could not run.
 set -euo pipefail
 
@@ -60,7 +60,7 @@ finish() {
 }
 trap finish EXIT
 
-# Runs the workload again and again as long as its folder is there.
+# Runs the workload again and again as long as the file `go` is there.
 rounds() {
     local round=$seed
     while [[ -e $folder/go ]]; do
@@ -70,7 +70,7 @@ rounds() {
 }
 
 # Writes a script over the trace: triggers, answers, twenty edits, the same answers. After each command stands one that
-# is refused, so that each command's output can be told.
+# is refused, so that the outputs of the commands can be told apart.
 write_script() {
     python3 - "$folder/trace" "$seed" >"$folder/script" <<'PY'
 import random

@@ -30,7 +30,7 @@ Without the waking there is no wait, and the edit names the rows that may have c
 >>> len(waits.latencies())
 0
 
-What is refused raises `Refused` with the number that scripts print, and changes nothing:
+A call that is refused raises `Refused` with the number that scripts print, and changes nothing:
 
 >>> desk.strike(0, 1)
 Traceback (most recent call last):

@@ -27,14 +27,14 @@ if TYPE_CHECKING:
     from ._waits import Waits
     from ._why import Why
 
-# A chain has no more steps, unless more are asked for.
+# How many steps a chain has at most, unless another number is asked for.
 STEPS = 32
-# So many times a chain looks for what a task did before it was preempted.
+# How many runs of its tasks a chain goes back through at most.
 RUNS = 10_000
-# So many events before a wait are read, if they only show since when a task had slept; and about so many at once.
+# How many events before a wait are read if they only show since when a task had slept; and about how many at once.
 SLEEP_ROOM, CHUNK = 1 << 16, 1 << 15
 INTERRUPTS = ("hardirq", "softirq", "nmi")
-# The states in which a task is left that could run on.
+# The states in which a switch leaves a task that could run on.
 RUNNABLE = ("R", "R+")
 
 
@@ -59,8 +59,8 @@ class ChainStep(NamedTuple):
     waker
         The task that ran where it was woken or created; None if `begin` is None.
     context
-        `task`, `softirq`, `hardirq` or `nmi`: where the waking came from, by the flags of its line; None if it has none. Unless
-        it is `task`, the waker was only interrupted.
+        `task`, `softirq`, `hardirq` or `nmi`: where the waking came from, by the flags of its line; None if the line has
+        none. Unless it is `task`, the waker was only interrupted.
     asleep
         The switch at which it had left its CPU before it was woken; None if it was created, still ran when it was woken, or no
         such switch is known.
@@ -116,13 +116,13 @@ class Chain(Sequence[ChainStep]):
         |---|---|
         | `interrupt` | an interrupt or a softirq woke the last task |
         | `idle` | the last task was woken on an idle CPU, so by an interrupt or a timer |
-        | `awake` | the last task was awake since before the first one fell asleep, or was created |
+        | `awake` | the last task was awake since before the first one fell asleep or was created |
         | `start` | the recording begins later than what would come next |
         | `missing` | a switch or a waking was not recorded |
         | `lost` | events were lost there |
-        | `limit` | the chain has as many steps, or the recording as many events, as are looked at |
+        | `limit` | no more steps, or no more events of the recording, are looked at |
     remark
-        The same as a sentence.
+        The same reason, as a sentence.
     """
 
     def __init__(self, steps: Sequence[ChainStep], end: str, remark: str) -> None:
@@ -135,11 +135,11 @@ class Chain(Sequence[ChainStep]):
 
     @overload
     def __getitem__(self, at: int) -> ChainStep:
-        """The step at this place."""
+        """Return the step at this place."""
 
     @overload
     def __getitem__(self, at: slice) -> tuple[ChainStep, ...]:
-        """The steps at these places."""
+        """Return the steps at these places."""
 
     def __getitem__(self, at: Union[int, slice]) -> ChainStep | tuple[ChainStep, ...]:
         return self._steps[at]
@@ -213,7 +213,7 @@ class Past:
     """The events up to some moment, in scenes of which each is earlier than the one before. More are read if needed."""
 
     def __init__(self, scenes: Iterator[Scene], holes: Sequence[Hole]) -> None:
-        """Of scenes, the latest one first, and the places where events of the recording were lost."""
+        """Take scenes, the latest one first, and the places where events of the recording were lost."""
         self._unread = scenes
         self._holes = tuple(holes)
         self._scenes: list[Scene] = []
@@ -222,7 +222,7 @@ class Past:
         self.is_whole = False
 
     def read_more(self, most: int) -> bool:
-        """Read the next scene, unless there is none or so many events were read, and return whether one was read."""
+        """Read the next scene, unless there is none or `most` events were read already, and return whether one was read."""
         if self.is_whole or self._count >= most:
             return False
         scene = next(self._unread, None)
@@ -233,7 +233,7 @@ class Past:
         return scene is not None
 
     def spot(self, place: Place) -> Spot | None:
-        """Return where the event at a place is; None if so many events were read that no more are."""
+        """Return where the event at a place is; None if it isn't among the events that may be read."""
         number = 0
         while number < len(self._scenes) or self.read_more(LIMIT):
             at = self._scenes[number].at(place.cpu, place.line)
@@ -251,8 +251,8 @@ class Past:
         return self._scenes[spot.scene].running(spot.at)
 
     def last_act(self, pid: int, place: Place, most: int | None = None) -> Spot | None:
-        """Return the last switch to a task, or from it, before a place; None if there is none among so many events, or among as
-        many as are read at all."""
+        """Return the last switch to a task, or from it, before a place; None if there is none among the events that were read
+        already or may be read: `most` in all, or `LIMIT` if that is None."""
         number, room = 0, LIMIT if most is None else most
         while number < len(self._scenes) or self.read_more(room):
             scene = self._scenes[number]
@@ -275,8 +275,8 @@ class Past:
         return False
 
     def steady_since(self, pid: int, place: Place, after: Spot | None) -> tuple[int, bool]:
-        """Return the stamp since which all events up to a place on its CPU happened while a task ran, of those after an event
-        or of all that were read; and whether these are all of them."""
+        """Look at the events of a place's CPU up to that place: those after the event `after`, or all that were read if it is
+        None. Return the stamp since which a task ran at each of them, and whether it ran at all of them."""
         since = place.stamp
         for number, scene in enumerate(self._scenes[: None if after is None else after.scene + 1]):
             places = scene.places_of(place.cpu)
@@ -350,7 +350,7 @@ class KnownWait(NamedTuple):
 
 
 class Ends(NamedTuple):
-    """The waits of a task, with numbers for the places at which they end, in ascending order, and which wait each is of."""
+    """The waits of a task, with numbers for the places at which they end, in ascending order, and the wait of each number."""
 
     waits: Waits
     numbers: NDArray[numpy.int64]
@@ -421,7 +421,7 @@ class Follower:
     """Follows tasks back in time from one wait."""
 
     def __init__(self, past: Past, waits: Waits, context: Callable[[Event], str | None]) -> None:
-        """Of the events up to the beginning of the wait, the waits of the recording, and what finds the context of a waking."""
+        """Take the events up to the beginning of the wait, the recording's waits, and what finds the context of a waking."""
         self._past, self._waits, self._context = past, WaitsByTask(waits), context
         self._runs = 0
 
@@ -452,7 +452,7 @@ class Follower:
             return Stop("lost", _chain_text.lost_in_wait(draft.runner, why.holes[0]))
         stop = self._follow(draft, wait)
         if draft.begin and draft.waker and wait.kind != PREEMPTED:
-            # It was looked for in more of the recording.
+            # The explanation looked for the waker in more of the recording.
             draft.waker = why.waker
         return stop
 
@@ -525,7 +525,7 @@ class Follower:
     # ---- what else ends a chain, and sleep
 
     def _awake(self, drafts: Sequence[Draft]) -> Stop | None:
-        """Return the stop if the last task was awake since before the first one fell asleep, or was created; else None."""
+        """Return the stop if the last task was awake since before the first one fell asleep or was created; else None."""
         first, last = drafts[0], drafts[-1]
         if first is last or first.begin is None:
             return None
@@ -537,8 +537,8 @@ class Follower:
         return Stop("awake", _chain_text.awake(last.runner, first.runner, fell, is_new)) if last.since <= fell else None
 
     def _sleep(self, draft: Draft, most: int = SLEEP_ROOM) -> tuple[Event | None, int | None]:
-        """Return the switch at which a task fell asleep before it was woken, and how long it had slept, as far as it is known
-        from what was read, or from so many events."""
+        """Return the switch at which a task fell asleep before it was woken, and how long it had slept, as far as they are
+        known from the events that were read already, or from `most` events."""
         if draft.begin is None or draft.begin.name != EVENT_NAMES[WAKING]:
             return None, None
         spot = self._past.last_act(draft.runner.pid, place_of(draft.begin), most)
@@ -549,7 +549,7 @@ class Follower:
 
 
 def end_at(draft: Draft) -> Stop | None:
-    """Return the stop if no task woke that of a step, but an interrupt; else None."""
+    """Return the stop if an interrupt, and not a task, woke the task of a step; else None."""
     begin, waker = draft.begin, draft.waker
     if begin is None or waker is None:
         return None
@@ -562,5 +562,5 @@ def end_at(draft: Draft) -> Stop | None:
 
 
 def too_long(drafts: Sequence[Draft], steps: int) -> Stop | None:
-    """Return the stop if there are so many steps; else None."""
+    """Return the stop if there are `steps` steps or more; else None."""
     return Stop("limit", _chain_text.too_many_steps(len(drafts))) if len(drafts) >= steps else None

@@ -15,9 +15,9 @@ from ._why_text import CONTEXTS, counted, fitted, hole_text, indented, named
 if TYPE_CHECKING:
     from ._chain import Chain, ChainStep
 
-# How the table calls where a waking came from.
+# The table's words for where a waking came from.
 ORIGINS = {"task": "task", "hardirq": "interrupt", "softirq": "softirq", "nmi": "NMI", None: "task?"}
-# How many times a task was preempted.
+# The column that says how many times a task was preempted.
 LOST_CPU = "lost CPU"
 NOTE = "The lines have no flags: an interrupt, and not the next task, may have woken a task that has task? here."
 
@@ -32,7 +32,7 @@ def text_of(chain: Chain, width: int, all_steps: bool) -> str:
 
 
 def table_of(rows: Sequence[dict[str, object]], width: int, all_steps: bool) -> str:
-    """Return the steps as a table in so many columns; if it would be wider, less is shown of each."""
+    """Return the steps as a table for lines of `width` columns; if it would be wider, less is shown of each step."""
     names = [name for name in rows[0] if name != LOST_CPU or any(row[name] for row in rows)]
     ends = _tables.ENDS
     text = ""
@@ -47,7 +47,7 @@ def table_of(rows: Sequence[dict[str, object]], width: int, all_steps: bool) -> 
 
 
 def row_of(step: ChainStep) -> dict[str, object]:
-    """Return a row of the table, by the names of its columns."""
+    """Return a step as a row of the table, by the names of the columns."""
     return {
         "task": named(step.task, step.pid),
         "CPU": step.cpu,
@@ -62,7 +62,7 @@ def row_of(step: ChainStep) -> dict[str, object]:
 
 
 def origin(step: ChainStep) -> str:
-    """Return how the table calls what made a task runnable."""
+    """Return the table's word for what made a task runnable."""
     if step.begin is None or step.waker is None:
         return "?"
     if step.is_new:
@@ -101,7 +101,7 @@ def by_itself(runner: Runner, cpu: int) -> str:
 
 
 def awake(last: Runner, first: Runner, fell: int, is_new: bool) -> str:
-    """Return that a task was awake since before another one fell asleep, or was created."""
+    """Return that a task was awake since before another one fell asleep or was created."""
     what = "was created" if is_new else "fell asleep"
     return f"The chain ends here: {name(last)} was already awake when {name(first)} {what} at {seconds(fell)}."
 
@@ -112,7 +112,7 @@ def no_switch_before(runner: Runner, since: int) -> str:
 
 
 def no_waking(runner: Runner, switch: Place, has_run: bool) -> str:
-    """Return that no waking of a task was recorded, which has run before or not."""
+    """Return that no waking of a task was recorded; `has_run` says whether the task ran before."""
     place = f"{switch.cpu}:{switch.line}"
     if has_run:
         return f"The chain stops here: no event shows what made {name(runner)} runnable before it ran at {place}."
@@ -150,7 +150,7 @@ def lost_before_run(runner: Runner, switch: Place, hole: Hole) -> str:
 
 
 def too_many_steps(steps: int) -> str:
-    """Return that a chain has so many steps."""
+    """Return that a chain is cut after so many steps."""
     return f"The chain is cut here, after {counted(steps, 'step', 'steps')}: it goes on before that."
 
 

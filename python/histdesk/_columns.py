@@ -1,16 +1,16 @@
-"""Texts in lines of so many columns."""
+"""Texts in lines of a given number of columns."""
 
 from __future__ import annotations
 
 import re
 import textwrap
 
-# A line has so many columns, unless another width is asked for.
+# How many columns a line has, unless another width is asked for.
 COLUMNS = 80
 
 
 def wrapped(text: str, width: int, front: str = "", rest: str = "  ") -> list[str]:
-    """Return a text in lines of so many columns, if its words allow it.
+    """Return a text in lines of at most `width` columns, if its words allow it.
 
     Parameters
     ----------

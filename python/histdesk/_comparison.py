@@ -16,11 +16,11 @@ from ._waits import Waits, chosen_of
 if TYPE_CHECKING:
     import pandas  # type: ignore[import]
 
-# So many rows are printed in a notebook or at a prompt.
+# How many rows are printed in a notebook or at a prompt.
 SHOWN = 20
-# So many remarks on recordings are printed one by one.
+# How many remarks on recordings are printed one by one.
 MOST_REMARKS = 5
-# What is said of a difference.
+# What tables say of a difference.
 WITHIN, BEYOND, TOO_FEW = "within the spread of the recordings", "beyond the spread", "apart, but too few recordings to tell"
 # The columns of a row's figures, by figure; the tool adds them to CSV and JSON.
 FORMS = ("before", "after", "least_before", "least_after", "greatest_before", "greatest_after", "p", "within")
@@ -32,7 +32,7 @@ class RecordingWaits(Protocol):
 
     @property
     def path(self) -> str | None:
-        """The file that they are of."""
+        """The file that the waits are of."""
 
     @property
     def held(self) -> Held:
@@ -47,16 +47,16 @@ class RecordingWaits(Protocol):
         """How many of the waits are doubtful."""
 
     def __len__(self) -> int:
-        """How many waits there are."""
+        """Return how many waits there are."""
 
     def counts(self, by: str = "task", doubtful: bool = False) -> Counts:
-        """The waits by key."""
+        """Return the waits by key."""
 
     def omissions(self) -> list[str]:
-        """What the figures lack."""
+        """Return what the figures lack."""
 
     def remarks(self) -> list[str]:
-        """What has to be known besides `omissions` before the numbers are believed."""
+        """Return what has to be known besides `omissions` before the numbers are believed."""
 
 
 @public
@@ -67,7 +67,7 @@ class Comparison:
     |---|---|
     | `comparison.before`, `comparison.after` | the `Waits` of the recordings of each side |
     | `comparison.whole()` | a `ComparisonRow` of all waits together |
-    | `comparison.table("name")` | a `ComparisonRow` for each name and kind, or by another word of `Waits.table` |
+    | `comparison.table("name")` | a `ComparisonRow` for each name and kind; other groups as in `Waits.table` |
     | `comparison.can_tell` | whether there are enough recordings for a test |
     | `comparison.only(kinds="woken", cpus=[2], tasks="init")` | the comparison of some of the waits; see `Waits.only` |
     | `comparison.to_pandas("name")` | a DataFrame of that table |
@@ -99,7 +99,7 @@ class Comparison:
 
     @property
     def can_tell(self) -> bool:
-        """Whether there are enough recordings for a test; 4 on each side are."""
+        """Whether there are enough recordings for a test; 4 on each side are enough."""
         return self.splits.can_tell
 
     @cached_property
@@ -129,7 +129,7 @@ class Comparison:
         Returns
         -------
         Comparison
-            That of these waits.
+            The comparison of these waits.
 
         Raises
         ------
@@ -227,7 +227,7 @@ class Comparison:
         return (*BY[by][0], "kind")
 
     def _samples(self, by: str) -> tuple[list[Sample], list[Sample]]:
-        """Return what is counted in the recordings of both sides, those that have no length left out."""
+        """Return what is counted in the recordings of both sides, except in those that have no length."""
         if by not in WAIT_GROUPS:
             raise ValueError(f"waits can be grouped by {', '.join(WAIT_GROUPS)}, not by {by!r}")
         before, after = ([Sample(one.counts(by), seconds_of(one)) for one in side if seconds_of(one)] for side in self.sides())
@@ -279,7 +279,7 @@ class Comparison:
         return [*map(_tables.printable, lines), *method_of(self.splits)]
 
     def _titles(self) -> list[tuple[str, RecordingWaits]]:
-        """Return each recording with what it is called."""
+        """Return the recordings of both sides, each with its title."""
         return [
             (one.path or f"recording {number} {name}", one)
             for name, side in zip(("before", "after"), self.sides())

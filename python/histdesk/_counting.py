@@ -26,7 +26,7 @@ if TYPE_CHECKING:
 
 
 class Choice(NamedTuple):
-    """By what waits are counted, whether doubtful ones are, and which waits are chosen."""
+    """What waits are counted by, whether doubtful ones are counted, and which waits are chosen."""
 
     by: str
     doubtful: bool = False
@@ -65,7 +65,7 @@ class CountedWaits(WaitAnswer):
         return self._kinds.counts
 
     def _check(self, by: str, doubtful: bool) -> None:
-        """Raise `ValueError` if they were counted by another field, or doubtful ones otherwise."""
+        """Raise `ValueError` if they were counted by another field, or doubtful ones weren't counted or left out as asked."""
         if (by, doubtful) != self._choice[:2]:
             how = "with" if self._choice.doubtful else "without"
             raise ValueError(f"these waits were counted by {self._choice.by!r}, {how} doubtful ones, and in no other way")
@@ -84,13 +84,13 @@ class Kinds:
         self.all = add_kinds(self.all, records)
 
     def add(self, other: Kinds) -> None:
-        """Add other ones."""
+        """Add the counts of another `Kinds`."""
         self.all = [count + more for count, more in zip(self.all, other.all)]
         self.counts = [count + more for count, more in zip(self.counts, other.counts)]
         self.likely += other.likely
 
     def add_chosen(self, records: Structs) -> None:
-        """Count those of them that are chosen."""
+        """Count some records of chosen waits."""
         doubt = records["doubt"]
         self.counts = add_kinds(self.counts, records if self._choice.doubtful else records[doubt == layout.SURE])
         self.likely += int(np.count_nonzero(doubt == layout.LIKELY))
@@ -105,7 +105,7 @@ def add_kinds(counts: list[int], records: Structs) -> list[int]:
 def count_waits(trace: Trace, choice: Choice, options: ReadOptions = ReadOptions()) -> WaitAnswer:
     """Count the waits of a whole text.
 
-    How sure a wait is shows at the text's end only, so until then 48 bytes of each are put aside, in a temporary file if they
+    How sure a wait is shows only at the text's end, so until then 48 bytes of each are put aside, in a temporary file if they
     are many. Raises what `_waits.waits_of_text` does."""
 
     def count(text: ReadText, _: Text | None) -> CountedWaits:

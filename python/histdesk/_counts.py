@@ -1,4 +1,4 @@
-"""Waits counted by key and by microsecond: what adds up exactly, of however many recordings."""
+"""Waits counted by key and by microsecond: counts that add up exactly, over however many recordings."""
 
 from __future__ import annotations
 
@@ -21,9 +21,10 @@ Percent = int | float | str | Fraction
 
 # The percentiles of a row.
 PERCENTS = (50, 90, 99)
-# Products of microseconds and counts may pass 64 bits, so each is summed in two halves, of so many bits below.
+# Products of microseconds and counts may pass 64 bits, so they are summed in two parts: for this many low bits of the
+# microseconds, and for the other bits.
 LOW_BITS = 26
-# How many bits of a number are used when two are joined to one.
+# How many bits of a number are used when two numbers are joined into one.
 BITS = 63
 
 
@@ -83,8 +84,8 @@ class CountsRow(NamedTuple):
 
 
 class Columns(NamedTuple):
-    """How many waits of a key, by its number, were so many microseconds long: arrays, ordered by key and microseconds, in which
-    no pair stands twice and no count is 0."""
+    """How many waits each key, by its number, has of each length in microseconds: arrays, ordered by key and microseconds, in
+    which no pair stands twice and no count is 0."""
 
     key: NDArray[np.int64]
     micros: NDArray[np.int64]
@@ -95,14 +96,14 @@ class Columns(NamedTuple):
 class Counts:
     """Waits counted by key and by length in microseconds, with the longest of each key, and how many were doubtful.
 
-    A key is a tuple of numbers and texts, which `fields` names. `Waits.counts` makes it. What several recordings give is added
-    up exactly, so percentiles of all together are exact too. It can be pickled, and two are equal if they hold the same.
+    `Waits.counts` makes it. A key is a tuple of numbers and texts, which `fields` names. What several recordings give is added
+    up exactly, so percentiles of all together are exact too. Counts can be pickled, and two are equal if they hold the same.
 
     | Form | What it gives |
     |---|---|
     | `counts.rows()` | a `CountsRow` for each key, the greatest wait first |
     | `counts.row(key)`, `counts.whole()` | that of one key, or None; that of all keys together |
-    | `counts.by("kind")` | the same waits counted by some of the fields only |
+    | `counts.by("kind")` | the same waits counted by only some of the fields |
     | `counts.merge(other)`, `Counts.merged(many)` | all of them together |
     | `counts.percentile(99.9)`, `counts.longer(1000)`, `counts.histogram()` | of all keys together; with a key, of one |
     """
@@ -115,8 +116,8 @@ class Counts:
         greatest: Sequence[Greatest | None],
         doubtful: NDArray[np.int64],
     ) -> None:
-        """Take sorted keys, and columns in which they go by their number; for each key the greatest wait, and how many of all
-        were doubtful."""
+        """Take sorted keys, columns in which keys stand by their number, and for each key the greatest wait and how many of all
+        its waits were doubtful."""
         self.fields = tuple(fields)
         self.keys = tuple(keys)
         self._number = {key: at for at, key in enumerate(self.keys)}
@@ -126,7 +127,7 @@ class Counts:
 
     @classmethod
     def empty(cls, fields: Sequence[str]) -> Counts:
-        """Return counts that have nothing.
+        """Return counts of no waits.
 
         Parameters
         ----------
@@ -143,7 +144,7 @@ class Counts:
 
     @classmethod
     def merged(cls, many: Iterable[Counts]) -> Counts:
-        """Return all of them together.
+        """Return several counts as one.
 
         Parameters
         ----------
@@ -167,7 +168,7 @@ class Counts:
         return combine(fields.pop(), [(part, part.keys) for part in parts])
 
     def merge(self, *others: Counts) -> Counts:
-        """Return this and others together.
+        """Return these counts and others as one.
 
         Parameters
         ----------
@@ -375,8 +376,8 @@ class Counts:
         return Counts(self.fields, [key], columns, [self._greatest[at]], self._doubtful[at : at + 1])
 
     def _sums(self, numbers: NDArray[np.int64]) -> NDArray[np.int64]:
-        """Return the sums of some numbers, one for each pair of the columns, by key."""
-        # Where the columns of each key begin, and after them their length.
+        """Return the sums by key of some numbers, of which each pair of the columns has one."""
+        # Where each key begins in the columns, and after that their length.
         bounds = self._columns.key.searchsorted(np.arange(len(self.keys) + 1))
         return np.diff(np.concatenate([[0], numbers.cumsum()])[bounds])
 
@@ -393,13 +394,14 @@ class Counts:
             raise ValueError(f"a percentile is above 0 and at most 100, and this is {percent}")
         counts = self._sums(self._columns.count).tolist()
         ranks = np.array([-(-count * share.numerator // share.denominator) for count in counts], "int64")
-        # How many waits stand up to each pair; that of the rank is the first which reaches it.
+        # How many waits come before those of each key. The pair of a rank is the first one at which the running count reaches
+        # this number plus the rank.
         before = np.cumsum([0, *counts])[:-1]
         places = self._columns.count.cumsum().searchsorted(before + ranks)
         return [int(self._columns.micros[at]) if count else None for at, count in zip(places.tolist(), counts)]
 
     def _rows(self) -> Iterator[CountsRow]:
-        """Return the rows by key."""
+        """Return the rows, ordered by key."""
         counts, totals = self._sums(self._columns.count).tolist(), self._totals()
         means = [total / count if count else None for total, count in zip(totals, counts)]
         percentiles = [self._percentiles(percent) for percent in PERCENTS]
@@ -434,7 +436,7 @@ class Counts:
 
 
 def cells(row: CountsRow, has_source: bool) -> list[object]:
-    """Return a row, as it is shown; with the recording of the greatest wait and the switch that ended it there."""
+    """Return a row as it is shown; if it has a source, with the recording of the greatest wait and the switch that ended it."""
     mean = None if row.mean is None else round(row.mean)
     wait = row.greatest
     where = [f"{wait.source} {wait.cpu}:{wait.line}" if wait else None] if has_source else []
@@ -445,7 +447,7 @@ def cells(row: CountsRow, has_source: bool) -> list[object]:
 
 
 def count_pairs(key: NDArray[np.int64], micros: NDArray[np.int64]) -> Columns:
-    """Count pairs in any order, each of which counts one."""
+    """Count pairs, which may be in any order; each counts once."""
     bits = bits_of(micros)
     if bits_of(key) + bits > BITS:
         return sum_pairs(key, micros, np.ones(len(key), "int64"))
@@ -457,14 +459,14 @@ def count_pairs(key: NDArray[np.int64], micros: NDArray[np.int64]) -> Columns:
 
 
 def sum_pairs(key: NDArray[np.int64], micros: NDArray[np.int64], count: NDArray[np.int64]) -> Columns:
-    """Add up the counts of pairs in any order, which may stand there more than once."""
+    """Add up the counts of pairs, which may be in any order and stand there more than once."""
     bits, low = bits_of(micros), micros
     if bits_of(key) + bits > BITS:
-        # Their order will do.
+        # Numbers in the order of the microseconds will do.
         low = np.unique(micros, return_inverse=True)[1]
         bits = bits_of(low)
     pairs = join_pairs(key, low, bits)
-    # Quick if the pairs of columns stand one after the other, each in order.
+    # This is quick if the pairs of several `Columns` stand one after the other, each of them in order.
     order = pairs.argsort(kind="stable")
     pairs = pairs[order]
     starts = starts_of(pairs)
@@ -478,7 +480,7 @@ def bits_of(numbers: NDArray[np.integer[Any]]) -> int:
 
 
 def join_pairs(key: NDArray[np.int64], low: NDArray[np.int64], bits: int) -> NDArray[np.integer[Any]]:
-    """Return pairs as one number each, the key's above one of so many bits; in 32 bits if they fit, which sort quickest."""
+    """Return each pair as one number, the key above a number of `bits` bits; in 32 bits if they fit, as these sort quickest."""
     pairs = key << bits | low
     return pairs.astype("u4") if bits_of(pairs) <= 32 else pairs
 

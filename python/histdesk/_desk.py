@@ -44,7 +44,7 @@ class Desk:
     microseconds, and lines are numbered from 1 on each CPU.
 
     A desk stays with the thread that made it: a call from another one raises `RuntimeError`, and so does closing it there.
-    The collector may free it in any thread. A closed desk raises `ValueError`. It is a context manager that closes it.
+    The collector may free it in any thread. A closed desk raises `ValueError`. A desk is a context manager: `with` closes it.
 
     Examples
     --------
@@ -68,7 +68,7 @@ class Desk:
         Raises
         ------
         RuntimeError
-            In a thread that didn't make it.
+            If it is called in a thread that didn't make the desk.
         """
         self._session.close()
 
@@ -102,8 +102,8 @@ class Desk:
         Returns
         -------
         Loaded
-            How many events it has: a number that also knows how many lines hold no event, of each CPU the first and the last
-            stamp in microseconds, and where events were lost.
+            How many events it has: a number that also says how many lines hold no event, what the first and the last stamp of
+            each CPU are, in microseconds, and where events were lost.
 
         Raises
         ------
@@ -151,7 +151,7 @@ class Desk:
                     lanes.append(Lane(cpu, *lane))
                     count -= lane[0]
         except MemoryError:
-            # From here on it isn't known any more, and has to be asked.
+            # From here on it isn't known any more which CPUs are held, and `cpus` has to ask.
             self._held = None
             return ()
         self._note(lane.cpu for lane in lanes)
@@ -163,13 +163,13 @@ class Desk:
             self._held.update(cpus)
 
     def _count(self, cpu: int) -> int:
-        """Return how many events of a CPU are held; 0 too if it isn't held."""
+        """Return how many events of a CPU are held; also 0 if it isn't held."""
         count = ctypes.c_uint64()
         return count.value if self._session.holds(library.histdesk_lane, cpu, 1, count) else 0
 
     @property
     def holes(self) -> tuple[Hole, ...]:
-        """Where events of the traces that were loaded were lost, by CPU. Unloading a CPU takes its own away."""
+        """Where events of the loaded traces were lost, by CPU. Unloading a CPU takes its holes away."""
         return tuple(hole for _, holes in sorted(self._holes.items()) for hole in holes)
 
     def unload(self, cpu: int) -> int:
@@ -260,8 +260,8 @@ class Desk:
         Raises
         ------
         Refused
-            At the first place at which none is held, 5 or 6 as `strike`: the events before it stay struck, and `struck` of the
-            exception is how many these are.
+            5 or 6, as in `strike`, at the first place at which no event is held: the events before it stay struck, and
+            `struck` of the exception is how many these are.
         ValueError
             If a CPU or a line is out of range; then none was struck.
         """
@@ -286,7 +286,7 @@ class Desk:
         ------
         Refused
             16 for another event, 8 if the text can't be read, 15 if 64 are attached, 12 if another trigger saves a variable of
-            the name, 13 if no trigger saves what it reads, 14 if its keys don't match the saver's.
+            the same name, 13 if no trigger saves what it reads, 14 if its keys don't match the saver's.
         """
         id, text = ctypes.c_uint32(), as_bytes(trigger)
         self._session.call(library.histdesk_attach, event_number(event), text, len(text), id, text=text)
@@ -313,7 +313,7 @@ class Desk:
             10 if there is none.
         """
         trigger_id = number(id, "id")
-        # Of a trigger that isn't attached this is refused.
+        # This is refused if the trigger isn't attached.
         self._session.trigger_text(trigger_id)
         return next(trigger for trigger in self.triggers() if trigger.id == trigger_id)
 
@@ -353,7 +353,7 @@ class Desk:
         Returns
         -------
         str
-            A line for each event, by line.
+            A line of text for each event, in the order of the events' lines.
 
         Raises
         ------
@@ -482,7 +482,7 @@ class Desk:
 
     @property
     def is_deferred(self) -> bool:
-        """Whether the tables are to be built anew by the next answer of a trigger, since there was no memory for them."""
+        """Whether the next answer of a trigger has to build the tables anew, since there was no memory for them."""
         return bool(self._session.code(library.histdesk_is_deferred))
 
     # ---- how it is shown

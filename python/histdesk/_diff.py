@@ -29,10 +29,10 @@ if TYPE_CHECKING:
 Side = Union[Trace, Recording, Desk, Waits]
 SomeSide = TypeVar("SomeSide", bound=Side)
 
-# What rows may be sorted by, and the title of its changes.
+# What rows may be sorted by, and the title of the changes of each.
 TITLES = dict(zip(DIFFERENCE_ORDERS, ("change of waited/s", "change of max")))
 SIDES = ("before", "after")
-# So many rows are shown in a notebook or at a prompt.
+# How many rows are shown in a notebook or at a prompt.
 SHOWN = 20
 MICROS = 1_000_000
 
@@ -114,7 +114,7 @@ class Struck(NamedTuple):
     filter
         The filter that selected them; None for all of that name.
     count
-        How many they were.
+        How many events were left out.
     of
         How many events of that name the recording has.
     """
@@ -138,9 +138,9 @@ class Difference:
     | `difference.struck` | what was taken away, a `Struck` for each of `without`; None for two recordings |
     | `difference.fate` | what became of the waits then, as a `Fate`; None for two recordings |
     | `difference.whole()` | a `DifferenceRow` of all waits together |
-    | `difference.table("name")` | a `DifferenceRow` for each name and kind that changed, or by another word of `Waits.table` |
+    | `difference.table("name")` | a `DifferenceRow` for each name and kind that changed; other groups as in `Waits.table` |
     | `difference.parts("name")` | how much 8 parts of each recording differ among themselves |
-    | `difference.only(kinds="woken", cpus=[2], tasks="init")` | that of some of the waits; see `Waits.only` |
+    | `difference.only(kinds="woken", cpus=[2], tasks="init")` | the difference of some of the waits; see `Waits.only` |
     | `difference.to_pandas("name")` | a DataFrame of that table |
     """
 
@@ -156,7 +156,7 @@ class Difference:
         """
         self.before, self.after = before, after
         self.struck = None if struck is None else tuple(struck)
-        # What is counted on both sides, by what waits are grouped by.
+        # What is counted on both sides, for each grouping of the waits.
         self._groups: dict[str, tuple[SideCounts, SideCounts]] = {}
 
     @property
@@ -193,7 +193,7 @@ class Difference:
         Returns
         -------
         Difference
-            That of these waits.
+            The difference of these waits.
 
         Raises
         ------
@@ -317,8 +317,8 @@ class Difference:
         return (self._last_names[int(key[0])], *key) if key else key
 
     def _sides(self, by: str, has_parts: bool = False) -> tuple[SideCounts, SideCounts]:
-        """Return what is counted on both sides, and if asked for, in parts of both recordings. If parts are asked for first,
-        the waits are counted once."""
+        """Return what is counted on both sides and, if `has_parts`, in parts of both recordings. If parts are asked for first,
+        the waits are counted only once."""
         known = self._groups.get(by)
         if known is None or has_parts and not known[0].has_parts:
             lengths = self.seconds
@@ -407,7 +407,7 @@ class SideCounts:
     parts
         What is counted in parts of equal time; empty if the recording has no length.
     has_parts
-        Whether they were counted.
+        Whether the parts were counted.
     """
 
     def __init__(self, counts: Counts, seconds: float, parts: Sequence[Sample] | None = None) -> None:
@@ -429,7 +429,7 @@ class SideCounts:
 
 
 def side_counts(waits: Waits, by: str, seconds: float, has_parts: bool) -> SideCounts:
-    """Return what is counted of the waits of one side; if it has parts, these are counted and added up."""
+    """Return what is counted of the waits of one side; if `has_parts`, its parts are counted and added up."""
     parts = _noise.parts_of(waits, by) if has_parts else None
     counts = Counts.merged([part.counts for part in parts]) if parts else waits.counts(by)
     return SideCounts(counts, seconds, parts)
@@ -503,7 +503,7 @@ def table_of(
     Parameters
     ----------
     difference
-        What the table is of.
+        The difference that the table is of.
     rows
         Rows of its `table`.
     by, sort, above
@@ -528,7 +528,7 @@ def table_of(
 
 
 def changes_of(rows: Sequence[DifferenceRow], sort: str) -> list[str]:
-    """Return by how much the figure grew by which rows are sorted, and by what share of what it was."""
+    """Return by how much the figure by which rows are sorted grew, and by what share of its value before."""
     changes = [f"{row.change(sort):+.0f}" for row in rows]
     values = [getattr(row.before, sort) for row in rows]
     shares = [f"({_tables.percent(row.change(sort) / before)})" if before else "" for row, before in zip(rows, values)]
@@ -563,7 +563,7 @@ def figures_of(row: DifferenceRow, column: Column) -> tuple[str, str]:
 
 
 def pair_cells(pairs: Sequence[tuple[str, str]]) -> list[str]:
-    """Return the cells of a column, both sides below each other; one number if they are the same."""
+    """Return the cells of a column, with each side's values aligned; a cell has one number if both sides have the same."""
     left, right = (max(map(len, side)) for side in zip(*pairs))
     return [
         f"{after:>{left + 4 + right}}" if before == after else f"{before:>{left}} -> {after:>{right}}"
@@ -596,13 +596,13 @@ def diff(
     From one recording to another: `diff("old.trace", "new.trace")`. In one recording without some of its events:
     `diff("my.trace", without="sched_waking if common_pid == 0")`. The waits are then those of the events that are left, as if
     the others weren't in the recording: without a waking, the task waits from an earlier one on, or its wait is gone. From
-    several recordings to several others: `diff(["old1.trace", "old2.trace"], ["new1.trace", "new2.trace"])`. Only then can it
-    be told whether the difference is greater than that between recordings of the same load.
+    several recordings to several others: `diff(["old1.trace", "old2.trace"], ["new1.trace", "new2.trace"])`. Only this
+    last form can tell whether the difference is greater than that between recordings of the same load.
 
     Parameters
     ----------
     before
-        A recording: what `waits` takes, or `Waits`. Several of them, in a list or tuple.
+        A recording: what `waits` takes, or `Waits`; or several of them, in a list or tuple.
     after
         The other recording, or several of them; None with `without`. A recording may be of any length, as with `waits`.
     without

@@ -8,7 +8,7 @@ from . import _schema
 from .native import layout
 from .native.library import library
 
-# Where the number of its event is among the fields of a line.
+# Where the number of a line's event is among the line's fields.
 EVENT = [name for name, _ in layout.LINE_FIELDS].index("event")
 
 

@@ -29,7 +29,7 @@ NAMES = ("task", "comm", "prev_comm", "prev_state")
 SHOWN = ("stamp", "cpu", "line", "name", "task", "common_pid", "comm", "pid", "prio")
 # The last field of the common part; only some names have the fields after it.
 COMMON = Event._fields.index("common_pid")
-# Of each event, by its number, which of these fields it has.
+# Which of the fields after the common part each event has, by the event's number.
 OWN = [tuple(column in event.columns for column in Event._fields[COMMON + 1 :]) for event in _schema.EVENTS]
 
 
@@ -38,7 +38,7 @@ class Events(Sequence[Event]):
     """Events as they were held when they were asked for; `Desk.events` makes it. Nothing is decoded before it is looked at.
 
     `events[3]` is an `Event`, `events[2:9]` is `Events`, and `events["pid"]` is one field of all: an array of numbers, or a
-    list of names, None if an event has no such field.
+    list of names, with None for an event that has no such field.
 
     Parameters
     ----------
@@ -100,7 +100,7 @@ class Events(Sequence[Event]):
         return np.frombuffer(self._content, EVENT_TYPE).view(np.recarray)
 
     def to_pandas(self, *, times: Times = "micros") -> DataFrame:
-        """Return the events.
+        """Return the events as a DataFrame.
 
         Parameters
         ----------
@@ -111,7 +111,7 @@ class Events(Sequence[Event]):
         -------
         pandas.DataFrame
             A row for each event, with the fields of `Event` as columns: texts and CPUs as categories, numbers of the
-            common part as `int64`, and others as `Int64`. If an event has no such field they are NA.
+            common part as `int64`, and others as `Int64`. A field is NA if the event doesn't have it.
 
         Raises
         ------
@@ -144,7 +144,7 @@ class Events(Sequence[Event]):
         return [event[at] for event in self]
 
     def _table(self) -> _tables.Table:
-        """Return the ends of the table."""
+        """Return the table, with its first and its last events."""
         fields = [Event._fields.index(field) for field in SHOWN]
         return _tables.table_of(SHOWN, self._count, lambda at: [self[at][field] for field in fields])
 
@@ -156,7 +156,7 @@ class Events(Sequence[Event]):
 
 
 def event_of(fields: Sequence[Any]) -> Event:
-    """Return an event, of the fields of its struct."""
+    """Return an event from the fields of its struct."""
     stamp, cpu, line, name, common_pid, pid, prio, target_cpu, prev_pid, prev_prio = fields[:10]
     task, comm, prev_comm, prev_state = map(layout.text_of, fields[10::2], fields[11::2])
     own = (comm, pid, prio, target_cpu, prev_comm, prev_pid, prev_prio, prev_state)
@@ -165,7 +165,7 @@ def event_of(fields: Sequence[Any]) -> Event:
 
 
 def has(name: int, field: str) -> bool:
-    """Return whether events of a name, by its number, have a field."""
+    """Return whether events whose name has this number have a field."""
     at = Event._fields.index(field)
     return at <= COMMON or OWN[name][at - COMMON - 1]
 
@@ -174,7 +174,7 @@ def has(name: int, field: str) -> bool:
 
 
 def frame_column(array: np.recarray[Any, Any], field: str) -> NDArray[Any] | ExtensionArray:
-    """Return a field of all events, with nothing if an event doesn't have it."""
+    """Return a field of all events, which is NA for events that don't have it."""
     import pandas
 
     if field == "name":
@@ -188,13 +188,13 @@ def frame_column(array: np.recarray[Any, Any], field: str) -> NDArray[Any] | Ext
 
 
 def texts(array: NDArray[Any], field: str) -> NDArray[np.object_]:
-    """Return a name of all events as texts."""
+    """Return a field of names, of all events, as texts."""
     names, codes = name_codes(array, field)
     return names[codes]
 
 
 def name_codes(array: NDArray[Any], field: str) -> tuple[NDArray[np.object_], NDArray[np.int32]]:
-    """Return the different texts of a name of all events, and which one each event has. Each is decoded once."""
+    """Return the different texts of a field of names, and which one each event has. Each text is decoded once."""
     names = Numbers(layout.NAME_WORDS)
     codes = names.of(words_of_names(array, field))
     return texts_of_names(names.rows), codes

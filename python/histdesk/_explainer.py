@@ -1,4 +1,4 @@
-"""Explains waits of a recording: which one an event belongs to, and what it was."""
+"""Explains waits of a recording: which wait an event belongs to, and why its task waited."""
 
 from __future__ import annotations
 
@@ -44,7 +44,7 @@ class Explainer:
         raise LookupError("there is no wait that isn't doubtful")
 
     def wait_at(self, cpu: int, line: int) -> Wait:
-        """Return the wait that the event of a CPU at a line ends, or begins, or in which the task that it wakes is waiting.
+        """Return the wait that the event of a CPU at a line ends or begins, or in which the task that it wakes is waiting.
 
         Raises
         ------
@@ -74,7 +74,7 @@ class Explainer:
         """Return the chain of wakings of one of its waits. Raises what `past` raises."""
         return Follower(self.past(why.begin.stamp), self.waits, self.contexts()).chain(why, steps, beyond)
 
-    # ---- what a recording is asked
+    # ---- what is asked of a recording
 
     def past(self, stamp: int) -> Past:
         """Return the events up to a stamp."""
@@ -93,7 +93,7 @@ class Explainer:
         raise NotImplementedError
 
     def acts(self, pid: int, start: int, until: int) -> Scene:
-        """Return the events about a task with a stamp from one on and below another one."""
+        """Return the events about a task whose stamps are at least `start` and below `until`."""
         raise NotImplementedError
 
     def lines(self, cpu: int) -> tuple[int, int] | None:
@@ -110,14 +110,14 @@ class Explainer:
         return wait_of(rows[0]) if len(rows) else None
 
     def _wait_around(self, event: Event) -> Wait | None:
-        """Return the wait that an event begins, if the recording ends before it does, or that it lies in."""
+        """Return the wait in which an event lies, or the one that it begins if that wait lasts to the end of the recording."""
         is_switch = event.name == "sched_switch"
         pid, at = event.prev_pid if is_switch else event.pid, place_of(event)
         if not pid:
             return None
         after = self._first_after(pid, at)
         if after:
-            # The task ran later on, so none of its waits lasts to the end.
+            # The task ran later on, so no wait lasts from here to the end.
             return after if after.begin < at and not is_switch else None
         wait = self._lasting(pid, event)
         return wait if wait and (wait.begin == at if is_switch else wait.begin <= at) else None
@@ -181,7 +181,7 @@ class DeskExplainer(Explainer):
     """Explains the waits of the events that a desk holds."""
 
     def __init__(self, desk: Desk, recording: Recording | None = None) -> None:
-        """Of a desk, and of the recording for which it was made."""
+        """Take a desk, and the recording for which it was made."""
         super().__init__(waits_of(desk, recording))
         self._scene = of_desk(desk, recording)
 
@@ -209,7 +209,7 @@ class DeskExplainer(Explainer):
 
 
 class SourceExplainer(Explainer):
-    """Explains the waits of a whole recording, of which it reads the events around each."""
+    """Explains the waits of a whole recording; for each, it reads the events around it."""
 
     def __init__(self, waits: Waits, source: Source) -> None:
         super().__init__(waits)
@@ -244,7 +244,7 @@ class SourceExplainer(Explainer):
 
 
 class Contexts:
-    """Finds in which context wakings of a recording were, by the flags of their lines."""
+    """Finds the contexts of a recording's wakings, by the flags of their lines."""
 
     def __init__(self, source: Source) -> None:
         self._source = source
@@ -267,7 +267,7 @@ def explainer_of(trace: Desk | Trace | Recording | Waits) -> Explainer:
     ValueError
         If the recording of these waits can't be read again.
 
-    It also raises what `waits` raises, but not for a recording of some CPUs.
+    It also raises what `waits` raises, except that it takes a recording of some CPUs.
     """
     if isinstance(trace, Desk):
         return DeskExplainer(trace)
@@ -310,14 +310,14 @@ def explainer_with(waits: Waits, trace: Trace | Recording, lenient: bool = False
 
 
 def lasting_at(waits: Waits, stamp: int | None) -> Waits:
-    """Return those that last or end at a stamp; None is all."""
+    """Return the waits that begin, last or end at a stamp; all of them if it is None."""
     if stamp is None:
         return waits
     return waits[(waits._column("begin_stamp") <= stamp) & (stamp <= waits._column("end_stamp"))]
 
 
 def greatest(waits: Waits, most: int | None, doubtful: bool) -> Waits:
-    """Return so many of the longest ones, or all of them, the longest first; doubtful ones only if they are asked for."""
+    """Return the `most` longest waits, or all if it is None, the longest first; doubtful ones only if they are asked for."""
     waits = waits if doubtful else waits[~waits._column("doubtful")]
     micros = waits._column("micros")
     if most is not None and most < len(waits):
@@ -335,8 +335,8 @@ def wait_of(row: Any) -> Wait:
 
 
 def lasting_wait(acts: Scene, pid: int, last: int) -> Wait | None:
-    """Return the wait of a task that lasts to the end of a recording, of all events about the task since it last ran, and the
-    last stamp: the one that the engine finds if a switch to the task comes last."""
+    """Return the wait of a task that lasts to the end of a recording: the one that the engine finds if a switch to the task
+    comes last. `acts` has all events about the task since it last ran, and `last` is the last stamp."""
     events = [acts.event(at) for at in numbers(acts.name != WAKEUP)]
     turns = [at for at, event in enumerate(events) if event.name == "sched_switch" and event.pid == pid]
     events = events[turns[-1] if turns else 0 :]

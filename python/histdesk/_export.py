@@ -23,7 +23,7 @@ if TYPE_CHECKING:
     # Values of one column.
     Column = Union[NDArray[np.generic], list[object]]
 
-# So many events are decoded at once.
+# How many events are decoded at once.
 ROOM = 1 << 16
 # Selects every event.
 EVERY = "common_cpu >= 0"
@@ -41,7 +41,7 @@ class Table(NamedTuple):
     names
         The names of its columns.
     rows
-        Its rows, of numbers, texts, truth and None.
+        Its rows, of numbers, texts, truth values and None.
     """
 
     names: Sequence[str]
@@ -81,7 +81,7 @@ def event_columns(events: Events, recording: Recording | None) -> list[list[obje
 
 
 def event_column(array: np.recarray[tuple[int], np.dtype[np.void]], field: str) -> list[object]:
-    """Return a field of events, None if an event doesn't have it."""
+    """Return a field of events; it is None for an event that doesn't have it."""
     names = np.array(_schema.EVENT_NAMES, dtype=object)
     column = names[array["name"]] if field == "name" else texts(array, field) if field in NAMES else array[field]
     if Event._fields.index(field) > COMMON:

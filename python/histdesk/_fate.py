@@ -40,8 +40,8 @@ class Fate(NamedTuple):
 
 
 class Change(NamedTuple):
-    """What became of waits: which of them aren't there any more, or not as they were, which of those that are left were
-    not there, or not so, both as ascending indices; and how many that are."""
+    """What became of waits: which of the waits before are gone or have changed, and which of those after are new or have
+    changed, both as ascending indices; and how many are gone, moved and new."""
 
     taken: NDArray[np.int64]
     new: NDArray[np.int64]
@@ -49,7 +49,7 @@ class Change(NamedTuple):
 
 
 class WaitCounts(NamedTuple):
-    """How many some waits are, and how long, in microseconds; doubtful ones are left out."""
+    """How many waits there are, and how long they are, in microseconds; doubtful ones are left out."""
 
     count: int  # type: ignore[assignment]
     total: int
@@ -59,7 +59,7 @@ class WaitCounts(NamedTuple):
 
 
 class Row(NamedTuple):
-    """A task and a kind of waits of which one has changed, and their counts before and after; None if there are none."""
+    """A task and a kind of which a wait has changed, and the counts of these waits before and after; None if there are none."""
 
     task: str
     pid: int
@@ -69,8 +69,8 @@ class Row(NamedTuple):
 
 
 def change_of(before: Waits, after: Waits, ends: Places | None = None) -> Change:
-    """Return what became of the waits of a recording without some events. A wait is known by the switch that ends it; `ends`
-    are these switches, if they are known."""
+    """Return what became of the waits of a recording without some events. A wait is identified by the switch that ends it;
+    `ends` are the switches that end the waits before, if they are known."""
     was, now = before._records, after._records
     old = (ends or Places(was["end_cpu"], was["end_line"])).index(now["end_cpu"], now["end_line"])
     left = np.flatnonzero(old >= 0)

@@ -1,4 +1,4 @@
-"""What a file is that is no trace: packed, a recording of another tool, or what such a tool printed.
+"""What a file is if it is no trace: packed, a recording of another tool, or what such a tool printed.
 
 Every part of histdesk asks here. The first bytes of a file decide. Only `printed_origin` needs the engine, which says whether
 a line is one of a trace.
@@ -28,7 +28,7 @@ class Packer(NamedTuple):
 
 
 class Origin(NamedTuple):
-    """Where a file comes from that is no trace.
+    """Where a file that is no trace comes from.
 
     Attributes
     ----------
@@ -73,7 +73,7 @@ LINES = {
 # A line of an event in the kernel's text, in that of perf script or in that of trace-cmd report.
 EVENT_LINE = re.compile(rb"[ -][0-9]+ .*\[[0-9]+\] .*[0-9]\.[0-9]{6,9}: +[A-Za-z_0-9:]+:")
 
-# So many bytes of a file are looked at.
+# How many bytes of a file are looked at.
 FRONT_ROOM = 1 << 16
 # What comes before the first line that isn't a comment, and that line, as far as a desk reads one.
 COMMENTS, LINE = re.compile(rb"(?:#[^\n]*\n|\n)*"), re.compile(rb"[^\n]{0,8192}")
@@ -83,17 +83,17 @@ COMMENTS, LINE = re.compile(rb"(?:#[^\n]*\n|\n)*"), re.compile(rb"[^\n]{0,8192}"
 
 
 def packer_of(front: bytes) -> Packer | None:
-    """Return what has packed a file that begins so, or None."""
+    """Return what has packed a file that begins with `front`, or None."""
     return next((packer for magic, packer in PACKERS.items() if front.startswith(magic)), None)
 
 
 def recording_origin(front: bytes) -> Origin | None:
-    """Return where a recording comes from that begins so, or None if it is none."""
+    """Return where a file that begins with `front` comes from if it is another tool's recording, or None."""
     return next((origin for magic, origin in RECORDINGS.items() if front.startswith(magic)), None)
 
 
 def printed_origin(front: bytes) -> Origin | None:
-    """Return where a text comes from that begins so, or None if it is no text of perf or trace-cmd, or a trace."""
+    """Return where a text that begins with `front` comes from, or None if it is no text of perf or trace-cmd, or is a trace."""
     from ._event_lines import holds_event
 
     start = COMMENTS.match(front)
@@ -105,12 +105,12 @@ def printed_origin(front: bytes) -> Origin | None:
 
 
 def origin_of(front: bytes) -> Origin | None:
-    """Return where a file comes from that begins so, or None if neither perf nor trace-cmd made it."""
+    """Return where a file that begins with `front` comes from, or None if neither perf nor trace-cmd made it."""
     return recording_origin(front) or printed_origin(front)
 
 
 def origin_of_lines(lines: Iterable[bytes]) -> Origin | None:
-    """Return which program printed most likely a text with these lines: more than a quarter of them are of its form."""
+    """Return which program most likely printed a text with these lines: the one whose form more than a quarter of them have."""
     sample = list(lines)
     for origin, pattern in LINES.items():
         if 4 * sum(1 for line in sample if pattern.fullmatch(line)) > len(sample):
@@ -119,8 +119,8 @@ def origin_of_lines(lines: Iterable[bytes]) -> Origin | None:
 
 
 def looks_like_trace(front: bytes) -> bool:
-    """Return whether a text that begins so is probably a trace, and no script: it has the header's first line, or its first
-    line that isn't a comment is of an event. In a script, `insert` stands before such a line."""
+    """Return whether a text that begins with `front` is probably a trace, and no script: it has the header's first line, or
+    its first line that isn't a comment is of an event. In a script, `insert` stands before such a line."""
     for line in front.split(b"\n"):
         if line.startswith(b"# tracer: "):
             return True
@@ -158,7 +158,7 @@ def conversion(origin: Origin, path: str | None = None) -> str:
 
 
 def why_no_trace(front: bytes, path: str | None) -> str | None:
-    """Return what a file is that is no trace, and what makes a trace of it.
+    """Return what a file is if it is no trace, and what makes a trace of it.
 
     Parameters
     ----------
@@ -202,7 +202,7 @@ def check_kind(text: Text, path: str | None) -> None:
 
 
 def for_program(front: bytes, path: str, reads_gzip: bool = False) -> str | None:
-    """Return what a file is that is no text, and how the program gets a trace of it.
+    """Return what a file is if it is no text, and how the program gets a trace of it.
 
     Parameters
     ----------

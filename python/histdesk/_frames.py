@@ -28,7 +28,7 @@ TIMES = frozenset(
 def categories_of(texts: Sequence[str | None]) -> Categorical:
     """Return texts as categories, and None as nothing.
 
-    pandas itself takes texts for equal that differ after a zero byte only.
+    pandas itself takes texts for equal that differ only after a zero byte.
     """
     import numpy as np
 
@@ -61,7 +61,7 @@ def from_codes(codes: NDArray[np.int64], texts: Sequence[str]) -> Categorical:
 
 
 def finished(frame: DataFrame, times: Times) -> DataFrame:
-    """Return a DataFrame with its names and CPUs as categories; those of CPUs are in order.
+    """Return a DataFrame with its names and CPUs as categories; those of CPUs are ordered.
 
     Parameters
     ----------
@@ -73,7 +73,7 @@ def finished(frame: DataFrame, times: Times) -> DataFrame:
     Raises
     ------
     ValueError
-        If times can't be like that.
+        If `times` is neither.
     """
     import pandas
 

@@ -28,7 +28,7 @@ def program(name: str = "histdesk") -> str:
 
 
 def as_called(text: str) -> str:
-    """Return a text that names tools and programs as in a checkout with the names by which they are called here."""
+    """Return a text in which tools and programs, named as in a checkout, get the names by which they are called here."""
     if is_checkout():
         return text
     return CALLED.sub(lambda match: "histdesk-" if match[0] == "tools/" else "", text)

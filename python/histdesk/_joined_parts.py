@@ -15,7 +15,7 @@ if TYPE_CHECKING:
     from ._numbering import Numbers
     from ._wait_records import Structs
 
-# The largest line of an event.
+# The greatest line that an event can have.
 LAST_LINE = (1 << 32) - 1
 
 
@@ -36,8 +36,8 @@ class PartWaits:
         names.of(self._completions.name_rows)
 
     def parts(self, names: Numbers) -> Iterator[tuple[Structs, Besides]]:
-        """Yield arrays of all of them, each with what was besides by the index in it. The names of tasks get their numbers
-        among the `names` of the whole text."""
+        """Yield arrays of all of them, each with what was besides, by the index in the array. The names of tasks get their
+        numbers among the `names` of the whole text."""
         more, besides = self._completions.records().copy(), self._completions.besides
         more["name"] = names.of(self._completions.name_rows)[more["name"]]
         start = 0
@@ -67,7 +67,7 @@ class LaterWaits:
     """Waits that follow others of the same text, with its places."""
 
     def __init__(self, sink: WaitSink) -> None:
-        """Take what takes these waits."""
+        """Take the sink of these waits."""
         self._sink = sink
 
     def __len__(self) -> int:
@@ -86,7 +86,7 @@ class JoinedWaits:
     """The waits of a text, of which some parts may have been read apart."""
 
     def __init__(self, first: WaitSink) -> None:
-        """Begin with what takes the waits of the text's beginning."""
+        """Begin with the sink that takes the waits of the text's beginning."""
         self._first = first
         self._parts: list[LaterWaits | PartWaits] = []
 
@@ -104,7 +104,7 @@ class JoinedWaits:
         return self._first.names()
 
     def all(self) -> tuple[Structs, Besides]:
-        """Return an array of all records, and what was besides by the index in it."""
+        """Return an array of all records, and what was besides, by the index in the array."""
         records_of_all, besides, count = np.empty(len(self), RECORD_FIELDS), [], 0
         for records, part in self.parts():
             records_of_all[count : count + len(records)] = records
@@ -113,17 +113,17 @@ class JoinedWaits:
         return records_of_all, besides
 
     def parts(self) -> Iterator[tuple[Structs, Besides]]:
-        """Yield copies of all records, each array with what was besides by the index in it."""
+        """Yield copies of all records, each array with what was besides, by the index in the array."""
         for portion in self.portions():
             yield from portion
 
     def portions(self) -> list[Iterator[tuple[Structs, Besides]]]:
-        """Return the same in several portions that may be gone through at once, in order, after `names` was asked for."""
+        """Return the same in several portions, in order, which may be gone through at once after `names` was called."""
         return [self._first.parts(), *(part.parts(self._first.numbers) for part in self._parts)]
 
 
 def rename(sink: WaitSink, names: Numbers) -> Iterator[tuple[Structs, Besides]]:
-    """Yield all records of what took waits, with the numbers that their names have among others."""
+    """Yield all records of a sink, with the numbers that their names have among `names`."""
     own_names = names.of(sink.name_rows)
     for records, besides in sink.parts():
         records["name"] = own_names[records["name"]]
@@ -145,7 +145,7 @@ def merge(records: Structs, besides: Besides, more: Structs, more_besides: Besid
 
 
 def places_in(records: Structs, others: Structs) -> NDArray[np.intp]:
-    """Return how many records each of some others comes after, by where their waits ended; no two ended at one place."""
+    """Return how many records come before each of some others, by where their waits ended; no two ended at one place."""
     stamps = records["end_stamp"]
     places, most = stamps.searchsorted(others["end_stamp"]), stamps.searchsorted(others["end_stamp"], side="right")
     for number in np.flatnonzero(places < most).tolist():

@@ -21,7 +21,7 @@ if TYPE_CHECKING:
     from ._source import Searchable
 
 NONE = -1
-# So many bytes are asked about at once.
+# How many bytes the engine is asked about at once.
 ROOM = 1 << 20
 
 
@@ -58,7 +58,7 @@ def lines_in(text: Searchable) -> Lines:
 
 
 def lines_by_part(text: Searchable) -> Iterator[Lines]:
-    """Yield the same, part by part."""
+    """Yield what each line of a text is, part by part."""
     for start, part in parts_of(text):
         lines = read_lines(part)
         event = lines["event"]
@@ -72,7 +72,7 @@ def lines_by_part(text: Searchable) -> Iterator[Lines]:
 
 
 def parts_of(text: Searchable) -> Iterator[tuple[int, Searchable]]:
-    """Yield parts of whole lines of a text, each after the byte at which it begins."""
+    """Yield a text in parts of whole lines, each with the byte at which it begins."""
     start = 0
     while start < len(text):
         end = min(start + ROOM, len(text))

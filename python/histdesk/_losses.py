@@ -15,9 +15,9 @@ from .native.library import Call, library
 if TYPE_CHECKING:
     from ._source import Searchable
 
-# The kernel's header stands in so many bytes at the top.
+# How many bytes at the top of a text hold the kernel's header.
 HEADER_ROOM = 65536
-# What each line has that reports a loss, besides the header: a part of it that other lines seldom have.
+# Each line that reports a loss, apart from the header, has one of these; other lines seldom do.
 SIGNS = (b"#####", b"[LOST")
 
 
@@ -46,7 +46,7 @@ class Hole(NamedTuple):
     before
         The stamp of the CPU's first event after it, in microseconds; None if it lasts to the end.
     lost
-        How many events were lost; None if the text doesn't say it.
+        How many events were lost; None if the text doesn't say how many.
     line
         Which line of the text, from 1, reports it first; None in a slice, before which lines aren't counted.
     """
@@ -110,7 +110,7 @@ def few(texts: list[str]) -> str:
 
 
 def loss_on(cpu: int, holes: list[Hole]) -> str:
-    """Return what a CPU lost in the middle."""
+    """Return what a CPU lost, from when on, and until when."""
     total = sum(hole.lost or 0 for hole in holes)
     count = f"{total}{'' if all(hole.lost for hole in holes) else ' and more'}" if total else "some"
     first = holes[0]
@@ -157,13 +157,13 @@ def read_losses(text: Searchable) -> Losses:
 
 
 def copy_losses(copy: Call, handle: layout.Handle, read: layout.LossesRead | layout.WaitsRead) -> Losses:
-    """Return what the engine has reported about a text, of which a call copies the holes."""
+    """Return what the engine has reported about a text; `copy` is the call that copies the holes."""
     holes = (layout.Hole * read.holes)()
     check_copied(copy(handle, 0, holes, read.holes), read.holes)
     return Losses(tuple(map(hole_of, holes)), *((read.held, read.written) if read.has_written else (None, None)))
 
 
 def hole_of(hole: layout.Hole) -> Hole:
-    """Return a hole, of the engine's struct."""
+    """Return a hole from the engine's struct."""
     after, before = (Stamp(getattr(hole, name)) if getattr(hole, f"has_{name}") else None for name in ("after", "before"))
     return Hole(hole.cpu, after, before, hole.count if hole.has_count else None, hole.line or None)

@@ -1,4 +1,4 @@
-"""The same question of many recordings, and one answer."""
+"""The same question to many recordings, and one answer."""
 
 from __future__ import annotations
 
@@ -22,11 +22,11 @@ if TYPE_CHECKING:
 
 Path = Union[str, bytes, "os.PathLike[str]", "os.PathLike[bytes]"]
 
-# Of recordings that were left out, so many are named.
+# How many of the recordings that were left out are named.
 MOST_NAMED = 5
-# So many parts are added up at once.
+# If there are more parts than this, they are added up.
 BATCH = 32
-# Seconds until progress is printed, and between two lines of it if they stay.
+# How many seconds pass until progress is printed, and between two lines of it if they stay.
 PATIENCE, BETWEEN = 1.0, 10.0
 
 
@@ -35,7 +35,7 @@ class Question(Protocol):
 
     @property
     def ask(self) -> Callable[[Recording], object]:
-        """Answers for one recording."""
+        """The function that answers for one recording."""
 
 
 @public
@@ -100,7 +100,7 @@ def failure_remarks(failed: Sequence[Failed], count: int) -> list[str]:
 
 
 def loss_remarks(asked: Sequence[Asked]) -> list[str]:
-    """Return in which recordings events were lost, and how many waits are doubtful for that."""
+    """Return in which recordings events were lost, and how many waits are doubtful because of that."""
     paths, remarks = [one.path for one in asked if one.warning], []
     if paths:
         first = paths[0] if len(paths) == 1 else f"{paths[0]}, .."
@@ -130,7 +130,7 @@ def total_of(counts: Sequence[int], what: str) -> str:
 
 
 def partial_remarks(asked: Sequence[Asked]) -> list[str]:
-    """Return what of the recordings isn't in the answer, because there was no room for it or it can't be read."""
+    """Return what the answer lacks of the recordings, because there was no room for it or it can't be read."""
     remarks = []
     dropped = [one.dropped for one in asked if one.dropped]
     if dropped:
@@ -187,7 +187,7 @@ def many(
     client
         A client of Dask: the workers of its cluster ask. They must find the files by the same paths.
     progress
-        Whether standard error says how far it is; None for on a terminal, and once it takes longer than a second.
+        Whether progress is printed on standard error; if None, only on a terminal, once it takes longer than a second.
     choice
         What part of each recording is read, by the keywords of `read`.
 
@@ -207,7 +207,7 @@ def many(
 
     Notes
     -----
-    A worker needs this package and the library `libhistdesk.so.0`, and what the question needs: `AskWaits` needs numpy. That
+    A worker needs this package and the library `libhistdesk.so.0`, and what the question needs. `AskWaits` needs numpy; it
     reads recordings of any length in pieces, and takes 60 MB. The desk of another question holds the first part of a long
     recording, and takes 300 to 600 MB for a million events.
     """
@@ -253,7 +253,7 @@ def outcomes_of(
     client: Client | None,
 ) -> Generator[Outcome, None, None]:
     """Ask recordings, and go through their answers as they come."""
-    # Here, since few need processes, and these take long to import.
+    # This is imported here, since few need processes, and it takes long.
     from ._workers import by_dask, by_pool, by_this_process, task_of
 
     if client is not None:
@@ -294,7 +294,7 @@ class Answers:
         self.merge: Callable[[list[object]], object] | None = getattr(question, "merge", None)
         self.asked: list[Asked] = []
         self.failed: list[Failed] = []
-        # By path; or those that aren't added up yet, with the sum of the others.
+        # The answers, by path; if they add up, only those that aren't added up yet, and the sum of the others.
         self.parts: list[tuple[str, object]] = []
 
     def add(self, outcome: Outcome) -> None:
@@ -324,7 +324,7 @@ def warn_of(result: Many) -> None:
     ]
     for kind, lines in warning_lines:
         if lines:
-            # The recordings after the number of them stand on lines of their own.
+            # The recordings that were left out stand on lines of their own, after the line with their number.
             text = "; ".join(line.strip() for line in lines).replace("out:; ", "out: ")
             warnings.warn(_tables.printable(text), kind, stacklevel=3)
 
@@ -333,10 +333,10 @@ def warn_of(result: Many) -> None:
 
 
 class Progress:
-    """A line on standard error that says how far it is."""
+    """A line on standard error that says how many recordings are done."""
 
     def __init__(self, count: int, is_wanted: bool | None) -> None:
-        """Begin with so many recordings; None for a line only on a terminal."""
+        """Begin with the number of recordings, and whether a line is wanted; None for a line only on a terminal."""
         self.count, self.done, self.failed = count, 0, 0
         # There may be no standard error.
         self.is_terminal = bool(sys.stderr and sys.stderr.isatty())
@@ -357,7 +357,7 @@ class Progress:
             self.write(self.line(now))
 
     def line(self, now: float) -> str:
-        """Return how far it is."""
+        """Return the line: how many recordings are done, and about how long the others take."""
         left = (now - self.begun) / self.done * (self.count - self.done)
         failed = f", {self.failed} left out" if self.failed else ""
         return f"histdesk: {self.done} of {self.count} recordings{failed}, about {round(left)} s left"

@@ -23,21 +23,21 @@ if TYPE_CHECKING:
 
     from ._waits import Waits
 
-# A difference that so great a share of all splits shows by chance is within the spread.
+# A difference is within the spread if more than this share of all splits has one as clear.
 LEVEL = 0.05
-# Up to so many splits are all gone through; of more, so many are drawn at random from a fixed seed.
+# How many splits are all gone through at most; of more, how many are drawn at random, and from which seed.
 MOST_SPLITS, DRAWN, SEED = 20_000, 9_999, 1
-# Rows are tested that have so great a share of the time that all rows waited. Hundreds of others would hide differences.
+# Only rows with at least this share of the time that all rows waited are tested: hundreds of others would hide differences.
 LEAST_SHARE = 0.01
-# Differences that are computed in another order may be so far apart, though they are equal.
+# How far apart equal differences may be, since they are computed in different orders.
 ROUNDING = 1e-9
-# So many numbers are computed at once.
+# How many numbers are computed at once.
 CELLS = 1 << 22
-# One recording is cut into so many parts of equal time.
+# Into how many parts of equal time one recording is cut.
 PARTS = 8
 MICROS = 1_000_000
 
-# The figures that are compared, and how tables call them.
+# The figures that are compared, and what tables call them.
 FIGURES = {"per_second": "waits/s", "mean": "mean", "p99": "p99", "max": "max", "waited": "waited/s"}
 
 
@@ -239,7 +239,7 @@ def row_of(key: Key, figures: Iterable[FigureComparison], present: int) -> Compa
 
 
 def without_waits(before: int, after: int) -> ComparisonRow:
-    """Return the row of all waits together of so many recordings on each side, if none of them has any."""
+    """Return the row of all waits together if no recording has any. The arguments are how many recordings each side has."""
     columns = ((figure,) * (before + after) for figure in NOTHING)
     return row_of((), (FigureComparison(Spread(column[:before]), Spread(column[before:])) for column in columns), 0)
 
@@ -333,7 +333,7 @@ class Splits:
         return self.least <= LEVEL
 
     def members(self) -> NDArray[np.bool_]:
-        """Return which recordings are before, in a row for each split that is gone through, first the actual one."""
+        """Return which recordings are before, in a row for each split that is gone through, the actual one first."""
         before, after = self.sizes
         total = before + after
         if self.is_exact:
@@ -353,10 +353,10 @@ def enough_recordings() -> int:
 
 
 def p_values(values: NDArray[np.float64], splits: Splits) -> NDArray[np.float64]:
-    """Return how many of the splits have as clear a difference as the actual one, of several figures together.
+    """Return what share of the splits has a difference as clear as the actual one, for several figures together.
 
-    How clear a difference is, is the share of the squares' sum of a figure that lies between the sides. It ranks differences of
-    one figure as the difference of the means does, and is the same for a figure in other units.
+    The clearness of a difference is the share of a figure's sum of squares that lies between the sides. It ranks differences
+    of one figure as the difference of the means does, and is the same for a figure in other units.
 
     Parameters
     ----------

@@ -1,4 +1,4 @@
-"""Small numbers for what comes in great numbers and few forms, such as names of tasks."""
+"""Small numbers for values that come often but in few forms, such as names of tasks."""
 
 from __future__ import annotations
 
@@ -12,15 +12,15 @@ if TYPE_CHECKING:
 
 # Odd numbers, by which the words of a row are mixed.
 FACTORS = (0x9E3779B97F4A7C15, 0xC2B2AE3D27D4EB4F, 0x165667B19E3779F9, 0x27D4EB2F165667C5)
-# How many numbers the table has at first, as a power of two, and at least for each row that is known.
+# How many numbers the table has at first, as a power of two, and how many it has at least for each row that is known.
 LEAST_BITS, SPARE = 16, 64
 
 
 class Numbers:
-    """Gives each different row of some 64-bit words a number from 0 on, in the order in which rows are looked up first.
+    """Gives each different row of some 64-bit words a number from 0 on, in the order in which rows are first looked up.
 
-    A table has the number of one row for each value of a hash. That row is compared with the one that is looked up, since a
-    hash says nothing for sure; if it is another one, the row is looked up by its bytes."""
+    A table has the number of one row for each value of a hash. That row is compared with the one that is looked up, since
+    different rows may have the same hash; if it is another one, the row is looked up by its bytes."""
 
     def __init__(self, words: int) -> None:
         """Take rows of so many words, four at most."""
@@ -39,7 +39,7 @@ class Numbers:
         return self._rows[: len(self)]
 
     def of(self, rows: NDArray[np.uint64]) -> NDArray[np.int32]:
-        """Return the number of each of some rows, an array with the words of each."""
+        """Return the number of each of some rows, which are an array with the words of each."""
         rows = np.ascontiguousarray(rows)
         numbers = self._table[self._places(rows)]
         is_other = self._rows.take(numbers, axis=0) != rows
@@ -87,7 +87,7 @@ class Numbers:
 
 
 def distinct_rows(rows: NDArray[np.uint64], hashes: NDArray[np.uint64]) -> tuple[NDArray[np.intp], NDArray[np.intp]]:
-    """Return where each different one of some rows stands first, and which of these each row is; by a hash of each row."""
+    """Return where each different one of some rows stands first, and which of these each row is, by a hash of each row."""
     _, first, codes = np.unique(hashes, return_index=True, return_inverse=True)
     if not np.array_equal(rows[first][codes], rows):
         _, first, codes = np.unique(rows, axis=0, return_index=True, return_inverse=True)

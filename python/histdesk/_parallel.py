@@ -21,18 +21,19 @@ from .native import layout
 if TYPE_CHECKING:
     from numpy.typing import NDArray
 
-# A text of more bytes is read in as many parts as there are processors, but not more than these, if nobody says in how many:
-# each part takes some 10 MB.
+# A text of more bytes than `LARGE` is read in as many parts as there are processors, but `USUAL` at most, unless another number
+# is asked for: each part takes some 10 MB.
 LARGE, USUAL = 200_000_000, 16
-# Nobody may say more.
+# In how many parts a text may be read at most.
 MOST = 512
 
 Watch = Callable[[Piece], None] | None
 
 
 def jobs_for(text: Text | None, jobs: int | None) -> int:
-    """Return in how many parts a text is read at once: in `jobs`, if it can be read from any byte on; if that is None, a large
-    text in as many parts as there are processors, 16 at most. Raises `ValueError` if `jobs` isn't from 1 to 512."""
+    """Return in how many parts a text is read at once: `jobs`, if it can be read from any byte on, and otherwise 1. If `jobs`
+    is None, a large text is read in as many parts as there are processors, 16 at most, and any other one in 1. Raises
+    `ValueError` if `jobs` isn't from 1 to 512."""
     if jobs is not None and not 1 <= jobs <= MOST:
         raise ValueError(f"a text is read in 1 to {MOST} parts at once, not in {jobs}")
     if text is None or text.size is None:
@@ -43,11 +44,11 @@ def jobs_for(text: Text | None, jobs: int | None) -> int:
 
 
 def read_in_parts(text: Text, jobs: int, lenient: bool, make_sink: Callable[[], WaitSink], watch: Watch) -> ReadText:
-    """Read a text whose size is known in so many parts at once, each in a thread of its own. `make_sink` makes what takes the
+    """Read a text whose size is known in `jobs` parts at once, each in a thread of its own. `make_sink` makes what takes the
     waits of one; `watch` is called with each piece, one at a time, and with the text's first piece first.
 
-    A part that can't be joined is read once more, after the text before it: if a CPU lost events where the text was cut, for
-    one. Raises what `_stream.read_pieces` raises."""
+    A part that can't be joined, for example because a CPU lost events where the text was cut, is read once more, after the
+    text before it. Raises what `_stream.read_pieces` raises."""
     cuts = [0, *Halves(text, text.size or 0).seams(jobs), text.size or 0]
     reader = Reader(lenient, make_sink, watch)
     parts = [Part(reader, text, *bounds) for bounds in zip(cuts, cuts[1:])]
@@ -79,7 +80,7 @@ class Reader:
 
 
 class Part:
-    """A part of a text, from a byte on and before another one."""
+    """A part of a text: its bytes from `at` on and before `end`."""
 
     def __init__(self, reader: Reader, text: Text, at: int, end: int) -> None:
         self._reader, self._text = reader, text
@@ -109,7 +110,7 @@ class Part:
         try:
             self.read(self.pieces())
         except (Refused, Backwards):
-            # Where it is, counted from the text's beginning, shows when it is read again.
+            # Where that is, counted from the text's beginning, shows when the part is read again.
             self.is_refused = True
         except BaseException as error:  # pylint: disable=broad-except
             self.error, self._reader.has_stopped = error, True
@@ -136,7 +137,7 @@ def call_at_once(calls: Sequence[Callable[[], None]]) -> None:
 
 
 def read_all(reader: Reader, parts: list[Part]) -> None:
-    """Read all parts at once, the first one here."""
+    """Read all parts at once, the first one in this thread."""
     first = parts[0].pieces()
     piece = next(first, None)
     threads = [threading.Thread(target=part.run, daemon=True) for part in parts[1:]]

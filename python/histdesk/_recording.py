@@ -25,7 +25,7 @@ if TYPE_CHECKING:
     from ._slices import Slice
     from ._source import Buffer, Trace
 
-# So many events are held by a desk.
+# How many events a desk holds at most.
 LIMIT = 1_048_576
 
 
@@ -81,7 +81,7 @@ class Choice(NamedTuple):
 class Recording:
     """The text of a trace or of a part of it; `read` makes it. `Desk.load` takes it, and so does whatever takes a trace.
 
-    A long file is read when `text`, `bad_lines` or `taken` is asked for first, and for `losses` it is looked through. What goes
+    A long file is read when `text`, `bad_lines` or `taken` is first asked for, and looked through when `losses` is. What goes
     wrong then is raised there.
 
     Parameters
@@ -111,11 +111,11 @@ class Recording:
         self.lines_from: Stamp | None = None
         self._text, self._losses, self._bad_lines = text, losses, bad_lines
         self._taken: Part | None = None
-        # Of each CPU the lines of the whole text that a desk's lines are, if some were left out.
+        # For each CPU: which lines of the whole text a desk's lines are, if some were left out.
         self._lines: dict[int, NDArray[np.int64]] | None = None
-        # Whether there are more events of those that were asked for than a desk holds.
+        # Whether the events that were asked for are more than a desk holds.
         self._is_part = False
-        # Whether it was reported already what was lost.
+        # Whether what was lost was reported already.
         self.is_reported = False
         # The slice of a text that it is, if it is one.
         self._slice: Slice | None = None
@@ -192,7 +192,7 @@ class Recording:
 
     @property
     def is_part(self) -> bool:
-        """Whether the trace has more events of those that were asked for than a desk holds, so that some were left out."""
+        """Whether the trace has more of the events that were asked for than a desk holds, so that some were left out."""
         return self._read()._is_part
 
     def desk(self) -> Desk:
@@ -219,7 +219,7 @@ class Recording:
 
     @property
     def size(self) -> int:
-        """How many bytes of text its slice has; 0 if that isn't known, or it is none."""
+        """How many bytes of text its slice has; 0 if that isn't known, or if it is no slice."""
         return self._slice.text.size or 0 if self._slice else 0
 
     def lines_before(self) -> int:
@@ -349,8 +349,8 @@ def read(
     A stretch of time is found by binary search, so that its cost depends only on its own length. The events before it aren't
     counted: the lines of each CPU begin with 1 at the first event from `start` on, and `losses` is what lines of the stretch
     and near it report. Only a text that isn't in time order is read completely. A file of more than 64 MB (8 MB if it is
-    packed) is read when something of the answer is used, so that `waits` of it needs no room for its text; `waits` and `many`
-    warn of lost events then.
+    packed) is read when something of the answer is used, so that `waits` of it needs no room for its text; in that case `waits`
+    and `many` warn of lost events.
 
     Parameters
     ----------
@@ -363,7 +363,7 @@ def read(
     cpus
         Only events of these CPUs, or of one.
     events
-        Only events of these names, or of one; `other` is for all but `sched_waking`, `sched_wakeup`, `sched_wakeup_new` and
+        Only events of these names, or of one; `other` is for all except `sched_waking`, `sched_wakeup`, `sched_wakeup_new` and
         `sched_switch`.
     lenient
         Whether lines that can't be read are left out; `bad_lines` has their numbers.
@@ -433,7 +433,7 @@ def choice_of(
 
 
 def read_text(path: str | None, text: Text, choice: Choice, lenient: bool) -> Recording:
-    """Return what is wanted of a text, which is called by that path: read now unless it is long."""
+    """Return what is wanted of a text, with that path as its name. It is read now unless it is long."""
     if not choice.is_in_time() and not is_long(text):
         return read_whole(path, text.content(), choice, lenient)
     from ._slices import read_stretch
@@ -465,12 +465,12 @@ def counted_from(stamp: int) -> str:
 
 
 def leave_out_bad_lines(recording: Recording) -> None:
-    """Make empty lines of those that can't be read."""
+    """Replace the lines that can't be read by empty ones."""
     leave_out(recording, bad_lines(searchable(recording.text)))
 
 
 def leave_out(recording: Recording, bad: Sequence[int]) -> None:
-    """Make empty lines of those with these numbers."""
+    """Replace the lines with these numbers by empty ones."""
     if bad:
         lines: list[bytes] = bytes(recording.text).split(b"\n")
         for number in bad:

@@ -16,13 +16,13 @@ if TYPE_CHECKING:
     from ._source import Buffer
 
 TEXT_ROOM, WORDS_ROOM = 64, 160
-# So many bytes are shown of a line of a trace.
+# How many bytes of a trace's line are shown at most.
 MOST_SHOWN = 200
 BAD_LINE, LANE_HELD, NO_LANE, BAD_TRIGGER, BAD_FILTER, IN_USE, NAME_TAKEN, BAD_COMMAND = 3, 4, 5, 8, 9, 11, 12, 16
 FILTER_OF_TRIGGER = 11
 # What stands before a trigger's filter.
 FRONT = re.compile(rb"[^ \t]*[ \t]+if[ \t]+")
-# The parts of a refusal's text, each before its number, and where the library has them.
+# The words of a refusal's text, each of which stands before a number, and the members in which the library has these numbers.
 PARTS = {
     "refused": "number",
     "line": "line",
@@ -141,7 +141,7 @@ def exception_of(refusal: layout.Refusal, text: Buffer | None = None) -> Excepti
     """
     words = text_of(library.histdesk_refusal_words, refusal, WORDS_ROOM)
     if refusal.number == layout.MEMORY:
-        # If there is no room for words either, it has none, as Python's own.
+        # If there is no room for words either, the exception has none, like Python's own.
         return MemoryError(words)
     refused = Refused(words)
     refused.number = refusal.number

@@ -1,4 +1,4 @@
-"""What other packages histdesk needs, for the message of one that is missing."""
+"""What other packages histdesk needs, for the message about one that is missing."""
 
 from __future__ import annotations
 

@@ -27,7 +27,7 @@ class Key(NamedTuple):
     field
         Its field.
     modifier
-        Its modifier, as `log2` or `buckets=32`; empty if there is none.
+        Its modifier, such as `log2` or `buckets=32`; empty if there is none.
     """
 
     field: str
@@ -40,7 +40,7 @@ class Key(NamedTuple):
         return "uint64" if self.modifier.startswith("buckets=") else "int64"
 
     def reader(self, at: int) -> Callable[[Fields], KeyPart]:
-        """Return what takes this part out of the fields of a struct in which a key begins with field `at`."""
+        """Return what takes this part out of the fields of a struct, in which it begins with field `at`."""
         if self.modifier == "log2":
             return lambda fields: Log2(fields[at])
         if self.modifier.startswith("buckets="):
@@ -50,7 +50,7 @@ class Key(NamedTuple):
 
 
 class Shape:
-    """What doesn't change while a trigger is attached: all of its text but the filter.
+    """What doesn't change while a trigger is attached: all of its text except the filter.
 
     Parameters
     ----------
@@ -84,11 +84,11 @@ class Shape:
         self.readers = [key.reader(layout.FIRST_PART + layout.PART_FIELDS * at) for at, key in enumerate(self.keys)]
 
     def key_of(self, fields: Fields) -> KeyParts:
-        """Return the key of a row, of the fields of its struct from the number of its parts on."""
+        """Return the key of a row. `fields` are those of its struct, from the number of the key's parts on."""
         return tuple([reader(fields) for reader in self.readers])
 
     def row_of(self, fields: Fields) -> Row:
-        """Return a row, of the fields of its struct."""
+        """Return a row, made from the fields of its struct."""
         sums = fields[layout.SUMS : layout.SUMS + 1 + len(self.values)]
         return self.row(*[reader(fields) for reader in self.readers], *sums)
 
@@ -108,7 +108,7 @@ def distinct(keys: list[str], values: list[str]) -> tuple[str, ...]:
 
 
 def row_type(names: Sequence[str]) -> Callable[..., Row]:
-    """Return a type of named tuples of these names, as Python takes them for attributes: a keyword gets a `_` after it, and
-    what begins with one is called by its place."""
+    """Return a type of named tuples of these names, as Python takes them for attributes: a keyword gets a `_` after it, and a
+    name that begins with a `_` is replaced by its place."""
     attributes = [f"{name}_" if keyword.iskeyword(name) else name for name in names]
     return namedtuple("Row", attributes, rename=True)

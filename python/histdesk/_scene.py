@@ -29,7 +29,7 @@ NO_NAME = "<...>"
 CONTEXTS = (("zZ", "nmi"), ("hH", "hardirq"), ("s", "softirq"))
 # Stamps before all others and after them.
 NEVER, FOREVER = -1, 1 << 62
-# Of the events of a CPU: before which ones something was lost, from when on, and until when.
+# For the events of a CPU: before which ones something was lost, from when on, and until when.
 Losses = tuple["NDArray[np.bool_]", "NDArray[np.int64]", "NDArray[np.int64]"]
 
 
@@ -44,9 +44,10 @@ class Wait(NamedTuple):
 
 
 class Steps(NamedTuple):
-    """The events of a wait, by their numbers: that at which it begins, the one at which it ends (the last one of all if the
-    recording ends before), the `sched_wakeup` by which it was queued, and the switch by which a task that was woken before left
-    its CPU; and the CPU where it was queued, None if no event shows it, and the one where it ran or still waits."""
+    """The events of a wait, by their numbers: the one at which it begins, the one at which it ends (the last one of all if the
+    recording ends before that), the `sched_wakeup` by which the task was queued, and the switch by which it left its CPU if it
+    was woken before that; then the CPU where it was queued, None if no event shows it, and the one where it ran or still
+    waits."""
 
     begin: int
     end: int
@@ -57,8 +58,8 @@ class Steps(NamedTuple):
 
 
 class Bounds(NamedTuple):
-    """What a scene has of a recording: all events from one stamp on and below another one; besides, the last events before of
-    some CPUs, and the first ones after of some; and if `only` isn't None, of other CPUs than those not all."""
+    """What a scene has of a recording: all events from one stamp on and below another one, and also the last events of some
+    CPUs before that, and the first ones of some after it. If `only` isn't None, it has all events of these CPUs only."""
 
     start: int = NEVER
     until: int = FOREVER
@@ -77,14 +78,14 @@ class Wants:
         self.turn_before = self.turn_after = False
 
     def add(self, other: Wants) -> None:
-        """Add what was wanted besides."""
+        """Add what another one has."""
         self.before |= other.before
         self.after |= other.after
         self.turn_before |= other.turn_before
         self.turn_after |= other.turn_after
 
     def any(self) -> bool:
-        """Return whether something was."""
+        """Return whether anything was wanted."""
         return bool(self.before or self.after or self.turn_before or self.turn_after)
 
 
@@ -100,7 +101,7 @@ class Scene:
         wakings: Wakings | None = None,
         bounds: Bounds = Bounds(),
     ) -> None:
-        """Of some events.
+        """Take some events.
 
         Parameters
         ----------
@@ -109,7 +110,7 @@ class Scene:
         lines
             Their lines in the whole recording.
         holes
-            Where events of that were lost.
+            Where events of the recording were lost.
         text
             A text with the lines of those events that begin waits; None if it isn't known.
         wakings
@@ -155,7 +156,7 @@ class Scene:
         slept = first_in(self.prev_pid[inside] == wait.pid, begin + 1)
         placed = begin if wait.kind == FORKED else queued
         queue_cpu = int(self.cpu[begin]) if wait.kind == PREEMPTED else None if placed is None else self.target(placed)
-        # Without a sched_wakeup the best that is known of a task that still waits is where it last ran.
+        # Without a sched_wakeup, the best that is known of a task that still waits is where it last ran.
         waits_on = self.target(begin) if queue_cpu is None else queue_cpu
         return Steps(begin, min(end, len(self.events) - 1), queued, slept, queue_cpu, wait.end.cpu if wait.end else waits_on)
 
@@ -166,7 +167,7 @@ class Scene:
     # ---- tasks
 
     def running(self, at: int) -> Runner:
-        """Return the task that ran at an event, before it."""
+        """Return the task that ran on its CPU before an event."""
         event = self.events[at]
         if event.name == "sched_switch":
             return runner_of(event.prev_comm, event.prev_pid, event.prev_prio)
@@ -210,7 +211,7 @@ class Scene:
         return stretches.after(self.wakings(begin, end) if self._wakings is None else self._wakings)
 
     def between(self, cpu: int, events: range, start: int, stop: int) -> Stretches:
-        """Return what ran on a CPU between two stamps, in order; the events there are these."""
+        """Return what ran on a CPU between two stamps, in order; `events` has the numbers of the events there."""
         if not self.knows(cpu):
             return stretches_of([Stretch(cpu, start, stop, None, None, None)])
         places = self.places_of(cpu)
@@ -223,7 +224,7 @@ class Scene:
         return walk.stretches()
 
     def look(self, cpu: int, begin: int, end: int) -> None:
-        """Find out whether the events of a CPU are there that show what ran at the ends of the time between two events."""
+        """Find out whether those events of a CPU are here that show what ran at the ends of the time between two events."""
         if not self.knows(cpu):
             return
         places = self.places_of(cpu)
@@ -243,7 +244,7 @@ class Scene:
         return None
 
     def after(self, cpu: int, after: int) -> int | None:
-        """Return the event of a CPU with this place among its events, the first one after some; None if it isn't there."""
+        """Return the event of a CPU with this place among its events, the first after some others; None if it isn't there."""
         places = self.places_of(cpu)
         if after < len(places) and (cpu in self._bounds.after or self.stamp[places[after]] < self._bounds.until):
             return int(places[after])
@@ -252,7 +253,7 @@ class Scene:
         return None
 
     def knows(self, cpu: int) -> bool:
-        """Return whether it has all events of a CPU that there were meanwhile."""
+        """Return whether it has all events that a CPU had meanwhile."""
         return self._bounds.only is None or cpu in self._bounds.only
 
     def places_of(self, cpu: int) -> NDArray[np.int64]:
@@ -290,7 +291,7 @@ class Scene:
         return low + int(is_before.sum())
 
     def wakings(self, begin: int, end: int) -> Wakings:
-        """Return who was woken or created after an event, and not after another one."""
+        """Return who was woken or created after one event, up to and including another one."""
         inside = slice(begin + 1, end + 1)
         names = self.name[inside]
         woken = (names == WAKING) | (names == WAKEUP_NEW)
@@ -324,12 +325,12 @@ class Walk:
         # The end of the last stretch, the stamp of the last event of the CPU, and the event that shows what ran since then: its
         # number, or ~ of that if it shows what ran before it.
         self.since, self.seen, self.setter = start, NEVER, NOTHING
-        # The cuts: the switches, with the stamp of each; the others, with their stamps and the events that show what ran; and
-        # by which all of them are put in order.
+        # The cuts: the switches among them; the stamps of these, and then of the others; the order of all of them; and for the
+        # others, the events that show what ran.
         self.turns = self.at = self.order = self.setters = np.zeros(0, "i8")
 
     def go(self, places: NDArray[np.int64], has_before: bool) -> None:
-        """Take the events of the stretch of time, in order, after the last event before it if there is one."""
+        """Take the events of the stretch of time, in order; the last event before it comes first if there is one."""
         if not len(places):
             return
         scene = self.scene
@@ -338,7 +339,7 @@ class Walk:
         goes_to = np.where(is_switch, scene.pid[places], runs)
         is_lost = np.zeros(len(places), bool)
         is_lost[1:] = runs[1:] != goes_to[:-1]
-        # Of each event where something was lost before it, from when on, and until when.
+        # For each event before which something was lost: from when on, and until when.
         gone, back = np.concatenate([[NEVER], stamps[:-1]]), stamps.copy()
         self.add_holes(stamps, int(has_before), (is_lost, gone, back))
         is_setter = is_switch | is_lost
@@ -355,7 +356,7 @@ class Walk:
         self.seen, self.setter = int(stamps[-1]), int(places[setters[-1]])
 
     def add_holes(self, stamps: NDArray[np.int64], first: int, losses: Losses) -> None:
-        """Note before which events a hole is, from that one on."""
+        """Note before which events there is a hole, from the event with index `first` on."""
         if not self.holes:
             return
         is_lost, gone, back = losses
@@ -382,7 +383,7 @@ class Walk:
         self.seen = stamp
 
     def look(self, stamp: int) -> bool:
-        """Find out whether events were lost between the last event and the next one, by the holes, and return it."""
+        """Find out from the holes whether events were lost between the last event and the next one, and return that."""
         lost = [(after, before) for after, before in self.holes if self.seen <= after and before <= stamp]
         if lost:
             self.lose(min(after for after, _ in lost), max(before for _, before in lost))
@@ -433,7 +434,7 @@ class Walk:
 
 
 def texts_of(array: NDArray[np.void], field: str) -> list[str]:
-    """Return a field of some events that is a text."""
+    """Return a field of some events, which holds a text."""
     return list(map(layout.text_of, array[field].tolist(), array[f"{field}_length"].tolist()))
 
 
@@ -447,7 +448,7 @@ def of_desk(desk: Desk, recording: Recording | None = None) -> Scene:
 
 
 def runner_of(task: str | None, pid: int | None, prio: int | None) -> Runner:
-    """Return a task of those that an event names."""
+    """Return one of the tasks that an event names."""
     return Runner(task or "", pid, prio) if pid else IDLE
 
 
@@ -457,7 +458,7 @@ def times_of(hole: Hole) -> tuple[int, int]:
 
 
 def spanned(holes: tuple[Hole, ...], begin: int, end: int) -> tuple[Hole, ...]:
-    """Return the holes that a wait spans, which begins and ends at two stamps."""
+    """Return the holes that a wait spans, by the stamps at which it begins and ends."""
     return tuple(hole for hole in holes if begin < times_of(hole)[1] and times_of(hole)[0] < end)
 
 
@@ -492,7 +493,7 @@ def context_of(event: Event, lines: Iterable[bytes]) -> str | None:
 
 
 def lines_with(content: Buffer, sign: bytes) -> Iterator[bytes]:
-    """Go through the lines of a text that have a sign."""
+    """Go through the lines of a text that contain a sign."""
     # A text is anything that has `find`.
     text = cast("bytes", content)
     at = text.find(sign)

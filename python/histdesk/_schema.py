@@ -87,7 +87,7 @@ _SWITCH = (
     Field("next_pid", "pid"),
     Field("next_prio", "prio"),
 )
-# Triggers make this event of a latency; no `Event` is of it.
+# Triggers make this event from a latency; no `Event` is of this kind.
 _LATENCY = (Field("lat", None), Field("pid", None), Field("prio", None))
 
 # The fields that filters and triggers on any event may name.
@@ -110,7 +110,7 @@ ENDS_WITH = "sched_switch"
 EVENT_NAMES = tuple(event.name for event in EVENTS)
 NUMBERS = {event.name: number for number, event in enumerate(EVENTS)}
 WAKING, WAKEUP, WAKEUP_NEW, SWITCH, WAKEUP_LATENCY, OTHER = range(len(EVENTS))
-# The events of which lines of a trace tell fields; those to which triggers attach; and what lines of a trace can be.
+# The events whose fields lines of a trace tell; those to which triggers can be attached; and those that lines can be of.
 TRACED_EVENTS = tuple(event.name for event in EVENTS if event.is_traced)
 ATTACHABLE_EVENTS = tuple(event.name for event in EVENTS if event.is_attachable)
 LINE_EVENTS = (*TRACED_EVENTS, EVENT_NAMES[OTHER])
@@ -123,7 +123,7 @@ BEGINS_WITH = {wait.name: wait.begins_with for wait in WAITS}
 # What waits are grouped by, and what differences of waits are sorted by.
 WAIT_GROUPS = ("task", "name", "cpu", "prio", "kind")
 DIFFERENCE_ORDERS = ("waited", "max")
-# What a summary is by.
+# What a summary is grouped by.
 SUMMARY_GROUPS = ("task", "name", "cpu")
 # The events with which waits begin and end, and those without which all waits are the same.
 WAIT_EVENTS = tuple(name for name in TRACED_EVENTS if name in (*BEGINS_WITH.values(), ENDS_WITH))

@@ -42,8 +42,8 @@ def take(recording: Recording, choice: Choice, lines: Lines | None = None) -> No
 
 
 def take_from(recording: Recording, choice: Choice, pieces: Callable[[], Iterator[bytes]]) -> bool:
-    """Do the same with a long text in the order of time, of which no more lines are read than a desk holds. Returns false, and
-    takes nothing, if these are in another order."""
+    """Do the same with a long text in the order of time, of which no more lines are read than a desk holds. Return false, and
+    take nothing, if these are in another order."""
     selection = collect(pieces(), choice, ())
     is_part = selection.is_full()
     if is_part and choice.spare:
@@ -69,10 +69,10 @@ class Selection:
         self._count = 0
         self._first: Stamp | None = None
         self._last: Stamp | None = None
-        # Of each CPU which of its lines the events are, and how many events it has.
+        # For each CPU: which of its lines the events are, and how many events it has.
         self._places: dict[int, list[NDArray[np.int64]]] = {}
         self._events: dict[int, int] = {}
-        # Whether no event was left out yet.
+        # Whether no event has been left out yet.
         self._is_all = True
         self.is_in_order = True
         self._latest = 0
@@ -103,7 +103,7 @@ class Selection:
             self._latest = int(stamps[-1])
 
     def is_full(self) -> bool:
-        """Return whether a desk holds no more of them."""
+        """Return whether they have more events than a desk holds."""
         return self._count > LIMIT
 
     def part(self) -> Part:
@@ -136,7 +136,7 @@ def collect(pieces: Iterator[bytes], choice: Choice, left_out: Collection[str]) 
 
 
 def mask_of(lines: Lines, choice: Choice) -> NDArray[np.bool_]:
-    """Return which events are wanted, as a mask; what it says of lines without one doesn't matter."""
+    """Return which events are wanted, as a mask; what it says of lines without an event doesn't matter."""
     mask = mask_in_time(lines.stamps, choice)
     if choice.cpus is not None:
         mask &= np.isin(lines.cpus, list(choice.cpus))
@@ -164,8 +164,8 @@ def mask_in_time(stamps: NDArray[np.int64], choice: Choice) -> NDArray[np.bool_]
 
 
 def mask_near(lines: Lines, choice: Choice) -> NDArray[np.bool_]:
-    """Return which lines stand in the stretch of time that is wanted, one without an event by the event before it: a line that
-    can't be read is refused there, and nowhere else."""
+    """Return which lines stand in the stretch of time that is wanted; a line without an event goes with the event before it.
+    A line that can't be read is refused only there."""
     at = np.where(lines.cpus != NONE, np.arange(len(lines.cpus)), -1)
     before = np.maximum.accumulate(at) if len(at) else at
     return (before < 0) | mask_in_time(lines.stamps[before], choice)
@@ -183,7 +183,7 @@ def only(text: Buffer, ends: NDArray[np.int64], is_kept: NDArray[np.bool_]) -> b
     """Return the text with empty lines in place of those that aren't kept."""
     if not len(ends):
         return b""
-    # Where lines that are kept begin to follow on others, and the other way round.
+    # Where lines that are kept follow on lines that aren't, and the other way round.
     turns = [0, *(np.flatnonzero(is_kept[1:] != is_kept[:-1]) + 1).tolist(), len(ends)]
     starts = np.concatenate([[0], ends])[turns].tolist()
     keeps, pieces, view = bool(is_kept[0]), [], memoryview(text)

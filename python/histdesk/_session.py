@@ -136,7 +136,7 @@ class Session:
             library.histdesk_forget(self.handle)
 
     def array(self, copy: Call, kind: np.dtype[Any], ask: Call, *arguments: object, text: Buffer | None = None) -> NDArray[Any]:
-        """Return the same as an array of structs of this type, which isn't filled before."""
+        """Return the same as an array of structs of this type, without filling its memory first."""
         count = self.count(ask, *arguments, text=text)
         try:
             room = np.empty(count, kind)

@@ -42,7 +42,7 @@ class Source:
         lenient: bool = False,
         checkpoints: Sequence[Checkpoint] = (),
     ) -> None:
-        """Of a trace.
+        """Take a trace.
 
         Parameters
         ----------
@@ -107,7 +107,8 @@ class Source:
         start, until
             From which timestamp on, and before which one, as `read` takes them.
         lead
-            At least so many events before them come too, if there are so many: with the first of them, all with its timestamp.
+            At least so many events before them come too, if there are so many; with the first of them come all that have its
+            timestamp.
 
         Returns
         -------
@@ -247,7 +248,7 @@ class Slice:
         self.text = text if self.is_whole else text.between(bounds.at, bounds.end)
 
     def read_into(self, recording: Recording) -> None:
-        """Read what is wanted of it, as much as a desk holds."""
+        """Read what is wanted of it, and no more than a desk holds."""
         if is_long(self.text) and is_in_order(self.text):
             is_read = _selection.take_from(recording, recording.choice, lambda: self._pieces(recording))
             self._number(recording)
@@ -279,7 +280,7 @@ class Slice:
             yield piece
 
     def _number(self, recording: Recording) -> None:
-        """Make the numbers of lines those of the whole text."""
+        """Number the lines that were left out as in the whole text."""
         if recording._bad_lines:
             before = self.lines_before()
             recording.bad_lines = tuple(before + line for line in recording._bad_lines)
@@ -289,7 +290,7 @@ class Slice:
         return sum(bytes(piece).count(b"\n") for piece in self.whole.pieces(0, self.bounds.at)) if self.bounds.at else 0
 
     def losses(self, choice: Choice, inside: Losses | None = None) -> Losses:
-        """Return the losses that lines of it and near it report; `inside` is what those of it report, if that is known."""
+        """Return the losses that lines of it and near it report; `inside` is what its own lines report, if that is known."""
         if self.is_whole:
             return losses_of_text(self.text)
         return losses_near(self.whole, self.bounds, choice.start, choice.until, inside)

@@ -22,7 +22,7 @@ Searchable: TypeAlias = bytes | bytearray | mmap.mmap
 Trace: TypeAlias = str | os.PathLike[str] | Buffer | IO[bytes] | IO[str]
 
 NEWLINE = ord("\n")
-# So many bytes the processor's caches hold.
+# How many bytes the processor's caches hold.
 PIECE = 1 << 18
 
 
@@ -64,7 +64,7 @@ def newlines(text: Searchable, start: int, end: int) -> int:
 
 
 def is_buffer(trace: object) -> bool:
-    """Return whether a trace hands out its bytes. A mapped file does, which also reads as an open one."""
+    """Return whether a trace hands out its bytes. A mapped file does, though it can also be read as an open one."""
     try:
         memoryview(cast("Buffer", trace)).release()
     except TypeError:

@@ -29,7 +29,7 @@ if TYPE_CHECKING:
     from ._source import Trace
     from ._wait_records import Structs
 
-# So many waits are copied at once.
+# How many waits are copied at once.
 CHUNK = 1 << 14
 
 
@@ -48,17 +48,17 @@ class Checkpoint(NamedTuple):
 
 
 class Backwards(Exception):
-    """A text isn't in the order of time: the number of the line whose stamp is before that of the event above it."""
+    """A text isn't in the order of time; the argument is the number of a line with a stamp before that of the event above."""
 
 
 class NotJoined(Exception):
-    """A part of a text doesn't fit to what was read before it."""
+    """A part of a text doesn't fit what was read before it."""
 
 
 class Read(NamedTuple):
     """What was read of a text: how many events each CPU has, the stamps of the first and the last one in microseconds (None if
     there are none), what was lost, how many lines can't be read and the first of these, and how many switches are missing
-    though no line reports it, and where the first event stands that shows it."""
+    though no line reports it, and where the first event that shows it stands."""
 
     events: dict[int, int]
     first: Stamp | None
@@ -377,7 +377,7 @@ class Stream(Feed):
         super().__init__(lenient, self._kept)
 
     def finish(self, judges: bool) -> StreamWaits:
-        """Take the end of the text, and return its waits and what was read. If it `judges`, how sure they are is found out."""
+        """Take the end of the text, and return its waits and what was read. With `judges`, find out how sure they are."""
         read = self.end()
         records, besides = self._kept.all()
         if read.losses.holes and judges:

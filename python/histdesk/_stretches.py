@@ -12,9 +12,9 @@ from ._public import public
 if TYPE_CHECKING:
     from numpy.typing import NDArray
 
-# A number that isn't there, in a column; no stamp, pid, prio or line is as small.
+# What stands in a column for a number that isn't there; no stamp, pid, prio or line is as small.
 NOTHING = -1 << 62
-# So many wakings are put in order without a look at whose they are.
+# Up to how many wakings are put in order without a look at whose they are.
 FEW = 256
 
 
@@ -107,7 +107,7 @@ class Wakings(NamedTuple):
 
 
 class Columns(NamedTuple):
-    """Stretches of a CPU, each field of all as a numpy array: numbers, `NOTHING` if there is none; and texts or None."""
+    """Stretches of a CPU, each field of all as a numpy array: of numbers, with `NOTHING` for none; or of texts and None."""
 
     begin: NDArray[np.int64]
     end: NDArray[np.int64]
@@ -160,7 +160,7 @@ class Stretches(Sequence[Stretch]):
     def __getitem__(self, at: int | slice) -> Stretch | tuple[Stretch, ...]:
         if isinstance(at, slice):
             return tuple(self._rows(at))
-        # Answers the index from the beginning, or raises `IndexError`.
+        # This gives the index from the beginning, or raises `IndexError`.
         place = range(len(self))[at]
         fields = (column.item(place) for column in self.columns)
         row: list[Any] = [None if value == NOTHING else value for value in fields]
@@ -190,7 +190,7 @@ class Stretches(Sequence[Stretch]):
         return self.columns.end - self.columns.begin
 
     def after(self, wakings: Wakings) -> Stretches:
-        """Return the same, each with the stamp at which its task was woken or created last before it began."""
+        """Return the same, each with the stamp at which its task was last woken or created before it began."""
         columns = self.columns
         if len(wakings.pids) > FEW:
             is_of = np.isin(wakings.pids, columns.pid)
@@ -208,8 +208,8 @@ class Stretches(Sequence[Stretch]):
 
     @property
     def shares(self) -> list[Share]:
-        """How long each task ran, the longest first; of equal ones, which ran first. Name and prio are the last that are known
-        of a task."""
+        """How long each task ran, the longest first; of equal ones, the one that ran first. Name and prio are the last that are
+        known of a task."""
         if self._shares is None:
             columns = self.columns
             pids, first, codes = np.unique(columns.pid, return_index=True, return_inverse=True)
@@ -233,7 +233,7 @@ def last_of(codes: NDArray[np.intp], count: int) -> NDArray[np.intp]:
 
 
 def stretches_of(stretches: Sequence[Stretch]) -> Stretches:
-    """Return stretches of a CPU, in order and at least one, as `Stretches`."""
+    """Return stretches of a CPU as `Stretches`; they are in order, and there is at least one."""
     if isinstance(stretches, Stretches):
         return stretches
     columns = Columns.empty(len(stretches))

@@ -35,11 +35,11 @@ if TYPE_CHECKING:
 
     from pandas import DataFrame  # type: ignore[import]
 
-# So many bytes at the beginning of a text and at its end are searched for the names of tasks that have no wait.
+# How many bytes at the beginning of a text and at its end are searched for the names of tasks that have no wait.
 EDGE = 1 << 20
-# So many waits are counted at once.
+# How many waits are counted at once.
 PORTION = 1 << 14
-# So many rows are shown in a notebook or at a prompt.
+# How many rows are shown in a notebook or at a prompt.
 MOST_ROWS = 20
 
 
@@ -446,12 +446,12 @@ def cpu_rows(sums: NDArray[Any], waits: Counts, spans: Spans) -> list[CpuSummary
 
 
 def greatest_pid(row: CountsRow | None) -> int | None:
-    """Return whose the longest wait of a row is."""
+    """Return the PID of the task with the longest wait of a row; None if there is none."""
     return row.greatest.pid if row and row.greatest else None
 
 
 def name_of(pid: int, names: dict[int, str]) -> str:
-    """Return the name of a task; of one whose name isn't known, what perf has for it."""
+    """Return the name of a task, or what perf calls it if its name isn't known."""
     return names.get(pid, f":{pid}")
 
 
@@ -540,7 +540,7 @@ class Spans:
         self._tail = b""
 
     def of(self, cpu: int) -> Span:
-        """Return that of a CPU."""
+        """Return the span of a CPU."""
         return self._spans.get(cpu, Span())
 
     def _add(self, text: bytes) -> None:
@@ -581,7 +581,7 @@ def names_in(edges: Edges, pids: set[int]) -> dict[int, str]:
     if not pids:
         return {}
     recording = read_whole(None, edges.text(), Choice(), True)
-    # It isn't asked what was lost.
+    # What was lost isn't reported here.
     recording.is_reported = True
     names: dict[int, str] = {}
     with recording.desk() as desk:
@@ -631,7 +631,7 @@ def summary(trace: Trace | Recording, *, doubtful: bool = False, lenient: bool =
         If it is a recording of perf or trace-cmd, with the tool that converts it; if its events aren't in time order; or if a
         `Recording` holds only some CPUs or events.
     TypeError
-        If it is a `Desk`, since what a desk holds isn't summed up, or no trace.
+        If it is a `Desk`, since what a desk holds isn't summed up; or if it is no trace.
     ImportError
         If there is no numpy.
 

@@ -26,12 +26,12 @@ if TYPE_CHECKING:
 
 Answer = TypeVar("Answer")
 
-# So many events before a wait are read at first, and so many microseconds after it if they are wanted; each time so many times
-# more.
+# How many events before a wait are read at first, and how many microseconds after it if they are wanted; and how many times
+# more are read each time.
 LEAD, WIDTH, GROWTH = 2048, 1000, 8
-# About so many events are read at once.
+# About how many events are read at once.
 PART = 1 << 18
-# There is room for so many more at both ends of those that are kept.
+# For how many more there is room at both ends of those that are kept.
 SPARE = 1 << 10
 
 
@@ -56,8 +56,8 @@ def gather(
     """Return what can be answered from the events around a wait of a recording: those of its time, and those before and after
     that are wanted.
 
-    If they are more than a desk holds, they are those of the CPUs of the wait and of its task; with `look`, which is for a wait
-    that is explained by itself, if they are many.
+    If they are more than a desk holds, they are only those of the wait's CPUs and of its task; with `look`, which is for a wait
+    that is explained by itself, they are only those as soon as they are many.
 
     Parameters
     ----------
@@ -66,7 +66,7 @@ def gather(
     wait
         The wait.
     answer
-        Answers from events. It is called with ever more of them, until it wants no others.
+        Makes the answer from events. It is called with ever more of them, until it wants no others.
     margin
         How many microseconds before and after the wait are read too.
     look
@@ -92,7 +92,7 @@ def gather(
 
 
 def acts_of(source: Source, pid: int, start: int, until: int) -> Scene:
-    """Return the events about a task with a stamp from one on and below another one."""
+    """Return the events about a task with stamps from `start` on and below `until`."""
     return acts_in(map(piece_of, parts_of(source, start, until)), pid, source._losses.holes)
 
 
@@ -111,18 +111,20 @@ class Around:
     """The events around a wait: those of a stretch of time, and those of some moments before and after it."""
 
     def __init__(self, source: Source, wait: Wait, margin: int, is_alone: bool) -> None:
-        """Of a wait, and so many microseconds on both sides. If it is explained by itself, the events are for nothing else."""
+        """Take a wait, and how many microseconds on both sides of it are read too. If it is explained by itself (`is_alone`),
+        the events are for nothing else."""
         self._source, self._wait, self._is_alone = source, wait, is_alone
         self._start = wait.begin.stamp - margin
         self._until = (wait.end.stamp if wait.end else last_of(source)) + margin + 1
         self._pieces: list[Piece] = []
-        # By their stamps; and the CPUs of which they are the last events before, and the first ones after.
+        # The moments by their stamps; the CPUs of which they have the last events before, and those of which the first ones
+        # after.
         self._moments: dict[int, Piece] = {}
         self._before: set[int] = set()
         self._after: set[int] = set()
         self._text: Buffer | None = None
         self._long: Long | None = None
-        # What was read in one, once that is asked for.
+        # What was read, in one array, once that is asked for.
         self._store: Store | None = None
         self._lead, self._width = LEAD, WIDTH
 
@@ -210,7 +212,7 @@ class Store:
     """Events in merged order, and their lines, in one array that has room for more of them at both ends."""
 
     def __init__(self, pieces: list[Piece]) -> None:
-        """Of events in pieces, which aren't kept: the list is empty then."""
+        """Take the events of pieces, which aren't kept: the list is empty afterwards."""
         count = sum(len(piece.lines) for piece in pieces)
         self._lines = join_lines(pieces)
         self._room = np.empty(count + 2 * SPARE, EVENT_TYPE)
@@ -222,12 +224,12 @@ class Store:
             self._put(at, pieces.pop())
 
     def _put(self, at: int, piece: Piece) -> int:
-        """Put events into the room, and return where it goes on after them."""
+        """Put events into the room, and return where it goes on behind them."""
         self._room[at : at + len(piece.lines)] = piece.events.array
         return at + len(piece.lines)
 
     def between(self, before: list[Piece], after: list[Piece]) -> Piece:
-        """Return all of them between some more. What was returned before changes if others were before or after."""
+        """Return all of them between some more. What an earlier call returned changes if it had others before or after."""
         low, high = self._low - len(join_lines(before)), self._high + len(join_lines(after))
         if low < 0 or high > len(self._room):
             return join([*before, self.between([], []), *after])
@@ -243,7 +245,7 @@ class Long:
     was woken meanwhile."""
 
     def __init__(self, wait: Wait, scene: Scene) -> None:
-        """Of a wait, and the first events about its task: if it begins among them, they may show where it was queued."""
+        """Take a wait, and the first events about its task: if it begins among them, they may show where it was queued."""
         self._wait, self._count = wait, 0
         cpus = {wait.begin.cpu, *([wait.end.cpu] if wait.end else [])}
         # Whether these are all of its CPUs, and it doesn't last to the end of the recording.
@@ -314,8 +316,8 @@ def join_lines(pieces: list[Piece]) -> NDArray[np.uint32]:
 
 
 def parts_of(source: Source, start: int, until: int, lead: int = 0) -> Iterator[Recording]:
-    """Go through the events with a stamp from one on and below another one, in parts that a desk holds; before the first of
-    them come so many more."""
+    """Go through the events with stamps from `start` on and below `until`, in parts that a desk holds; `lead`, as for
+    `Source.between`, is for the first of them."""
     while start < until:
         end = cut_of(source, start, until)
         recording = source.between_micros(start, end, lead)

@@ -5,7 +5,7 @@ from __future__ import annotations
 import html
 from typing import Callable, NamedTuple, Sequence
 
-# Of a long table, so many rows are printed from each end.
+# How many rows of a long table are printed from each end.
 ENDS = 10
 GAP = ".."
 
@@ -57,7 +57,7 @@ def printable(value: object) -> str:
 
 
 def count_of(count: int, what: str, ending: str = "s") -> str:
-    """Return a number of what is named in the singular: `1 line`, `2 lines`; `ending` makes the plural."""
+    """Return a number with what it counts, which is given in the singular: `1 line`, `2 lines`; `ending` makes the plural."""
     return f"{count} {what}{ending * (count != 1)}"
 
 
@@ -98,7 +98,7 @@ def in_text(table: Table) -> str:
 
 
 def pad(cells: Sequence[str], widths: Sequence[int], right: Sequence[bool]) -> str:
-    """Return a line of a table, of cells, the widths of their columns, and which of these stand to the right."""
+    """Return a line of a table from its cells, the widths of their columns, and which of these stand to the right."""
     sides = (cell.rjust(width) if side else cell.ljust(width) for cell, width, side in zip(cells, widths, right))
     return "  ".join(sides).rstrip()
 

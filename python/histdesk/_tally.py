@@ -21,9 +21,9 @@ Item = TypeVar("Item", bound=np.generic)
 
 # The field of a record by which waits can be counted; none for the kind by itself.
 FIELDS: dict[str, str | None] = {"task": "pid", "name": "name", "cpu": "end_cpu", "prio": "prio", "kind": None}
-# A kind's number has so many bits, below what else a key has.
+# How many bits a kind's number has, below what else a key has.
 KIND_BITS = 2
-# At least so many pairs of a key and microseconds are added before they are joined.
+# How many pairs of a key and microseconds are added, at least, before they are joined.
 LEAST = 1 << 16
 
 
@@ -94,7 +94,7 @@ class Tally:
         greater = np.flatnonzero(micros > self._most[key])
         if len(greater):
             key, micros = key[greater], micros[greater]
-            # Of equal ones the first.
+            # The first of equal ones.
             order = np.lexsort((-micros, key))
             order = order[starts_of(key[order])]
             self._most[key[order]] = micros[order]
@@ -103,7 +103,7 @@ class Tally:
     def _join(self) -> None:
         """Join all pairs."""
         if self._new:
-            # What is joined isn't needed twice.
+            # What is joined needn't be in memory twice.
             self._pairs = Columns(*(np.concatenate(columns) for columns in zip(self._pairs, *self._new)))
             self._new = []
             self._pairs = sum_pairs(*self._pairs)
@@ -131,11 +131,11 @@ class LastNames:
 
     def __init__(self) -> None:
         self._pids = Numbers(1)
-        # By the number of a task's number.
+        # By the number that a PID has in `_pids`.
         self._names = np.zeros(0, "u4")
 
     def add(self, records: Structs) -> None:
-        """Take the names of some records, which come after those before."""
+        """Take the names of some records, which come after those that were taken before."""
         tasks = self._pids.of(records["pid"].astype("int64").view("u8")[:, None])
         if len(self._pids) > len(self._names):
             self._names = enlarge(self._names, 2 * len(self._pids))

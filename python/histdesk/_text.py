@@ -27,13 +27,13 @@ if TYPE_CHECKING:
 # A part of a text, which may be used until the next one is asked for.
 Piece: TypeAlias = bytes | memoryview
 
-# So many bytes of a text are read at once.
+# How many bytes of a text are read at once.
 PIECE = 1 << 22
-# So many bytes of what came by a pipe are kept in memory; of a longer text, all in a temporary file.
+# How many bytes of what came by a pipe are kept in memory, at most; a longer text is in a temporary file as a whole.
 KEPT = 1 << 24
-# A text of more bytes is read in parts. What is packed is taken to have so many times the bytes of its file.
+# A text of more bytes than this is read in parts; and how many times the bytes of its file a packed one is taken to have.
 LONG, UNPACKED = 1 << 26, 8
-# After so many bytes that were unpacked, a place is noted from which that can be gone on with, in some 40 KB.
+# After how many unpacked bytes a place is noted from which unpacking can go on; a place takes some 40 KB.
 RESTART = 1 << 25
 
 
@@ -75,7 +75,7 @@ def read_pieces(trace: Trace) -> Iterator[Piece]:
 
 
 def file_pieces(file: io.FileIO, end: int | None = None) -> Iterator[memoryview]:
-    """Yield the bytes of a file from where it stands, and so many at most, all in one room."""
+    """Yield the bytes of a file from where it stands, at most `end` of them. All pieces are in the same room."""
     room = bytearray(PIECE if end is None else min(end, PIECE))
     with memoryview(room) as whole:
         while end is None or end > 0:
@@ -87,7 +87,7 @@ def file_pieces(file: io.FileIO, end: int | None = None) -> Iterator[memoryview]
 
 
 class Unpacked:
-    """What is packed in pieces, which may be several members one after the other, unpacked piece by piece.
+    """Packed bytes, which come in pieces and may be several members one after the other, unpacked piece by piece.
 
     Parameters
     ----------
@@ -100,7 +100,7 @@ class Unpacked:
     def __init__(self, pieces: Iterator[Piece], unpacker: Unpacker | None = None) -> None:
         self._pieces = pieces
         self._unpacker = unpacker or new_unpacker()
-        # Packed bytes that aren't unpacked yet, and how many came together with them.
+        # Packed bytes that aren't unpacked yet, and how many have come in all, with these.
         self._rest, self._count = b"", 0
 
     def _take(self) -> None:
@@ -128,7 +128,7 @@ class Unpacked:
             raise gzip.BadGzipFile("Compressed file ended before the end-of-stream marker was reached")
 
     def place(self) -> tuple[int, Unpacker | None]:
-        """Return how many packed bytes were unpacked, and an unpacker that goes on there; None if all were."""
+        """Return how many packed bytes were unpacked, and an unpacker that goes on there, which is None if all were."""
         return self._count - len(self._rest), self._unpacker.copy() if self._rest else None
 
 
@@ -147,7 +147,7 @@ class Text:
     size: int | None = None
 
     def pieces(self, at: int = 0, end: int | None = None) -> Iterator[Piece]:
-        """Yield the bytes from one on and before another one, or to the end.
+        """Yield the bytes from one on and before another one, or to the end if that is None.
 
         Raises
         ------
@@ -159,7 +159,7 @@ class Text:
         raise NotImplementedError
 
     def read(self, at: int = 0, end: int | None = None) -> bytes:
-        """Return the same in one."""
+        """Return the same bytes in one."""
         return b"".join(bytes(piece) for piece in self.pieces(at, end))
 
     def content(self) -> Buffer:
@@ -176,10 +176,10 @@ class Text:
 
 
 class FileText(Text):
-    """A file's: as much as it has now."""
+    """The text of a file: as much as it has now."""
 
     def __init__(self, path: str) -> None:
-        # Where it is from another folder, too.
+        # Where it is, also from another folder.
         self._path, self._name = Path(path).absolute(), path
         with open(path, "rb") as file:
             self._status = os.fstat(file.fileno())
@@ -218,7 +218,7 @@ class Restart(NamedTuple):
     packed
         How many bytes are before it, packed.
     unpacker
-        One that has taken these; None at the beginning.
+        An unpacker that has taken these; None at the beginning.
     """
 
     at: int
@@ -227,8 +227,8 @@ class Restart(NamedTuple):
 
 
 class PackedText(Text):
-    """One that is packed by gzip. It is unpacked from the last place before what is wanted at which that can be gone on with;
-    such places are noted when it is unpacked first."""
+    """A text that is packed by gzip. It is unpacked from the last place before what is wanted from which unpacking can go on;
+    such places are noted when it is first unpacked."""
 
     def __init__(self, packed: Text) -> None:
         self._packed = packed
@@ -259,7 +259,7 @@ class PackedText(Text):
 
 
 class BufferText(Text):
-    """A buffer's."""
+    """The text of a buffer."""
 
     def __init__(self, buffer: Buffer) -> None:
         self._buffer = buffer
@@ -321,7 +321,7 @@ def in_temporary_folder() -> Iterator[None]:
 
 
 class PartText(Text):
-    """A part of another one."""
+    """A part of another text."""
 
     def __init__(self, text: Text, at: int, end: int | None) -> None:
         self.whole, self.at, self.end = text, at, text.size if end is None else end
@@ -339,12 +339,12 @@ class PartText(Text):
 
 
 def is_long(text: Text) -> bool:
-    """Return whether a text isn't to be in memory as a whole."""
+    """Return whether a text is too long to be in memory as a whole."""
     return text.about() > LONG
 
 
 def is_read_once(trace: Trace | Text) -> bool:
-    """Return whether a trace is gone once it was read: an open file, or the path of a pipe or of what else is no file."""
+    """Return whether a trace is gone once it was read: an open file, or the path of a pipe or anything else that is no file."""
     if isinstance(trace, (str, os.PathLike)):
         path = Path(trace)
         return path.exists() and not path.is_file()
@@ -381,7 +381,7 @@ def text_again(trace: Trace | Text) -> Text:
 
 
 def whole_lines(pieces: Iterator[Piece]) -> Iterator[bytes]:
-    """Yield the same bytes in pieces that end at line breaks, but for the last one."""
+    """Yield the same bytes in pieces that end at line breaks, except the last one."""
     tail = b""
     for piece in pieces:
         content = tail + bytes(piece)

@@ -14,11 +14,12 @@ from ._stream import Backwards, losses_of_pieces
 from ._text import Piece, Text, whole_lines
 from ._times import Stamp
 
-# A text is looked at in so many places before it is taken to be in the order of time, and so many bytes are read in each.
+# In how many places a text is looked at before it is taken to be in the order of time, and how many bytes are read in each.
 PLACES, ROOM = 64, 1 << 13
-# So many bytes before and after a stretch of time are searched for lines that report lost events.
+# How many bytes before and after a stretch of time are searched for lines that report lost events.
 NEAR = 1 << 20
-# What begins a line from which on a CPU has all events, and one of the last lines, with what the recorder knows of it.
+# The beginning of a line from which on a CPU has all events, and that of one of the last lines, which tell what the recorder
+# knows of a CPU.
 CPU_BEGIN, CPU_STATS = b"##### CPU ", b"\n# CPU "
 LONGEST_SIGN = max(map(len, (*SIGNS, CPU_BEGIN)))
 
@@ -31,8 +32,8 @@ class At(NamedTuple):
 
 
 class Bounds(NamedTuple):
-    """The byte of a text at which a stretch of time begins, and that at which it ends; None is the text's end. If events stand
-    before it, `first` is the stamp of its first one, or None if it has none."""
+    """The byte of a text at which a stretch of time begins, and the one at which it ends; None is the text's end. If events
+    stand before the stretch, `first` is the stamp of its first event, or None if it has none."""
 
     at: int = 0
     end: int | None = None
@@ -142,9 +143,9 @@ class Halves:
         return None
 
     def first_from(self, stamp: int, low: int) -> At:
-        """Return the first event with a stamp from this one on, if it isn't before the first byte of some line. If it is the
-        first event of all, the lines before it are taken for its own; if there is none, it is at the text's end."""
-        # All events that begin before the one are earlier, and all that begin at the other or later aren't.
+        """Return the first event with a stamp from this one on, not before `low`, which is the first byte of a line. If it is
+        the first event of all, the lines before it are taken for its own; if there is none, it is at the text's end."""
+        # All events that begin before `low` are earlier, and all that begin at `high` or later aren't.
         high = self._size
         while high - low > ROOM:
             middle = (low + high) // 2
@@ -186,7 +187,7 @@ class Halves:
 
 
 def bounds_in_passing(text: Text, start: int | None, until: int | None) -> Bounds | None:
-    """Return what `bounds_of` does of a text that can be read from its beginning only, by the last event of each piece."""
+    """Return the same as `bounds_of`, for a text that can be read only from its beginning, by the last event of each piece."""
     begin = At(0, None) if start is None else None
     at, last = 0, -1
     for piece in whole_lines(text.pieces()):
@@ -284,7 +285,7 @@ def losses_near(text: Text, bounds: Bounds, start: int | None, until: int | None
 
 
 def losses_of_lines(pieces: Callable[[], Iterator[Piece]]) -> Losses:
-    """Return what lines report lost, of which `pieces` makes the pieces anew each time."""
+    """Return what lines report lost; `pieces` makes the pieces of them anew each time."""
     try:
         return losses_of_pieces(pieces())
     except Backwards:
@@ -292,7 +293,7 @@ def losses_of_lines(pieces: Callable[[], Iterator[Piece]]) -> Losses:
 
 
 def in_stretch(losses: Losses, start: int | None, until: int | None) -> Losses:
-    """Return what was lost in a stretch of time. Which lines of the text report it isn't known."""
+    """Return what was lost in a stretch of time. It isn't known which lines of the text report it."""
     holes = [
         hole._replace(line=None)
         for hole in losses.holes
@@ -331,7 +332,7 @@ def cpu_begins(text: Text) -> tuple[list[int], bytes]:
 
 
 def far_lines(text: Text, places: Sequence[int], high: int) -> Iterator[bytes]:
-    """Yield the lines after a byte from which on a CPU has all events, each with some that follow."""
+    """Yield the lines at byte `high` or later from which on a CPU has all events, each with some that follow."""
     for place in places:
         if place >= high:
             content = text.read(place, place + ROOM)

@@ -24,7 +24,7 @@ Time = Union[int, float, str, Decimal, Fraction, datetime.timedelta, "np.timedel
 
 @public
 class Stamp(int):
-    """A timestamp in microseconds, printed as in a trace. Where a time is asked for, it is taken as it is.
+    """A timestamp in microseconds, printed as in a trace. Whatever takes a time takes it as it is.
 
     >>> rest = Stamp(6012001092)
     >>> print(rest, rest // 1000)
@@ -67,9 +67,9 @@ def micros_of(time: Time | None, name: str) -> int | None:
 
 
 def rounded(time: Any, name: str) -> int:
-    """Return a time in microseconds that is no `Stamp`."""
+    """Return a time, which is no `Stamp`, in microseconds."""
     if isinstance(time, datetime.timedelta):
-        # That of pandas has nanoseconds besides.
+        # A `timedelta` of pandas also has nanoseconds.
         return time // MICROSECOND + (getattr(time, "nanoseconds", 0) >= 500)
     if getattr(getattr(time, "dtype", None), "kind", "") == "m":
         return rounded_delta(time, name)

@@ -11,7 +11,7 @@ MOST = 2**64 - 1
 
 @public
 class Log2(int):
-    """A key's part under `.log2`: the number n of the values above 2^(n-1), up to 2^n; 0 of the values 0 and 1.
+    """A key's part under `.log2`: the number n for the values above 2^(n-1), up to 2^n; 0 for the values 0 and 1.
 
     Examples
     --------

@@ -22,7 +22,7 @@ SomeRow = TypeVar("SomeRow")
 KINDS = WAIT_KINDS
 # The kind of a row that has waits of all kinds.
 ALL_KINDS = "all"
-# A trigger's table of the greatest size has so many tasks.
+# How many tasks a trigger's table of the greatest size has.
 SIZE = 131_072
 
 # What waits can be counted by: the names of the first columns, and what a row has about the longest wait after its place.
@@ -177,13 +177,13 @@ class Answer:
 
     @property
     def missing(self) -> int | None:
-        """How many switches are missing although no line reports a loss: how many events another task ran than the one that
+        """How many switches are missing although no line reports a loss: at how many events another task ran than the one that
         their CPU went to last. None for the waits of a desk, of which that isn't known."""
         return self._about.missing
 
     @property
     def first_missing(self) -> Place | None:
-        """Where the first event stands that shows such a switch; None if there is none."""
+        """Where the first event that shows such a switch stands; None if there is none."""
         return self._about.first_missing
 
     def omissions(self) -> list[str]:

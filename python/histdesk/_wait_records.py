@@ -22,7 +22,7 @@ if TYPE_CHECKING:
     # Waits as the library has them, and records of them: arrays of structs.
     Structs: TypeAlias = NDArray[np.void]
 
-# So many waits are kept at first, and given at once. Of those put aside, so many bytes are in memory.
+# For how many waits there is room at first; how many are given at once; and how many bytes of those put aside are in memory.
 ROOM, PART, ASIDE = 1 << 16, 1 << 14, 1 << 22
 
 # The kinds of waits, by their numbers.
@@ -77,7 +77,7 @@ class WaitSink:
     """Takes waits as the engine reports them, and makes records of them (`RECORD_FIELDS`), which go to `take`."""
 
     def __init__(self, most: int) -> None:
-        """Take so many waits at once."""
+        """Take at most so many waits at once."""
         # For waits as the engine has them.
         self._room = np.empty(most, WAIT_TYPE)
         self.numbers = Numbers(layout.NAME_WORDS)
@@ -92,15 +92,15 @@ class WaitSink:
         return texts_of_names(self.name_rows)
 
     def all(self) -> tuple[Structs, Besides]:
-        """Return an array of all records, and what was besides by the index in it."""
+        """Return an array of all records, and their `Besides` by the index in it."""
         raise NotImplementedError
 
     def parts(self) -> Iterator[tuple[Structs, Besides]]:
-        """Yield copies of all records, each array with what was besides by the index in it."""
+        """Yield copies of all records, each array with its `Besides` by the index in it."""
         raise NotImplementedError
 
     def portions(self) -> list[Iterator[tuple[Structs, Besides]]]:
-        """Return the same in several portions that may be gone through at once, in order, after `names` was asked for."""
+        """Return the same in several portions, in order. They may be gone through at once, after `names` was asked for."""
         return [self.parts()]
 
     def __len__(self) -> int:
@@ -117,11 +117,11 @@ class WaitSink:
             start += count
 
     def take(self, waits: Structs) -> None:
-        """Take some waits of the engine's, which stay for this call only."""
+        """Take some waits of the engine's, which are there only during this call."""
         raise NotImplementedError
 
     def write(self, waits: Structs, records: Structs) -> None:
-        """Write records of as many waits. Nothing says yet how sure they are."""
+        """Write the records of as many waits. It isn't known yet how sure they are."""
         copy_alike(waits, records)
         records["name"] = self.numbers.of(words_of_names(waits, "name"))
         records["kind"] = waits["cause"] - 1
@@ -160,7 +160,7 @@ def alike(kind: np.dtype[Any]) -> np.dtype[np.void]:
     return np.dtype({"names": list(ALIKE), "formats": formats, "offsets": offsets, "itemsize": kind.itemsize})
 
 
-# Of preempted tasks that were woken or created besides: which waits these are, and where and how that was.
+# For preempted tasks that were also woken or created: which waits these are, and where and how that was.
 Besides: TypeAlias = "list[tuple[NDArray[np.intp], Structs]]"
 
 
@@ -189,7 +189,7 @@ class Kept(WaitSink):
         self.besides += besides_of(start, waits)
 
     def all(self) -> tuple[Structs, Besides]:
-        """Return an array of all records, and what was besides by the index in it."""
+        """Return an array of all records, and their `Besides` by the index in it."""
         return self.records(), self.besides
 
     def parts(self) -> Iterator[tuple[Structs, Besides]]:
@@ -224,7 +224,7 @@ class Aside(WaitSink):
             self._file.write(records.view("u1").data)
 
     def parts(self) -> Iterator[tuple[Structs, Besides]]:
-        """Yield all records, each array with what was besides by the index in it."""
+        """Yield all records, each array with its `Besides` by the index in it."""
         size = self._records.nbytes
         self._file.seek(0)
         for start in range(0, self._count, len(self._records)):
@@ -233,13 +233,13 @@ class Aside(WaitSink):
 
 
 def besides_of(start: int, waits: Structs) -> Besides:
-    """Return what was besides of some waits of the engine's, of which the first has that index."""
+    """Return the `Besides` of some waits of the engine's, the first of which has the index `start`."""
     places = np.flatnonzero(waits["awoken_cause"])
     return [(start + places, waits[places])] if len(places) else []
 
 
 def within(besides: Besides, start: int, count: int) -> Besides:
-    """Return what was besides of so many waits from an index on, by the index among these."""
+    """Return the `Besides` of so many waits from an index on, by the index among these."""
     parts = []
     for at, waits in besides:
         # They ascend, and most are of other parts.

@@ -40,10 +40,10 @@ if TYPE_CHECKING:
 
 SomeAnswer = TypeVar("SomeAnswer")
 
-# What no wait needs, and is left out first if a trace has more events than a desk holds.
+# The events that no wait needs, which are left out first if a trace has more events than a desk holds.
 SPARE = SPARE_EVENTS
 
-# In the order of a row of `array`.
+# The fields of a row of `array`, in order.
 FIELDS = [
     ("kind", f"=U{max(map(len, KINDS))}"),
     ("pid", "=i4"),
@@ -55,9 +55,9 @@ FIELDS = [
 ]
 # What pandas takes columns of a table for, if not for whole numbers.
 FRAMED = {"task": "object", "name": "object", "kind": "object", "mean": "float64"}
-# So many waits are counted at once.
+# How many waits are counted at once.
 BATCH = 1 << 14
-# So many rows are shown in a notebook or at a prompt.
+# How many rows are shown in a notebook or at a prompt.
 MOST_ROWS = 20
 
 
@@ -416,7 +416,7 @@ class ReadOptions(NamedTuple):
     keeps
         Whether what can be read only once is kept in a temporary file meanwhile.
     jobs
-        How many parts are read at once; None is decided by `_parallel.jobs_for`. A text that is summed up has one part.
+        How many parts are read at once; if it is None, `_parallel.jobs_for` decides. A text that is summed up has one part.
     sums
         Whether it is also summed up by task and by CPU.
     """
@@ -430,7 +430,7 @@ class ReadOptions(NamedTuple):
 
 
 def waits_of_text(trace: Trace, options: ReadOptions = ReadOptions()) -> Waits:
-    """Return the waits of a whole text, which is called by its own path if it isn't called by another one."""
+    """Return the waits of a whole text, which is called by its own path unless `options` has another one."""
     if options.path is None:
         options = options._replace(path=path_of(trace))
 
@@ -451,8 +451,8 @@ def answer_of(
     trace: Trace,
     options: ReadOptions,
 ) -> SomeAnswer | Waits:
-    """Return what `answer` makes of a whole text that was read, and of the text if it can be read again; the waits by a desk if
-    it isn't in the order of time. `make_sink` makes what takes its waits."""
+    """Return what `answer` makes of a whole text that was read, and of the text if it can be read again; or the waits that a
+    desk finds, if the text isn't in the order of time. `make_sink` makes what takes its waits."""
     again: Text | None = None if is_read_once(trace) else text_again(trace)
     if again:
         check_kind(again, options.path)
@@ -469,7 +469,7 @@ def answer_of(
         if again is None and kept is None:
             what = f"line {error}: its stamp is before that of the event above it; such a trace must be a file"
             raise ValueError(what) from None
-        # The rest of what came by a pipe.
+        # Read the rest of what comes by a pipe.
         for _ in pieces if kept else ():
             pass
         return waits_in_any_order(options.path, (again or kept or Text()).read(), Choice(), options.lenient)
@@ -497,7 +497,7 @@ def show_line(error: Refused, text: Text) -> None:
 
 
 def waits_of_recording(recording: Recording, lenient: bool = False, watch: Watch | None = None) -> Waits:
-    """Return the waits of what was asked for of a trace, however many events that are.
+    """Return the waits of what was asked for of a trace, however many events these are.
 
     Raises
     ------
@@ -524,7 +524,7 @@ def stream_slice(
     Parameters
     ----------
     recording, part
-        A recording whose slice this is. Its `losses` are known afterwards.
+        A recording, and its slice. The `losses` of the recording are known afterwards.
     lenient, watch, sums
         As in `ReadOptions`.
 
@@ -569,8 +569,8 @@ def about_text(path: str | None, read: Read, unknown: tuple[str, ...], lines_fro
 
 
 def unknown_kinds(records: Structs) -> tuple[str, ...]:
-    """Return the kinds of which no event began a wait; of preempted tasks only if there are no waits at all, since they may
-    have had none."""
+    """Return the kinds of which no event began a wait; `preempted` is one of them only if there are no waits at all, since
+    there may have been no preempted task."""
     return unknown_of(np.bincount(records["kind"], minlength=len(KINDS)).tolist())
 
 

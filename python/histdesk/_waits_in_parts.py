@@ -10,7 +10,7 @@ from ._text import Text
 from ._wait_answer import WaitAnswer
 from ._waits import ReadOptions, Waits, about_text, answer_of
 
-# So many waits are a part.
+# How many waits a part has.
 PART = 1 << 14
 
 

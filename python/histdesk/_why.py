@@ -69,8 +69,8 @@ class Why(Fields):
     until
         The timestamp at which the wait ends, or the trace.
     waker
-        The task that woke or forked it, or that ran in its place. If an interrupt woke it (`context`), this is the task that was
-        interrupted, which need not have to do with it.
+        The task that woke or forked it, or that ran in its place. If an interrupt woke it (`context`), this is the task that
+        was interrupted, which may have nothing to do with it.
     context
         `task`, `softirq`, `hardirq` or `nmi`: where the waking came from, by the flags of its line. None if the line has no
         flags, and for a desk, which has no text.
@@ -185,8 +185,9 @@ class Why(Fields):
 def why(trace: Desk | Trace | Recording | Waits, cpu: int | None = None, line: int | None = None) -> Why:
     """Explain a wait.
 
-    It is the wait that an event ends, or else the one that it begins, or in which the task that it wakes is waiting already;
-    without an event, the longest wait that isn't doubtful. If events were lost, a `LossWarning` is issued, as by `waits`.
+    The wait is the one that an event ends, or else the one that it begins, or in which the task that it wakes is waiting
+    already; without an event, it is the longest wait that isn't doubtful. If events were lost, a `LossWarning` is issued, as by
+    `waits`.
 
     Parameters
     ----------
@@ -206,9 +207,9 @@ def why(trace: Desk | Trace | Recording | Waits, cpu: int | None = None, line: i
         If no event is there, or it belongs to no wait; the message has the reason. Without an event, if there is no wait that
         isn't doubtful.
     TypeError
-        If only one of `cpu` and `line` is there, or one is no number.
+        If only one of `cpu` and `line` is given, or one is no number.
     ValueError
-        If `trace` is `Waits` that have no `source`; or without an event, if it is a `Recording` of some CPUs only.
+        If `trace` is `Waits` that have no `source`; or without an event, if it is a `Recording` of only some CPUs.
 
     It also raises what `waits` raises.
 

@@ -19,13 +19,13 @@ if TYPE_CHECKING:
 
     from ._why import Why
 
-# The bars of a picture have so many columns at most, and so many at least.
+# How many columns the bars of a picture have at most, and how many at least.
 BAR, SHORTEST_BAR = 60, 24
-# A task's name and number have at least so many columns.
+# How many columns a task's name and number have at least.
 SHORTEST_NAME = 8
 # Tasks of real time have a prio below this one; a lower prio is more urgent.
 NORMAL = 100
-# So many places where events were lost are listed.
+# How many places where events were lost are listed at most.
 HOLES = 3
 # How a task left its CPU, in a sentence and in a table.
 LEFT = {
@@ -50,7 +50,7 @@ def text_of(why: Why, all_stretches: bool, width: int) -> str:
         parts.append([f"CPU {why.queue_cpu}, where it was {was}:", *picture(why, why.elsewhere, width)])
     parts.append([f"CPU {why.cpu}, where it {'ran' if why.end else 'waits'}:", *picture(why, why.stretches, width)])
     for stretches in (why.elsewhere, why.stretches):
-        # The sentences say all of a single one.
+        # The sentences say everything about a single one.
         if len(stretches) > 1:
             rows = in_order(why, stretches, all_stretches, width)
             parts.append([f"What ran on CPU {stretches[0].cpu}, in order:", *rows])
@@ -79,8 +79,8 @@ def head(why: Why) -> str:
 
 
 def put_out(why: Why) -> str:
-    """Return how a task that could have run on lost its CPU. The kernel has `R` of one that was on its way back to user space,
-    or that gave way by itself."""
+    """Return how a task that could have run on lost its CPU. The kernel prints `R` for one that was on its way back to user
+    space, or that gave way by itself."""
     return "was preempted (R+)" if why.begin.prev_state == "R+" else "was switched out, still runnable (R)"
 
 
@@ -163,7 +163,7 @@ def after(stretch: Stretch) -> str:
 
 
 def later(why: Why) -> str | None:
-    """Return how long tasks ran that were runnable later, and yet ran before."""
+    """Return how long those tasks ran that became runnable later than this one, and yet ran before it."""
     ran = stretches_of(why.stretches)
     micros = int(ran.micros[(ran.columns.runnable != NOTHING) & (ran.columns.pid != why.pid)].sum())
     return f"Tasks that became runnable later than it had {part_of(why, micros)} of that time." if micros else None

@@ -198,7 +198,7 @@ def waits_without(
         try:
             return whole, less_of(whole, stream)
         except Backwards:
-            # A desk has found the waits of all events, and so it finds these.
+            # A desk has found the waits of all events, so a desk finds these too.
             choice = trace.choice if isinstance(trace, Recording) else Choice()
             content = (part.whole if part else text_again(cast("Trace", trace))).read()
             return whole, held_without(read_whole(whole.path, content, choice._replace(spare=SPARE), lenient), chosen)

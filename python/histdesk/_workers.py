@@ -30,11 +30,11 @@ if TYPE_CHECKING:
 
 # All threads share the filters of warnings.
 READING = threading.Lock()
-# So many seconds pass between two looks whether a cluster has any workers, and until they are taken to be gone for good.
+# How many seconds pass between two looks for workers in a cluster, and until these are taken to be gone for good.
 LOOK, LONG = 5.0, 300.0
-# So many recordings are handed to a cluster at once, at least.
+# How many recordings are handed to a cluster at once, at least.
 ROOM = 100
-# The states of a future whose worker was killed when it had an answer, before anybody had fetched that.
+# The states of a future whose worker was killed after it had an answer, and before anybody fetched that.
 LOST = ("lost", "pending")
 
 
@@ -45,10 +45,10 @@ class Future(Protocol):
     status: str
 
     def result(self, timeout: float | None = None) -> Any:
-        """What was computed."""
+        """Return what was computed."""
 
     def exception(self) -> BaseException:
-        """Why it failed."""
+        """Return why it failed."""
 
     def release(self) -> object:
         """Let the cluster forget it."""
@@ -66,7 +66,7 @@ class Client(Protocol):
         """Have a worker call a function."""
 
     def nthreads(self) -> Mapping[str, int]:
-        """How many threads each worker has."""
+        """Return how many threads each worker has."""
 
     def cancel(self, futures: Iterable[Future]) -> object:
         """Give up what isn't done."""
@@ -94,7 +94,7 @@ class Task(NamedTuple):
 
 
 def ask(question: Question, path: str, choice: dict[str, Any]) -> Outcome:
-    """Return the answer of a recording. Whatever goes wrong is noted of the recording, and nothing is raised.
+    """Return the answer of a recording. Whatever goes wrong is noted for the recording, and nothing is raised.
 
     A question that has `ask_path` reads the recording itself.
     """
@@ -102,7 +102,7 @@ def ask(question: Question, path: str, choice: dict[str, Any]) -> Outcome:
         if hasattr(question, "ask_path"):
             outcome: Outcome = question.ask_path(path, **choice)
             return outcome
-        # What is lost is reported of all recordings together.
+        # What is lost is reported for all recordings together.
         with READING, warnings.catch_warnings():
             warnings.simplefilter("ignore", LossWarning)
             recording = read(path, **getattr(question, "reading", {}), **choice)
@@ -228,7 +228,7 @@ class Spawning(multiprocessing.context.SpawnContext):
 
 
 def begin() -> None:
-    """Do what a worker does first: it leaves Ctrl-C to the process that made it, and ends with that."""
+    """Do what a worker does first: it leaves Ctrl-C to the process that made it, and ends when that ends."""
     signal.signal(signal.SIGINT, signal.SIG_IGN)
     parent = multiprocessing.parent_process()
     if parent:
@@ -242,7 +242,7 @@ def end_with(parent: BaseProcess) -> None:
 
 
 class Pool:
-    """Some processes. If one of them is killed, the standard library ends them all; as a context manager, it ends them."""
+    """Some processes, as a context manager that ends them. If one is killed, the standard library ends them all."""
 
     def __init__(self, task: Task, size: int) -> None:
         """Make so many processes for a task."""
@@ -291,7 +291,7 @@ class Pool:
                     yield unpack(path, future.result)
 
     def fill(self, waiting: collections.deque[str], flight: dict[concurrent.futures.Future[bytes], str]) -> bool:
-        """Hand recordings out as long as there are processes without one; return whether it could, and some are out."""
+        """Hand recordings out as long as there are processes without one; return whether that worked and some are out."""
         try:
             while waiting and len(flight) < self.size:
                 future = self.executor.submit(work, self.task, waiting[0])
@@ -308,7 +308,7 @@ class Pool:
 
 def by_pool(task: Task, paths: Sequence[str], processes: int) -> Generator[Outcome, None, None]:
     """Ask with so many processes. If one is killed, the recordings that were being asked are asked again, each in a process of
-    its own; what kills that one too is left out."""
+    its own; a recording that kills that one too is left out."""
     waiting, size, is_checked = collections.deque(paths), processes, False
     while waiting:
         suspects: list[str] = []
@@ -339,8 +339,8 @@ def ask_again(task: Task, path: str) -> Outcome:
 
 
 def by_dask(client: Client, task: Task, paths: Sequence[str]) -> Generator[Outcome, None, None]:
-    """Ask with the workers of a client's cluster. If one is killed, Dask itself asks again, some times; what it gives up is
-    asked once more by itself."""
+    """Ask with the workers of a client's cluster. If one is killed, Dask itself asks again a few times; a recording that it
+    gives up is asked once more by itself."""
     dask = Dask(client, task)
     dask.check()
     suspects: list[str] = []
@@ -426,7 +426,7 @@ class Dask:
                     return None
 
     def outcome(self, future: Future, path: str, suspects: list[str]) -> Iterator[Outcome]:
-        """Go through what a future has that is done: one outcome, or none if its recording became a suspect."""
+        """Go through what a future that is done has: one outcome, or none if its recording became a suspect."""
         if future.status == "finished":
             yield unpack(path, lambda: bytes(future.result(LONG)))
         elif future.status != "error":

@@ -28,7 +28,7 @@ from histdesk.cli.prompt_help import help_of
 
 # What is said if a thing doesn't hold, and whether it holds.
 Thing = Tuple[str, bool]
-# What stands for the arguments of forms: of a trace whose CPU 0 has a line 1, and of the first trigger.
+# What stands for the arguments of forms, if a trace is held whose CPU 0 has a line 1, and two triggers are attached.
 ARGUMENTS = {
     "N": "1",
     "C": "0",
@@ -47,7 +47,7 @@ WIDEST = 128
 
 
 def script_forms() -> List[str]:
-    """The forms that scripts have."""
+    """Return the forms that scripts have."""
     return [form.text for command in SCRIPT_COMMANDS.values() for form in command.forms if not form.is_typed]
 
 
@@ -55,12 +55,12 @@ def script_forms() -> List[str]:
 
 
 def filled(form: str) -> str:
-    """A form with arguments."""
+    """Return a form with arguments in it."""
     return re.sub(r"\b[A-Z]+\b", lambda word: ARGUMENTS[word[0]], form)
 
 
 def output_of(program: str, lines: List[str]) -> List[str]:
-    """What the program prints of a script over a trace that has CPU 0."""
+    """Return what the program prints for a script, over a trace that has CPU 0."""
     script = "".join(f"{line}\n" for line in lines)
     words = [program, "-", os.path.join(ROOT, "examples", "wakeups.trace")]
     return subprocess.run(words, input=script, stdout=subprocess.PIPE, text=True, check=False).stdout.splitlines()
@@ -84,7 +84,7 @@ def of_program(program: str) -> Iterator[Thing]:
 
 
 def plain(text: str) -> str:
-    """A line of mdoc without its macros."""
+    """Return a line of mdoc without its macros."""
     words = re.findall(r'"[^"]*"|\S+', re.sub(r"\\&", "", text))
     kept = " ".join(word.strip('"') for word in words if word not in ("Li", "Ar", "No", "Sy", "Ic"))
     # A colon follows the word before it without a space.

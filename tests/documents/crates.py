@@ -1,12 +1,12 @@
 #!/usr/bin/env python3
-"""Holds that the pages on the crates say what there is.
+"""Checks that the pages about the crates say what there is.
 
     crates.py > WHAT WENT WRONG
 
 docs/CRATES.md is what build/crates prints, and each file of sources and definitions begins with a sentence. docs/HACKING.md
-has each crate in its figure of layers, except those of tests, and each on no lower layer than what it stands on; and the
-functions, types and definitions that it names are there, and the edit that it shows. The last line says how many of these
-hold.
+has each crate in its figure of layers, except those of tests, and none on a lower layer than a crate on which it stands. The
+functions, types and definitions that it names are there, and so is the edit that it shows. The last line says how many of
+these hold.
 """
 
 import importlib.machinery
@@ -28,7 +28,7 @@ Told = Iterator[Tuple[str, bool]]
 
 
 def tool() -> ModuleType:
-    """build/crates, as a module, which finds those beside it."""
+    """Return build/crates as a module, which finds the modules beside it."""
     sys.path.insert(0, str(ROOT / "build"))
     loader = importlib.machinery.SourceFileLoader("crates", str(ROOT / "build" / "crates"))
     spec = importlib.util.spec_from_loader("crates", loader)
@@ -47,7 +47,7 @@ def text_of(path: str) -> str:
 
 
 def table() -> Told:
-    """The generated page, and the sentences that it and the listings are made of."""
+    """Check the generated page, and the sentences that it and the listings are made of."""
     same = text_of("docs/CRATES.md") == CRATES.table()
     yield "docs/CRATES.md is not what build/crates prints", same
     for file in (file for crate in BELOW for file in CRATES.files_of(crate)):
@@ -55,7 +55,7 @@ def table() -> Told:
 
 
 def layers(page: str) -> Told:
-    """The figure of layers, the highest first."""
+    """Check the figure of layers, which has the highest first."""
     figure = page.partition("\n## Layers\n")[2].split("```")[1]
     rows = [line for line in figure.split("\n") if line[:1].strip()]
     layer = {crate: len(rows) - at for at, row in enumerate(rows) for crate in re.findall(r"\w+", row) if crate in BELOW}
@@ -66,7 +66,7 @@ def layers(page: str) -> Told:
 
 
 def names(page: str) -> Told:
-    """What stands in backquotes as the name of a function, a type or a definition."""
+    """Check what stands in backquotes as the name of a function, a type or a definition."""
     words = {crate: {word for file in CRATES.files_of(crate) for word in WORD.findall(text_of(str(file)))} for crate in BELOW}
     known = set(BELOW).union(*words.values())
     # The last sections speak of other programs too.

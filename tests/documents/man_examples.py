@@ -5,7 +5,7 @@
 
 An example shows a script by `$ cat NAME`, and then what `$ PROGRAM NAME TRACE` prints, with a trace of FOLDER; or it is a
 session of commands of the tools beside the traces of FOLDER, and what each of them prints. Programs are found on the PATH.
-A session isn't tried if the tools have no numpy. The last line says how many of them print just what the page shows.
+A session isn't tried if the tools have no numpy. The last line says how many of them print exactly what the page shows.
 """
 
 import os
@@ -26,12 +26,12 @@ def literals(page):
 
 
 def examples(page):
-    """The name, the script, the program, the trace and the output of each."""
+    """Return the name, the script, the program, the trace and the output of each example."""
     return [example for text in literals(page) for example in EXAMPLE.findall(text)]
 
 
 def sessions(page):
-    """The commands of each block that has no others, with their outputs."""
+    """Yield the commands of each block that has no others, with their outputs."""
     for text in literals(page):
         commands = COMMAND.findall(text)
         if commands and text == "".join(f"$ {command}\n{output}" for command, output in commands):
@@ -48,7 +48,7 @@ def printed(folder, name, script, program, trace):
 
 
 def session_prints(folder, commands):
-    """What the commands print, one after the other."""
+    """Yield what the commands print, one after the other."""
     with tempfile.TemporaryDirectory() as work:
         for name in os.listdir(folder):
             os.symlink(os.path.join(os.path.abspath(folder), name), os.path.join(work, name))

@@ -1,14 +1,14 @@
 #!/usr/bin/env python3
-"""Holds that the documents name what there is, and have the form that they should have.
+"""Checks that the documents name what there is, and have the form that they should have.
 
     pages.py [--write] > WHAT WENT WRONG
     pages.py --links PAGE.. > WHAT WENT WRONG
 
-Of each document: a link leads to a file that is there, and to a heading of it; each file and folder of the repository that it
+In each document, a link leads to a file that is there, and to a heading of it; each file and folder of the repository that it
 names is there; a line has at most 120 characters, except in tables and blocks; no word of AVOIDED stands in it. docs/ has the
 pages of PAGES and no others. A document or script that sources and scripts name is there. README.md has
-the line that build/needs prints, and docs/TESTING.md counts what there is; --write has these counts written there first.
---links looks at the links of these pages alone, which may stand anywhere. The last line says how many things hold.
+the line that build/needs prints, and docs/TESTING.md counts what there is; --write writes these counts there first.
+--links looks only at the links of these pages, which may stand anywhere. The last line says how many things hold.
 """
 
 import ast
@@ -34,7 +34,7 @@ PAGES = [
     "docs/DECISIONS.md",
     "bench/README.md",
 ]
-# The other documents: one that tells of the past, one that a program writes, and what points elsewhere.
+# The other documents: one about the past, one that a program writes, and those that point elsewhere.
 PAST = "CHANGELOG.md"
 OTHERS = [PAST, "docs/CRATES.md", "examples/README.md", "tools/README.md", "python/README.md"]
 COUNTING = "docs/TESTING.md"
@@ -47,7 +47,7 @@ AVOIDED = [
     r"as yet|formerly|previously|used to be|until now",
     r"/work/|/root/|/home/",
 ]
-# Files of these folders are made.
+# Folders whose files are made by programs.
 MADE = re.compile(r"/out(/|$)|^dist(/|$)")
 NAME = re.compile(r"(?:\./)?[\w.*{},+-]+(?:/[\w.*{},+-]+)*/?")
 
@@ -65,7 +65,7 @@ def is_there(path):
 
 
 def without_blocks(text: str) -> List[str]:
-    """The text without what stands in blocks, line by line."""
+    """Return the lines of the text, without what stands in blocks."""
     lines, fence = [], None
     for line in text.split("\n"):
         mark = re.match(r" *(```+|~~~+)", line)
@@ -81,14 +81,14 @@ def without_blocks(text: str) -> List[str]:
 
 
 def slug(heading):
-    """What a heading is called in a link."""
+    """Return what a heading is called in a link."""
     plain = re.sub(r"!?\[([^]]*)\]\([^)]*\)", r"\1", heading).replace("`", "")
     kept = [byte for byte in plain.strip().lower() if byte in "-_ " or unicodedata.category(byte)[0] in "LN"]
     return "".join(kept).replace(" ", "-")
 
 
 def anchors(path):
-    """The names of a document's headings: of those that are alike, the second one has -1 at its end, and so on."""
+    """Return the names of a document's headings: of those that are alike, the second one has -1 at its end, and so on."""
     names, counts = set(), Counter()
     for line in without_blocks(text_of(path)):
         heading = re.match(r"#+ +(.*?) *#*$", line)
@@ -104,7 +104,7 @@ def anchors(path):
 
 
 def links(path):
-    """The links of a document, and what is wrong with them."""
+    """Return the links of a document, and what is wrong with them."""
     text = re.sub(r"`[^`\n]*`", "``", "\n".join(without_blocks(text_of(path))))
     targets = re.findall(r"\]\(\s*<?([^)\s>]+)", text) + re.findall(r"^\[[^]]+\]: +(\S+)", text, re.MULTILINE)
     targets = [target for target in targets if not re.match(r"[a-z]+:", target)]
@@ -120,19 +120,19 @@ def links(path):
 
 
 def paths_of(name):
-    """The paths of a name: `a/{b,c}.rt` is two."""
+    """Return the paths of a name: `a/{b,c}.rt` is two."""
     form = re.fullmatch(r"(.*?)\{([^{}]*)\}(.*)", name)
     return [path for part in form[2].split(",") for path in paths_of(form[1] + part + form[3])] if form else [name]
 
 
 def names(path):
-    """The files and folders that a document names in code, and those that aren't there. A name begins with a folder or file
-    at the top, or with a crate."""
+    """Return the files and folders that a document names in code, and those that aren't there. A name begins with a folder or
+    file at the top, or with a crate."""
     tops = {name for name in os.listdir(ROOT) if name not in (".git", "README.md")}
     crates = set(os.listdir(os.path.join(ROOT, "crates")))
     text = text_of(path)
     words = [code.split() for code in re.findall(r"(?<!`)`([^`\n]+)`(?!`)", "\n".join(without_blocks(text)))]
-    # Of a block with commands, the first word of each line.
+    # From a block with commands, the first word of each line.
     blocks = re.findall(r"^```(?:sh|console)\n(.*?)^```", text, re.MULTILINE | re.DOTALL)
     words += [re.sub(r"^(\$ |> )?(sudo |time )?", "", line).split()[:1] for block in blocks for line in block.split("\n")]
     present, wrong = [], []
@@ -153,7 +153,7 @@ def names(path):
 
 
 def mentions():
-    """The documents and scripts that sources and scripts name, and those that aren't there."""
+    """Return the documents and scripts that sources and scripts name, and those that aren't there."""
     own = ["*.md", "tests/rows", "examples/*.trace", "examples/*.expected", "*.edit"]
     words = ["git", "-C", ROOT, "ls-files", "-z", "--cached", "--others", "--exclude-standard", "--", "."]
     ran = subprocess.run([*words, *(f":!{form}" for form in own)], stdout=subprocess.PIPE, check=True)
@@ -179,12 +179,12 @@ def mentions():
 
 
 def form(path):
-    """The lines of a document, and which are too long or have words that should not stand there."""
+    """Return the lines of a document, and which are too long or have words that should not stand there."""
     lines, wrong = without_blocks(text_of(path)), []
     for number, line in enumerate(lines, 1):
         if len(line) > MOST and not line.startswith("|") and not re.fullmatch(r"\S+", line):
             wrong.append(f"{path}:{number}: {len(line)} characters")
-    # A word may go over the end of a line.
+    # Several words may go over the end of a line.
     text = "\n".join(lines)
     for words in AVOIDED:
         for match in re.finditer(rf"(?<![\w`])(?:{words})".replace(" ", r"\s"), text, re.IGNORECASE):
@@ -194,7 +194,7 @@ def form(path):
 
 
 def pages():
-    """The pages of docs/, and which of them has no place."""
+    """Return the pages of docs/, and which of them have no place or are missing."""
     there = [os.path.relpath(path, ROOT) for path in glob.glob(os.path.join(ROOT, "docs", "*.md"))]
     wrong = [f"{path} has no place among the documents" for path in there if path not in [*PAGES, *OTHERS]]
     return there, wrong + [f"{path} is missing" for path in PAGES if not is_there(path)]
@@ -204,7 +204,8 @@ def pages():
 
 
 def packages():
-    """The line that installs what is needed of Debian, which README has in some lines."""
+    """Return the line that installs what is needed from Debian, and a remark if README.md lacks it, where it may have several
+    lines."""
     ran = subprocess.run([os.path.join(ROOT, "build", "needs")], stdout=subprocess.PIPE, check=True, universal_newlines=True)
     line, readme = ran.stdout.split(), re.sub(r"\\\n", " ", text_of("README.md"))
     there = line in [text.split()[1:] for text in readme.split("\n")]
@@ -212,7 +213,7 @@ def packages():
 
 
 def tests_in(*names):
-    """How many tests these files of Python have."""
+    """Return how many tests these files of Python have."""
     paths = (os.path.join(ROOT, "tests", name) for name in names)
     trees = (ast.walk(ast.parse(text_of(path))) for form in paths for path in glob.glob(form))
     return sum(isinstance(node, ast.FunctionDef) and node.name.startswith("test") for tree in trees for node in tree)
@@ -223,7 +224,7 @@ def files(*parts):
 
 
 def counts():
-    """What docs/TESTING.md counts, and how much there is of it."""
+    """Return what docs/TESTING.md counts, and how much there is of it."""
     crates = files("crates", "*", "src", "**", "*.rt")
     return {
         "Edits that must fail": len(files("crates", "*", "must-fail", "*.edit")),
@@ -243,14 +244,14 @@ def write_counts(path):
 
 
 def check_counts(path):
-    """The counts of a page's table, and those that are others here."""
+    """Return what a page's table counts, and the counts that differ from what there is."""
     rows = dict(re.findall(r"^\| ([^|]*?) \| ([0-9,]+) \|", text_of(path), re.MULTILINE))
     wrong = [f"{path}: {what}: {count} (--write)" for what, count in counts().items() if rows.get(what) != f"{count:,}"]
     return list(counts()), wrong
 
 
 def all_things():
-    """What there is of each kind, and what is wrong with it."""
+    """Return what there is of each kind, and what is wrong with it."""
     documents = [path for path in [*PAGES, *OTHERS] if is_there(path)]
     results = [links(path) for path in documents]
     results += [check(path) for path in documents if path != PAST for check in (names, form)]

@@ -1,10 +1,10 @@
 #!/usr/bin/env python3
-"""Holds docs/PROOF.md to the sources.
+"""Checks docs/PROOF.md against the sources.
 
     proof.py > WHAT WENT WRONG
     proof.py --write            makes its table of sizes anew
 
-It lists the definitions that must be believed: from the contracts that carry the theorem, the imports of definitions are
+The page lists the definitions that must be believed: from the contracts that carry the theorem, the imports of definitions are
 followed from file to file; each file met is in the list once, and no other is. None of them is in a folder specs/inner,
 where definitions for private functions stand. What it quotes stands in a source or a definition, whatever its line breaks. Each
 figure of its table of sizes is within a twentieth of what is there. The last line says how many files, quotes and figures
@@ -45,7 +45,7 @@ def of_crate(path: str) -> str:
 
 
 def home(crate: str, module: str) -> Optional[str]:
-    """The file of definitions that a crate knows by this name, its own or one that it passes on; None if it is none:
+    """Return the file of definitions that a crate knows by this name, its own or one that it passes on; None if there is none:
     what the prover makes of Rust's own types has no file, and what the kit has is not listed."""
     file, lib = f"{crate}/specs/{module.replace('.', '/')}.antt", f"{crate}/specs/Lib.antt"
     if os.path.exists(os.path.join(CRATES, file)):
@@ -57,7 +57,7 @@ def home(crate: str, module: str) -> Optional[str]:
 
 
 def imports(path: str) -> List[str]:
-    """The files of definitions that a file imports."""
+    """Return the files of definitions that a file imports."""
     homes = (home(crate, module) for crate, module in IMPORT.findall(of_crate(path)))
     return [file for file in homes if file]
 
@@ -102,7 +102,7 @@ def quotes(page: str) -> Tuple[int, List[str]]:
 
 
 def files_by_row() -> List[Tuple[str, List[str]]]:
-    """What the table has a row for, and its files."""
+    """Return what the table has rows for, each with its files."""
 
     def below(form: str) -> List[str]:
         paths = glob.glob(os.path.join(CRATES, "*", form), recursive=True)

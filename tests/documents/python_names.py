@@ -1,5 +1,5 @@
 #!/usr/bin/env python3
-"""Holds that what the documents name of the Python package in their running text is there.
+"""Checks that what the documents name of the Python package in their running text is there.
 
     python_names.py > WHAT WENT WRONG
 
@@ -23,14 +23,14 @@ from pages import ROOT, text_of, without_blocks
 
 PAGES = ["README.md", "docs/GUIDE.md", "docs/LIBRARY.md", "python/README.md"]
 PACKAGE = "histdesk"
-# Words of the section on Python that are of other packages.
+# Words of the section on Python that name things of other packages.
 OTHERS = {PACKAGE, "distributed", "numpy", "pandas", "timedelta", "timedelta64"}
 # What reads as an attribute and is none: names of files, and fields with a modifier.
 NO_ATTRIBUTE = re.compile(r"\.(data|hex|log2|rt|script|so|trace|usecs)\b")
 
 
 class Member(NamedTuple):
-    """What a name stands for: the class that it is of or answers, if that is known, and the parameters that it takes."""
+    """What a name stands for: the class of its value or of what it returns, if known, and the parameters that it takes."""
 
     kind: str
     parameters: FrozenSet[str] = frozenset()
@@ -42,7 +42,7 @@ Members = Dict[str, Member]
 
 
 def kind_of(annotation: Optional[ast.expr]) -> str:
-    """The class that an annotation names, by itself or as an optional one."""
+    """Return the class that an annotation names, by itself or as an optional one."""
     match = re.fullmatch(r"(?:Optional\[)?['\"]?(\w+)['\"]?\]?(?: \| None)?", ast.unparse(annotation) if annotation else "")
     return match[1] if match else ""
 
@@ -53,7 +53,7 @@ def of_function(function: ast.FunctionDef) -> Member:
 
 
 def of_object(method: ast.FunctionDef) -> Iterator[Tuple[str, Member]]:
-    """What a method assigns to `self`."""
+    """Yield what a method assigns to `self`."""
     for node in ast.walk(method):
         targets = node.targets if isinstance(node, ast.Assign) else [node.target] if isinstance(node, ast.AnnAssign) else []
         for target in targets:
@@ -62,7 +62,7 @@ def of_object(method: ast.FunctionDef) -> Iterator[Tuple[str, Member]]:
 
 
 def members_of(kind: ast.ClassDef, classes: Dict[str, ast.ClassDef]) -> Members:
-    """What a class has: fields, methods, and what its methods assign; and what it inherits from classes of the package."""
+    """Return what a class has: fields, methods, what its methods assign, and what it inherits from classes of the package."""
     members: Members = {}
     for base in kind.bases:
         base_class: Any = {"NamedTuple": tuple}.get(kind_of(base), getattr(builtins, kind_of(base), None))
@@ -79,11 +79,11 @@ def members_of(kind: ast.ClassDef, classes: Dict[str, ast.ClassDef]) -> Members:
 
 
 def package() -> Dict[str, Members]:
-    """What each public class has, by its name; under the package's own name, what the package has."""
+    """Return what each public class has, by its name; under the package's own name, what the package has."""
     kinds: Dict[str, Members] = {PACKAGE: {}}
     modules = [ast.parse(path.read_text(encoding="utf-8")) for path in sorted(Path(ROOT, "python", PACKAGE).glob("*.py"))]
     classes = {node.name: node for module in modules for node in module.body if isinstance(node, ast.ClassDef)}
-    # Those for type checkers are of names that are loaded later.
+    # The imports for type checkers are of names that are loaded later.
     for import_ in ast.walk(ast.parse(text_of(f"python/{PACKAGE}/__init__.py"))):
         if not isinstance(import_, ast.ImportFrom) or not import_.level:
             continue
@@ -117,7 +117,7 @@ class Page:
             self.wrong.append(f"{self.path}: `{code}`: the package has no {name}")
 
     def meant(self, node: ast.expr, code: str) -> List[Member]:
-        """What an expression may stand for; nothing if that isn't known."""
+        """Return what an expression may stand for; an empty list if that isn't known."""
         if isinstance(node, ast.Name):
             # The package, a class of it, or a variable, which may have the name of a function.
             return [Member(kind) for kind in self.kinds if kind == node.id or node.id not in self.kinds and kind != PACKAGE]
@@ -131,13 +131,13 @@ class Page:
             return []
         owners = self.meant(node.value, code)
         members = [self.kinds[owner.kind][node.attr] for owner in owners if node.attr in self.kinds.get(owner.kind, {})]
-        # What isn't of the package, as a number, may have anything.
+        # What isn't of the package, such as a number, may have anything.
         if members or (owners and all(owner.kind in self.kinds for owner in owners)):
             self.hold(node.attr, code, bool(members))
         return members
 
     def look(self, code: str) -> None:
-        """Holds the names of a piece of code, if it reads as one value of Python with a dot."""
+        """Check the names of a piece of code, if it reads as one value of Python with a dot."""
         try:
             tree = ast.parse(("_" if code.startswith(".") else "") + code.replace("(..)", "(...)"), mode="eval").body
         except SyntaxError:
@@ -146,7 +146,7 @@ class Page:
             self.meant(tree, code)
 
     def look_alone(self, code: str) -> None:
-        """Holds a word, or a parameter with its value, that stands by itself."""
+        """Check a word, or a parameter with its value, that stands by itself."""
         members = [member for kind in self.kinds.values() for member in kind.values()]
         parameters = {name for member in members for name in member.parameters}
         names = {*OTHERS, *dir(builtins), *parameters}.union(*self.kinds.values())
@@ -158,7 +158,7 @@ class Page:
 
 
 def codes(text: str) -> List[str]:
-    """What stands in backquotes in the running text, also over the end of a line."""
+    """Return what stands in backquotes in the running text, also over the end of a line."""
     return [" ".join(code.split()) for code in re.findall(r"`([^`]+)`", "\n".join(without_blocks(text)))]
 
 

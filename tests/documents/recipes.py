@@ -1,12 +1,12 @@
 #!/usr/bin/env python3
-"""Holds the tables of the guide's recipes against a reckoning that knows nothing of triggers.
+"""Compares the tables of the guide's recipes with a calculation that knows nothing of triggers.
 
     recipes.py HISTDESK HISTWATCH
 
-The recipes are the sections of docs/GUIDE.md that have a number; sessions.py holds that they show what their commands print.
-Here all rows of each table that a command prints are held against a reckoning over the lines of the trace: of each task what
-happened to it, in order. Each script of examples/recipes stands in the guide, and runs over every example without a refusal,
-whatever its CPUs and tasks. The last line says how many things hold.
+The recipes are the sections of docs/GUIDE.md that have a number; sessions.py checks that they show what their commands print.
+Here all rows of each table that a command prints are compared with a calculation over the lines of the trace, from what
+happened to each task, in order. Each script of examples/recipes stands in the guide, and runs over every example without a
+refusal, whatever its CPUs and tasks. The last line says how many things hold.
 """
 
 import os
@@ -23,14 +23,14 @@ from sessions import Count, Place, blocks, lacking, steps
 
 GUIDE = "docs/GUIDE.md"
 BEFORE, AFTER = "recipes-before.trace", "recipes.trace"
-# Recordings of other machines, CPUs and tasks too.
+# Among these are recordings of other machines, CPUs and tasks.
 TRACES = [BEFORE, AFTER, "wakeups.trace", "who-wakes.trace", "full-table.trace", "two-wakings.trace"]
 
 # ---- what the recipes print
 
 
 def recipes(text):
-    """The number of each recipe, and the commands of its sessions."""
+    """Yield the number of each recipe, and the commands of its sessions."""
     for part in re.split(r"^##+ ", text, flags=re.MULTILINE):
         number = re.match(r"[0-9]+(?=\.)", part)
         if number:
@@ -38,7 +38,7 @@ def recipes(text):
 
 
 def tables(output):
-    """Of each table that was printed its rows: the parts of the key as text, and the numbers."""
+    """Return the rows of each table that was printed: the parts of the key as text, and the numbers."""
     result = []
     for part in output.split("# event histogram\n")[1:]:
         rows = re.findall(r"^\{ (.*) \} hitcount: +([0-9]+)(?:  \w+: +([0-9]+))?$", part, re.MULTILINE)
@@ -48,10 +48,10 @@ def tables(output):
     return result
 
 
-# ---- the reckoning
+# ---- the calculation
 
-# What happened: a task (name, pid) was `woken`, made (`new`), switched to (`in`) or away from (`out`, with its state). By whom
-# and how: the task that ran, and the third flag, which is h or s in interrupts.
+# What happened: a task (name, pid) was `woken`, made (`new`), switched to (`in`) or away from (`out`, with its state). `by` is
+# the task that ran, and `flag` the third flag, which is h or s in interrupts.
 Happened = namedtuple("Happened", "stamp cpu what name pid state by flag")
 LINE = re.compile(r" *(.+)-(\d+) +\[(\d+)\] ..(.).. +(\d+)\.(\d{6}): (\w+): (.*)")
 WAKE = re.compile(r"comm=(.*) pid=(\d+) prio=")
@@ -69,7 +69,7 @@ def things_of(line):
 
 
 def things_in(name):
-    """All that things_of, in order of time, and at one time of CPUs; the idle task left out."""
+    """Return all things of a trace, in order of time, and at one time in order of CPUs, without those of the idle task."""
     with open(os.path.join(ROOT, "examples", name), encoding="latin-1") as file:
         things = [thing for line in file if line[0] != "#" for thing in things_of(line.rstrip("\n"))]
     return [thing for thing in sorted(things, key=lambda thing: thing[:2]) if thing.pid != "0"]
@@ -83,7 +83,7 @@ def by_task(things):
 
 
 def neighbours(things, first, second, among):
-    """Of each task two things that follow each other among those of some kinds."""
+    """Yield, for each task, a `first` thing and a `second` one that follows it among those of some kinds."""
     for life in by_task(things):
         life = [thing for thing in life if thing.what in among]
         for one, two in zip(life, life[1:]):
@@ -92,7 +92,7 @@ def neighbours(things, first, second, among):
 
 
 def summed(pairs, key):
-    """How many pairs there are under each key, and the sum of their times."""
+    """Return how many pairs there are under each key, and the sum of their times."""
     table = {}
     for one, two in pairs:
         count, total = table.get(key(one, two), (0, 0))
@@ -121,13 +121,14 @@ def preemptions(things):
 
 
 def waits(things):
-    """From the last waking before a switch to the task; but if it ran as it was woken, and then could run on."""
+    """Return waits from the last waking before a switch to the task, unless the task ran as it was woken, and was then
+    switched from while it could run on."""
     kept = [thing for thing in things if thing.what != "out" or thing.state[0] == "R"]
     return neighbours(kept, "woken", "in", ("in", "out", "woken"))
 
 
 def stamps_by(things, save, read_at, key):
-    """What stamps give that are kept by key: the last saved one is read once."""
+    """Yield what stamps give that are kept by key: the last saved one is read once."""
     saved = {}
     for thing in things:
         if save(thing):
@@ -137,13 +138,13 @@ def stamps_by(things, save, read_at, key):
 
 
 def runs_by_name(things):
-    """A switch saves before it reads: its `in` stands before its `out`."""
+    """Yield what stamps by name give. A switch saves before it reads, so its `in` stands before its `out`."""
     in_order = sorted(things, key=lambda thing: (thing.stamp, thing.cpu, thing.what))
     return stamps_by(in_order, lambda thing: thing.what == "in", lambda thing: thing.what == "out", lambda thing: thing.name)
 
 
 def careless_waits(things, cpu=None):
-    """With neither a clearing reader nor a thought of what is read elsewhere."""
+    """Yield what stamps by pid give with no reader that clears them, and without regard to what is read elsewhere."""
 
     def ends(thing):
         return thing.what == "in" and cpu in (None, thing.cpu)
@@ -160,7 +161,7 @@ def wakings(things, key, flags=None):
 
 
 def takers(things):
-    """Who was preempted, and by whom: the two halves of a switch."""
+    """Count who was preempted, and by whom: the two halves of a switch."""
     turns = zip(things, things[1:])
     return counts_of(
         (one.name, two.name) for one, two in turns if one.what == "out" and one.state[0] == "R" and two.what == "in"
@@ -168,7 +169,7 @@ def takers(things):
 
 
 def expected_tables():
-    """Of each recipe, and of each of its commands that prints tables, the tables."""
+    """Return, for each recipe, the tables of each of its commands that prints tables."""
     all_of = things_in(AFTER)
     on_one = [(one, two) for one, two in waits(all_of) if two.cpu == "001"]
     waker = lambda thing: (thing.by, thing.name)

@@ -1,12 +1,12 @@
 #!/usr/bin/env python3
-"""Holds that docs/REFERENCE.md says what the sources say and what the program answers.
+"""Checks that docs/REFERENCE.md says what the sources say and what the program answers.
 
     reference.py [HISTDESK] > WHAT WENT WRONG
 
 From the sources: the number, the name and the words of each fault and each refusal, what the program says on standard
 error, each limit, each field, and the words of the kernel's language that are left out. From the program: its answers to
-the examples of lines, patterns, filters and triggers; without HISTDESK, the launcher is asked. Sessions in console blocks
-are sessions.py's. The last line says how many things hold.
+the examples of lines, patterns, filters and triggers; without HISTDESK, the launcher is asked. sessions.py checks the
+sessions in console blocks. The last line says how many things hold.
 """
 
 import os
@@ -51,7 +51,7 @@ LIMITS = {
     "open `(` and `!` in a filter": ("ft_filter/src/reading.rt", "MOST_OPEN"),
 }
 MAXIMA = {"i32::MAX": 2**31 - 1, "u32::MAX": 2**32 - 1}
-# Which events have the fields of an owner, by the first words of the row of fields.
+# The owners whose fields an event has, by the first words of the event's row of fields.
 OWNERS = {
     "every event": ["Every"],
     "`sched_waking`, `sched_wakeup`, `sched_wakeup_new`": ["Woken", "Wakes"],
@@ -76,18 +76,18 @@ def source(path):
 
 
 def section(name):
-    """What stands below a heading, up to the next one."""
+    """Return what stands below a heading, up to the next one."""
     return re.search(rf"^#+ {re.escape(name)}\n(.*?)(?=^##|\Z)", REFERENCE, re.DOTALL | re.MULTILINE)[1]
 
 
 def rows(name):
-    """The cells of the rows of a section's first table, without its head."""
+    """Return the cells of the rows of a section's first table, without its head."""
     table = re.search(r"(?:^\|.*\n)+", section(name), re.MULTILINE)[0]
     return [[cell.strip() for cell in line.strip("|").split("|")] for line in table.split("\n")[2:-1]]
 
 
 def compare(name, rows, expected):
-    """How many things a table has to say, and what it says otherwise."""
+    """Return how many things a table has to say, and what is wrong in it."""
     wrong = [f"{name} lacks {thing}" for thing in expected if thing not in rows]
     wrong += [f"{name} says {thing}" for thing in rows if thing not in expected]
     return len(expected), wrong + [f"{name} says {thing} twice" for thing in set(rows) if rows.count(thing) > 1]
@@ -97,7 +97,7 @@ def compare(name, rows, expected):
 
 
 def fault_table(name):
-    """Numbers, names and words. What a program puts into the words is a word of capitals in the table."""
+    """Compare numbers, names and words. What a program puts into the words is a word in capitals in the table."""
     text = source(FAULTS[name])
     words = {of: words for words, of in re.findall(r'#\[error\("([^"]*)"\)\]\s+(\w+)', text)}
     numbers = re.findall(r"\w+::(\w+)(?:\([_, ]+\))? => (\d+),", text)
@@ -113,7 +113,7 @@ def standard_error():
 
 
 def value(path, form):
-    """A limit's value in a file."""
+    """Return a limit's value in a file."""
     text = re.search(form if "(" in form else rf"const {form}: \w+ = ([\w:]+);", source(path))[1]
     return MAXIMA[text] if text in MAXIMA else int(text.replace("_", ""))
 
@@ -127,7 +127,7 @@ def limits():
 
 
 def fields():
-    """The fields by kind and event, each as a pair of names."""
+    """Compare the fields, each as a pair of an event and of the field's kind and name."""
     owned = re.findall(r'=> (number|text)\(b"(\w+)", Owner::(\w+)\)', source("ft_fields/src/field.rt"))
     expected = [(event, f"{kind} {name}") for event, owners in OWNERS.items() for kind, name, owner in owned if owner in owners]
     table = []
@@ -139,7 +139,7 @@ def fields():
 
 
 def left_out():
-    """The words that are left out stand in the rules of faults and in the list."""
+    """Check that the words that are left out stand in the rules of faults and in the list."""
     words = {word for path in ("draft", "lists") for word in LEFT_OUT.findall(source(f"ft_head/src/{path}.rt"))} - TAKEN
     names = ["Trigger faults", "Left out"]
     lists = {name: re.findall(r"`\.?([^`]+)`", section(name)) for name in names}
@@ -152,20 +152,20 @@ def left_out():
 
 
 def answers(*commands):
-    """What the program prints, line by line."""
+    """Return the lines that the program prints for these commands."""
     script = "".join(f"{command}\n" for command in commands).encode()
     ran = subprocess.run([HISTDESK], input=script, stdout=subprocess.PIPE, check=False)
     return ran.stdout.decode().split("\n")[:-1]
 
 
 def canonical(lines):
-    """The canonical text that hist has printed."""
+    """Return the canonical text that hist has printed, or the last line if it has printed none."""
     texts = [line[len("# trigger info: ") : -len(" [active]")] for line in lines if line.startswith("# trigger info: ")]
     return texts[0] if texts else lines[-1]
 
 
 def examples(kind):
-    """The examples of a block, each with its answer: on the same line, or on one of its own, after four spaces."""
+    """Return the examples of a block, each with its answer: on the same line, or on one of its own, after four spaces."""
     block = re.search(rf"^```{kind}\n(.*?)^```$", REFERENCE, re.DOTALL | re.MULTILINE)[1]
     lines, pairs = block.split("\n")[:-1], []
     for line, after in zip(lines, [*lines[1:], ""]):
@@ -186,7 +186,7 @@ def of_line(line):
 
 
 def of_pattern(pattern, answer):
-    """Which of the texts of the answer the pattern matches, in the answer's form."""
+    """Return which of the texts of the answer the pattern matches, in the answer's form."""
     texts = [name for part in answer[len("matches ") :].split("; not ") for name in part.split(", ")]
     line = "insert a-1 [0] 1.000000: sched_waking: comm={} pid=1 prio=1 target_cpu=0"
     kept = answers(*map(line.format, texts), f'attach sched_waking hist:keys=comm if comm ~ "{pattern}"', "hist 1")
@@ -213,7 +213,7 @@ def of_part(part):
 
 
 def wrong_answers(kind, ask):
-    """The examples of a block that are answered otherwise."""
+    """Return how many examples a block has, and those that are answered otherwise."""
     # What is said of a fault after a colon is for the reader.
     expected = {example: re.sub(r"^((?:fault )?\d+(?: at \d+)?): .*", r"\1", answer) for example, answer in examples(kind)}
     replies = {example: ask(example) for example in expected}
@@ -227,7 +227,7 @@ def patterns():
 
 
 def row_pattern():
-    """The pattern for rows reads the parts of one whose task has a name like the rest of a row."""
+    """Check that the pattern for rows reads the parts of a row whose task has a name like the rest of a row."""
     pattern, name = re.search(r"^```row\n(.*)$", REFERENCE, re.MULTILINE)[1], "w } hitcount: 7  prio: 8"
     line = f"insert a-1 [0] 1.000000: sched_waking: comm={name} pid=9 prio=5 target_cpu=0"
     row = next(line for line in answers(line, "attach sched_waking hist:keys=comm,pid:vals=prio", "hist 1") if line[:1] == "{")
@@ -237,7 +237,7 @@ def row_pattern():
 
 
 def deepest():
-    """As many open levels as the table allows are a filter, and no more."""
+    """Check that a filter may have as many open levels as the table allows, and no more."""
     most = value(*LIMITS["open `(` and `!` in a filter"])
     texts = [text for count in (most, most + 1) for text in ("(" * count + "pid==1" + ")" * count, "!" * count + "pid==1")]
     results = ["7" == of_filter(text) for text in texts]

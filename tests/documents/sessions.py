@@ -1,9 +1,9 @@
 #!/usr/bin/env python3
-"""Holds that documents show what their commands print.
+"""Checks that documents show what their commands print.
 
     sessions.py HISTDESK HISTWATCH [PAGE]..
 
-The pages are all that pages.py knows; the script of a page of READ reads its other blocks. By the kind of a block:
+The pages are all that pages.py knows; the script of a page of READ reads its other blocks. These are the kinds of blocks:
 
 - `console` is a session: `$ ` begins a command, `> ` goes on with one, and its output follows, where a line `...` stands for
   lines that are left out. Lines after `desk> ` are typed on a terminal. Bash runs each command, in a folder with links to the
@@ -12,8 +12,8 @@ The pages are all that pages.py knows; the script of a page of READ reads its ot
 - `pycon` is a session of Python; those of a page are one session.
 - `python` is a program, which ends well and prints the block of no kind that stands right after it, or nothing.
 - `c` is compiled, with warnings as faults.
-- `sh` has commands that need root, the reader's own files or long: they are not run, and no output stands after them. Bash
-  has to read them.
+- `sh` has commands that need root, the reader's own files or much time: they are not run, and no output stands after them.
+  Bash has to be able to read them.
 - A block of no kind is a form or a picture, and `rust` and `rattle` are code of this repository, which is not run here.
 
 A block after a line `<!-- not run: WHY -->` is not run. What needs the library or numpy isn't tried if these are missing.
@@ -39,17 +39,17 @@ sys.dont_write_bytecode = True
 
 from pages import PAGES, ROOT, is_there, text_of
 
-# Kinds of blocks that no script runs here, and those that the script of a page reads, whatever they are.
+# Kinds of blocks that are not run here, and pages whose own script reads their other blocks, whatever these are.
 CODE, READ = ["rust", "rattle"], ["docs/REFERENCE.md"]
 PROMPT = "desk> "
-# Runs the word after it as a session of Python.
+# Runs its argument as a session of Python.
 DOCTEST = """
 import doctest, sys
 test = doctest.DocTestParser().get_doctest(sys.argv[1], {}, "the page", None, 0)
 sys.exit(not test.examples or doctest.DocTestRunner().run(test).failed)
 """
 COMPILE = ["cc", "-std=c11", "-Wall", "-Wextra", "-Werror", "-Iinclude", "-fsyntax-only", "-xc", "-"]
-# A command that takes more seconds fails.
+# A command that takes more seconds than this fails.
 LIMIT = 120
 
 # ---- the document
@@ -59,20 +59,20 @@ STEP = re.compile(r"^\$ (.*\n(?:> .*\n)*)((?:(?!\$ ).*\n)*)", re.MULTILINE)
 
 
 def steps(block):
-    """The commands of a session, with what they print."""
+    """Return the commands of a session, with what they print."""
     return [(command.replace("\n> ", "\n"), output) for command, output in STEP.findall(block)]
 
 
 def shows(expected, output):
-    """Whether the output is what the document shows: pieces of whole lines, in order, `...` for what is left out."""
+    """Return whether the output is what the document shows: pieces of whole lines, in order, `...` for what is left out."""
     pieces = re.split(r"^\.\.\.\n", expected, flags=re.MULTILINE)
     form = r"(?:.*\n)*?".join(map(re.escape, pieces))
     return re.fullmatch(form, output) is not None
 
 
 def blocks(text):
-    """Each block of a document: the line on which it begins, why it isn't run, its kind, its text, and whether it stands
-    right after the one before it, with one line of words between them at most."""
+    """Yield each block of a document: the line on which it begins, why it isn't run, its kind, its text, and whether it stands
+    right after the one before it, with at most one line of words between them."""
     end = 0
     for match in BLOCK.finditer(text):
         between = [line for line in text[end : match.start()].split("\n") if line.strip()]
@@ -101,13 +101,13 @@ class Place:
         self.environment = {**os.environ, "PATH": path, "PYTHONPATH": "python", "HISTDESK": histdesk, **state}
 
     def printed(self, *words, text=""):
-        """What a command prints, and its status."""
+        """Return what a command prints, and its status."""
         streams = {"input": text.encode(), "stdout": subprocess.PIPE, "stderr": subprocess.STDOUT}
         done = subprocess.run(words, cwd=self.folder, env=self.environment, timeout=LIMIT, check=False, **streams)
         return done.stdout.decode(), done.returncode
 
     def typed(self, command, lines):
-        """What a terminal shows of a prompt at which lines are typed, and the status after Ctrl-D."""
+        """Return what a terminal shows of a prompt at which lines are typed, and the status after Ctrl-D."""
         master, slave = pty.openpty()
         fcntl.ioctl(slave, termios.TIOCSWINSZ, struct.pack("4H", 1000, 9000, 0, 0))
         words = ["setsid", "-c", *shlex.split(command)]
@@ -124,7 +124,7 @@ class Place:
 
 
 def up_to_prompt(terminal):
-    """What a terminal shows up to the next prompt, or to its end."""
+    """Return what a terminal shows up to the next prompt, or to its end."""
     text = b""
     while not text.endswith(PROMPT.encode()) and select.select([terminal], [], [], LIMIT)[0]:
         try:
@@ -136,13 +136,13 @@ def up_to_prompt(terminal):
 
 @functools.lru_cache(maxsize=None)
 def is_here(code):
-    """Whether these lines of Python run."""
+    """Return whether these lines of Python run."""
     words = [sys.executable, "-B", "-c", code]
     return not subprocess.run(words, cwd=ROOT, env={**os.environ, "PYTHONPATH": "python"}, stderr=subprocess.DEVNULL).returncode
 
 
 def lacking(kind, text):
-    """What a command needs that isn't here; None if it can be tried."""
+    """Return what a command needs that isn't here; None if it can be tried."""
     reports = kind in ("pycon", "python") or re.search(r"\btools/(waits|why|diff|view|export|desk)\b", text)
     if (reports or "tools/explain" in text) and not is_here("import histdesk"):
         return "the library"
@@ -150,7 +150,7 @@ def lacking(kind, text):
 
 
 class Count:
-    """How many things hold, and what is message of the others."""
+    """How many things were checked, and the messages of those that don't hold."""
 
     def __init__(self):
         self.things, self.wrong, self.missing, self.left = 0, [], Counter(), Counter()
@@ -168,7 +168,7 @@ class Count:
 
 
 def try_command(place, title, command, expected, count):
-    """Whether a command of a session prints what it should; what it prints."""
+    """Check that a command of a session prints what it should, and return what it prints."""
     lines = [line[len(PROMPT) :] for line in expected.splitlines() if line.startswith(PROMPT)]
     output, status = place.typed(command, lines) if lines else place.printed("bash", "-c", command)
     good = shows(expected, output) and (status == 0 or "refused" in output)
@@ -177,13 +177,13 @@ def try_command(place, title, command, expected, count):
 
 
 def try_run(place, title, expected, count, words, text=""):
-    """Whether a command ends well and prints just that."""
+    """Check that a command ends well and prints exactly what is expected."""
     output, status = place.printed(*words, text=text)
     count.hold(status == 0 and shows(expected, output), f"{title}: ends with {status} and prints\n{output}")
 
 
 def try_page(place, page, count):
-    """Runs the blocks of a page."""
+    """Run the blocks of a page."""
     session, parts = "", list(blocks(text_of(page)))
     for at, (line, why, kind, text, is_next) in enumerate(parts):
         title, before = f"{page}:{line}", parts[at - 1] if at and is_next else (0, None, None, "", False)

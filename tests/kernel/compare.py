@@ -3,9 +3,10 @@
 
     compare.py CPUS FOLDER PROGRAM
 
-FOLDER has cases.json (see triggers.py), `out` with what the guest showed, and gets the scripts that PROGRAM runs,
+FOLDER has cases.json (see triggers.py) and `out` with what the guest showed, and gets the scripts that PROGRAM runs,
 with what it printed. A test is a trigger's table (its head, its rows, their order, its totals), its list of latencies, or
-a refusal. Prints each difference with its trigger and both rows, the known differences apart, and the counts at the end.
+a refusal. It prints each difference with its trigger and both rows, known differences marked as such, and the counts at
+the end.
 """
 
 import collections
@@ -23,7 +24,7 @@ from shown import desk_runs, kernel_blocks, refusals, text_of, what_is_lost
 from tables import key_of, read_table, read_trace, replayed, with_ends
 from model_trigger import Trigger
 
-# So many rows of a difference are shown, and so many bytes of a trigger.
+# How many rows of a difference are shown, and how many bytes of a trigger.
 MOST_SHOWN, MOST_TEXT = 3, 200
 TIE = "stamps of two CPUs tie, and the desk goes by CPU"
 INHERITED = "a task has inherited the priority -1, and the end of its bucket is modulo 2^64"
@@ -32,7 +33,7 @@ counts = collections.Counter()
 
 
 def text_shown(case):
-    """The trigger of a case; of a very long one, both ends."""
+    """Return the text of a case's trigger; of a very long one, both ends."""
     text = f"{case['event']} {case['text']}"
     return text if len(text) <= MOST_TEXT else f"{text[: MOST_TEXT // 2]} .. {text[-MOST_TEXT // 2 :]}"
 
@@ -48,7 +49,7 @@ def fails(case, what, lines):
 
 
 def is_known(case, what, why, lines):
-    """A known difference is what is wanted there: it passes, and is told."""
+    """Count and print a known difference, which is what is wanted there, so that it passes."""
     counts["known"] += 1
     passes()
     print(f"known: {what}: {text_shown(case)}: {why}")
@@ -57,7 +58,7 @@ def is_known(case, what, why, lines):
 
 
 def row_lines(kernel, desk):
-    """The first rows on which two tables differ, those of one key together."""
+    """Return the first rows in which two tables differ, those of one key together."""
     left, right, lines = dict(kernel.rows), dict(desk.rows), []
     keys = [key for key in dict.fromkeys([*left, *right]) if left.get(key) != right.get(key)]
     for key in keys[:MOST_SHOWN]:
@@ -73,7 +74,7 @@ def row_text(key, sums):
 
 
 def table_lines(kernel, desk, sort, with_totals):
-    """How two tables differ, in the rows, in their order or in the totals."""
+    """Return how two tables differ, in the rows, in their order or in the totals."""
     if len(kernel.rows) != len(desk.rows) or dict(kernel.rows) != dict(desk.rows):
         return "rows", row_lines(kernel, desk)
     if with_totals and kernel.totals != desk.totals:
@@ -87,7 +88,7 @@ def table_lines(kernel, desk, sort, with_totals):
 
 
 def differs(case, trigger, desk):
-    """How the kernel's table differs from this one: what, and the lines that show it. A reader's own variable is summed
+    """Return in what the kernel's table differs from this one, and the lines that show it. A reader's own variable is summed
     by its synthetic event's trigger."""
     kernel, own = read_table(case["block"], trigger.keys), []
     if trigger.saves:
@@ -105,7 +106,7 @@ def differs(case, trigger, desk):
 
 
 def compares(case, trigger, group, events, cpus):
-    """One case that both sides took."""
+    """Compare a case that both sides took."""
     desk = read_table(case["answer"], trigger.keys)
     counts.update(tables=1, rows=len(desk.rows), empty=not desk.rows)
     if not trigger.own and "known" not in case:
@@ -126,7 +127,7 @@ def compares(case, trigger, group, events, cpus):
 
 
 def may_differ(case, trigger, desk, replayed_table, cpus):
-    """Why this table of the kernel may differ from the desk's, or None."""
+    """Return why this table of the kernel may differ from the desk's, or None."""
     if case["inherits"]:
         case = with_ends(case)
         if not differs(case, trigger, desk)[0]:
@@ -139,23 +140,23 @@ def may_differ(case, trigger, desk, replayed_table, cpus):
 
 
 def has_dropped(kernel, desk):
-    """Whether the kernel's table lacks just as many hits as it has dropped, of which the desk, whose table isn't full, has
-    dropped none."""
+    """Return whether the kernel's table lacks exactly as many hits as the kernel has dropped, while the desk, whose table
+    isn't full, has dropped none."""
     counted = {key: sums["hitcount"] for key, sums in kernel.rows}
     missing = [sums["hitcount"] - counted.pop(key, 0) for key, sums in desk.rows]
     return not counted and min(missing, default=0) >= 0 and kernel.totals[2] == sum(missing) > desk.totals[2] == 0
 
 
 def in_line_order(case, group, events):
-    """The case's table and latencies of a replay in the order of the trace's lines, from which only ties turn the desk's.
-    Its rows have no order."""
+    """Return the case's table and latencies from a replay in the order of the trace's lines, from which the desk's order
+    differs only in ties. The table's rows have no order."""
     return replayed(group, events)[group.index(case)]
 
 
 def compares_latencies(case, trigger, group, events, cpus):
-    """The kernel's synthetic events, one for each latency, beside the desk's list, CPU by CPU: between two CPUs they may
-    stand in another order than the switches that made them, since each has a stamp of its own. What a full table has
-    dropped makes no event; the desk lists it."""
+    """Compare the kernel's synthetic events, one for each latency, with the desk's list, CPU by CPU: between two CPUs the
+    events may stand in another order than the switches that made them, since each has a stamp of its own. What a full table
+    has dropped makes no event; the desk lists it."""
     form = re.compile(rf"\[(\d+)\] .*: {case['synthetic']}: lat=(\d+) ")
     found = [form.search(event["text"] + " ") for event in events]
     kernel = by_cpu((int(one[1]), int(one[2])) for one in found if one)
@@ -186,7 +187,7 @@ def compares_latencies(case, trigger, group, events, cpus):
 
 
 def by_cpu(latencies):
-    """In the order of the CPUs, and on each in the order given."""
+    """Return the latencies in the order of the CPUs, and on each CPU in the order given."""
     return sorted(latencies, key=lambda latency: latency[0])
 
 
@@ -212,8 +213,8 @@ def compares_case(case, group, events, cpus):
 
 
 def has_whole_trace(out, events, loaded):
-    """Whether no event was lost, the trace has each that the buffers held, in the order of their stamps, and the desk has
-    read all; and whether the workload ended well."""
+    """Return whether no event was lost, the trace has each that the buffers held, in the order of their stamps, and the desk
+    has read all; and whether the workload ended well."""
     lost, held = what_is_lost(out)
     print("".join(f"{line}\n" for line in lost), end="")
     print(f"{held} events held, {len(events)} lines in the trace, {loaded} events loaded")

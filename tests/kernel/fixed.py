@@ -1,6 +1,6 @@
 """The fixed triggers of kernel.sh. Each list is a group: savers stand before their readers.
 
-Where the two sides are known to differ, a case says how (`known`) and why (`why`); compare.py then wants that very
+If the two sides are known to differ, a case says how (`known`) and why (`why`); compare.py then wants exactly that
 difference, and lists it. `known` is one of
 
     kernel refuses   the kernel refuses the trigger, the desk takes it
@@ -9,8 +9,8 @@ difference, and lists it. `known` is one of
     order            the rows are the same, and stand in another order
     both refuse      neither takes it: no difference
 
-A difference that newer kernels don't have says so (`until`), and what is wanted of those (`then`): one of the above, or ""
-for no difference.
+If newer kernels don't have the difference, the case says so (`until`), and what is wanted of those (`then`): one of the
+above, or "" for no difference.
 """
 
 JOB, TO, FROM = ' if comm ~ "job*"', ' if next_comm ~ "job*"', ' if prev_comm ~ "job*"'
@@ -18,7 +18,7 @@ WAKING, WAKEUP, NEW, SWITCH = "sched_waking", "sched_wakeup", "sched_wakeup_new"
 
 
 def of_length(count, keys):
-    """A trigger with so many bytes."""
+    """Return a trigger with `count` bytes."""
     text = f"hist:keys={keys}{JOB}{' && pid > 0' * 300}"
     return text + " " * (count - len(text) - len("&& pid > 1")) + "&& pid > 1"
 
@@ -68,7 +68,7 @@ ALIKE = [
 ]
 
 # With one CPU: tables that overflow, a plain one, a saver's and a reader's. Many tasks share a key of the last pair, so
-# there the order of all events tells.
+# the order of all events matters there.
 ON_ONE_CPU = [
     [(WAKING, "hist:keys=pid:size=128:sort=pid" + JOB)],
     [(SWITCH, "hist:keys=prev_pid,next_comm:vals=next_prio:size=65:sort=hitcount.descending" + FROM)],
@@ -112,8 +112,8 @@ KNOWN = [
     ("order", "a name that is a key and a value sorts by the value", WAKING, "hist:keys=prio:vals=prio:sort=prio" + JOB),
 ]
 
-# What newer kernels do as the desk does: the first release of each series that does, how older ones differ, why, what is
-# wanted of newer ones, and the trigger.
+# What newer kernels do as the desk does: the first release of each series that does so, how older ones differ, why, what
+# is wanted of newer ones, and the trigger.
 LOG2 = 'hist:keys=prio.log2,pid if comm == "dline"'
 MENDED = [
     (["6.1.191", "6.12.115"], "rows", "`.log2` of -1 shifts out of bounds", "", WAKING, LOG2),
@@ -135,7 +135,7 @@ READER = [
 ]
 READER[1] |= {"known": "kernel refuses", "why": "`vals=$own` of a reader"}
 
-# With several CPUs; the number of the only one is 0.
+# With several CPUs, since the number of the only one is 0.
 KNOWN_ON_MORE = [
     ("rows", "`common_cpu & N` never holds", WAKING, "hist:keys=common_cpu" + JOB + " && common_cpu & 1"),
 ]
@@ -168,7 +168,7 @@ FAULTS = [
 
 
 def fixed(cpus):
-    """All fixed groups, as lists of cases."""
+    """Yield all fixed groups, as lists of cases."""
     for group in ALIKE + (ON_ONE_CPU if cpus == 1 else []):
         yield [dict(zip(("event", "text", "saver"), case)) for case in group]
     for known, why, event, text in KNOWN + (KNOWN_ON_MORE if cpus > 1 else []):

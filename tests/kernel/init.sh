@@ -1,8 +1,8 @@
 #!/bin/busybox sh
 # shellcheck shell=dash
 # The first process of the guest that tests/kernel.sh boots. It attaches the triggers of /cases, runs the workload, and
-# writes what the kernel then shows to the second serial line, as the base64 of a tar. Its words come from the kernel's
-# command line: hd_seed=SEED and hd_clock=CLOCK.
+# writes what the kernel then shows to the second serial line, as the base64 of a tar. Its arguments come from the
+# kernel's command line: hd_seed=SEED and hd_clock=CLOCK.
 #
 # A line of /cases is a number, a file of tracefs and a text, with tabs between them. The text is appended to the file:
 # a file that is opened to be written anew loses all its triggers first.
@@ -19,7 +19,7 @@ events='sched_waking sched_wakeup sched_wakeup_new sched_switch'
 
 cd "$tracefs" || poweroff -f
 echo 0 >tracing_on
-# The clock that the triggers with a stamp set, too.
+# The triggers with a stamp set this clock, too.
 echo "$clock" >trace_clock
 echo 65536 >buffer_size_kb
 echo 8192 >saved_cmdlines_size
@@ -40,7 +40,7 @@ done </cases
 echo 1 >tracing_on
 /workload "$seed"
 echo "$?" >/out/status
-# What ends a task comes after the end that its parent sees.
+# The last events of a task come after the end that its parent sees.
 sleep 1
 echo 0 >tracing_on
 

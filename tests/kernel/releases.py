@@ -4,8 +4,8 @@ import re
 
 
 def release_of(version):
-    """The release that `uname -rv` shows, as three numbers. Debian has it in the version of its package: the name of a
-    kernel 6.1 counts something else."""
+    """Return the release that `uname -rv` shows, as three numbers. Debian has it in the version of its package: the name of
+    a kernel 6.1 counts something else."""
     found = re.search(r"Debian (\d+)\.(\d+)\.(\d+)", version) or re.match(r"(\d+)\.(\d+)\.(\d+)", version)
     if not found:
         raise ValueError(f"no release in the kernel's version: {version}")
@@ -13,13 +13,13 @@ def release_of(version):
 
 
 def is_mended(release, firsts):
-    """Whether a release does what the first release of each series does that is named, and all series after these do."""
+    """Return whether a release does what the named first release of each series and all later series do."""
     firsts = [tuple(int(number) for number in first.split(".")) for first in firsts]
     return any(first[:2] == release[:2] and first <= release for first in firsts) or release[:2] > max(firsts)[:2]
 
 
 def expects_of(case, version):
-    """Puts into a case what is wanted of it on this kernel. With PREEMPT_RT, a task may inherit the priority of one that
+    """Put into a case what is wanted of it on this kernel. With PREEMPT_RT, a task may inherit the priority of one that
     waits for its lock."""
     case["inherits"] = "PREEMPT_RT" in version
     release = release_of(version)

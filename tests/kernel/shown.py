@@ -18,7 +18,7 @@ def text_of(path):
 
 
 def what_is_lost(out):
-    """What the buffers have lost, or that the workload failed, in lines; and how many events they held."""
+    """Return lines that say what the buffers have lost, or that the workload failed; and how many events the buffers held."""
     stats = text_of(f"{out}/stats").split("\n")
     lost = [f"events were lost: {line}" for line in stats if line.split(":")[0] in LOST and not line.endswith(": 0")]
     status = text_of(f"{out}/status").strip()
@@ -28,7 +28,7 @@ def what_is_lost(out):
 
 
 def refusals(cases, out):
-    """Gives each case what the kernel refused of it."""
+    """Put into each case what the kernel refused of it."""
     by_number = {case["number"]: case for case in cases}
     for line in text_of(f"{out}/refused").split("\n")[:-1]:
         number, file, error = line.split("\t")
@@ -37,7 +37,7 @@ def refusals(cases, out):
 
 
 def kernel_blocks(cases, out):
-    """Gives each case that the kernel took its part of the `hist` file, and that of its synthetic event."""
+    """Put into each case that the kernel took its part of the `hist` file, and that of its synthetic event."""
     left = {}
     for case in cases:
         if "kernel refuses" in case:
@@ -53,8 +53,8 @@ def kernel_blocks(cases, out):
 
 
 def desk_runs(cases, folder, program):
-    """Gives each case what the desk answers, and tells how many events it loaded. A desk has 64 triggers at most; one
-    that it may refuse is alone there."""
+    """Put into each case what the desk answers, and return how many events it loaded. A desk has at most 64 triggers; one
+    that it may refuse has a desk of its own."""
     runs, loaded = [[]], 0
     for group in {case["group"]: None for case in cases}:
         members = [case for case in cases if case["group"] == group]
@@ -96,7 +96,7 @@ def desk_run(run, path, trace, program):
 
 
 def up_to(lines, front):
-    """The next lines, up to the one that begins so."""
+    """Return the next lines, up to the one that begins with `front`."""
     taken = []
     for line in lines:
         taken.append(line)

@@ -1,10 +1,10 @@
 """The tables of kernel.sh: those that the kernel's `hist` files and the desk's output show, read into one form, and those
 of a replay in the order of the trace's lines.
 
-What is normalised: the padding of keys, counts and sums; numbers are numbers, a `.hex` component too; of the head
-`clock=`, the filter and modifiers in `sort=` are left out. The sum of a saver's variable, which the kernel calls by what
-is saved, has the variable's name. The order of rows is kept only as the
-list of what they are sorted by, since rows that are equal in that may stand in any order.
+Keys, counts and sums have no padding; numbers are numbers, a `.hex` component too; `clock=`, the filter and modifiers in
+`sort=` are left out of the head. The sum of a saver's variable, which the kernel names after what is saved, has the
+variable's name. The order of rows is kept only as the list of what they are sorted by, since rows that are equal in that
+may stand in any order.
 """
 
 import re
@@ -26,18 +26,18 @@ class Table:
         self.head, self.rows, self.totals = head, rows, totals
 
     def only(self, names):
-        """The same with these sums alone."""
+        """Return the table with only the hit count and these sums."""
         rows = [(key, {name: sums[name] for name in ["hitcount", *names]}) for key, sums in self.rows]
         return Table(self.head, rows, self.totals)
 
     def renamed(self, title, name):
-        """The same with another title of one sum. In the head it is the value of a saver."""
+        """Return the table with another title for one sum. In the head it is the value of a saver."""
         head = self.head.replace(f",{title}.usecs", f",${name}")
         rows = [(key, {name if old == title else old: total for old, total in sums.items()}) for key, sums in self.rows]
         return Table(head, rows, self.totals)
 
     def order(self, sort):
-        """What the rows are sorted by, row by row."""
+        """Return what the rows are sorted by, row by row."""
         return [tuple(by(key, sums, name) for name, _ in sort) for key, sums in self.rows]
 
 
@@ -53,14 +53,14 @@ def number_or_text(field, mode, text):
 
 
 def row_form(keys):
-    """The form of a row with these keys; names may hold anything, so the other parts say where they end."""
+    """Return the form of a row with these keys; names may hold anything, so the other parts say where they end."""
     forms = {"": PLAIN, "hex": HEX, "log2": LOG2}
     parts = [f"{field}: ({TEXT if field in TEXTS else forms.get(mode, BUCKETS)})" for field, mode in keys]
     return re.compile(r"\{ " + ", ".join(parts) + r" *\} hitcount: +(\d+)((?:  \w+: +\d+)*)")
 
 
 def read_head(line):
-    """The parts of the head on which both sides must agree."""
+    """Return the parts of the head on which both sides must agree."""
     head = line[len(HEAD) :].rsplit(" [active]", 1)[0].partition(" if ")[0]
     head = re.sub(r":onmatch\(.*|:clock=\w+", "", head)
     first, sorted_by, rest = re.fullmatch(r"(.*:sort=)([^:]*)(.*)", head).groups()
@@ -68,7 +68,7 @@ def read_head(line):
 
 
 def read_table(lines, keys):
-    """A table from the lines of one trigger in a `hist` file, or in the desk's output."""
+    """Return a table, from the lines of one trigger in a `hist` file, or in the desk's output."""
     head, rows, form, totals = "", [], row_form(keys), []
     for line in lines:
         if line.startswith(HEAD):
@@ -87,8 +87,8 @@ def read_table(lines, keys):
 
 
 def with_ends(case):
-    """The case with the buckets of negative numbers in the kernel's tables as the desk has them: the last one ends at the
-    greatest number, and doesn't begin again at 0."""
+    """Return the case with the buckets of negative numbers in the kernel's tables as the desk has them: the last one ends at
+    the greatest number, and doesn't begin again at 0."""
 
     def ended(found):
         return f"~ {found[1]}-{MASK}" if int(found[2]) < int(found[1]) else found[0]
@@ -98,12 +98,12 @@ def with_ends(case):
 
 
 def blocks(text):
-    """The parts of a `hist` file, one for each trigger, in the order in which they were attached."""
+    """Return the parts of a `hist` file, one for each trigger, in the order in which they were attached."""
     return [part.split("\n") for part in text.split("# event histogram\n")[1:]]
 
 
 def read_trace(lines):
-    """The events of a trace, in the order of its lines, each with its place in its CPU's lane."""
+    """Return the events of a trace, in the order of its lines, each with its place in its CPU's lane."""
     events, counts = [], {}
     for line in lines:
         event = read_line(line)
@@ -114,7 +114,7 @@ def read_trace(lines):
 
 
 def replayed(cases, events):
-    """The tables and latencies of a group, with the events in the order of the trace's lines: the stamps that the text
+    """Return the tables and latencies of a group, with the events in the order of the trace's lines: the stamps that the text
     shows are rounded, and the kernel has put the lines in order by stamps that are not."""
     triggers = [Trigger(case["event"], case["text"]) for case in cases]
     told = [{"rows": {}, "dropped": 0, "latencies": []} for _ in triggers]
@@ -147,7 +147,7 @@ def act(trigger, event, told, savers, variables):
 
 
 def key_of(trigger, key):
-    """A model's key in the form that a table's row has."""
+    """Return a model's key in the form that it has in a table's row."""
     texts = zip(trigger.keys, (value for _, value in key))
     return tuple((field, number_or_text(field, mode, component_text(mode, value))) for (field, mode), value in texts)
 

@@ -1,10 +1,10 @@
 #!/usr/bin/env python3
-"""Writes the triggers of which kernel.sh compares the kernel's tables with the desk's: the fixed ones of
+"""Writes the triggers for which kernel.sh compares the kernel's tables with the desk's: the fixed ones of
 fixed.py, and COUNT random ones.
 
     triggers.py CPUS SEED COUNT FOLDER
 
-writes FOLDER/cases, the lines that the guest writes to tracefs, and FOLDER/cases.json for compare.py. A case is a
+It writes FOLDER/cases, the lines that the guest writes to tracefs, and FOLDER/cases.json for compare.py. A case is a
 dictionary:
 
     event, text      what the desk is given
@@ -35,10 +35,11 @@ FIELDS["sched_switch"] += ["common_pid", "common_cpu"]
 TYPES = {"pid": "pid_t", "prio": "int", "target_cpu": "int", "comm": "char"}
 NAMES = ["job boss", "job ping a", "job pong c", "job-b,left", "job-b: right", "job c pid=7 x", "job [c] nap*", "job kid 3"]
 NAMES += ["job 15 bytes ab", "job fifo", "swapper/0"]
-# None is read otherwise by the kernel: not `*x`, no digit in front, and no class `[!x]` at which a name may have ended.
+# The kernel reads each of them as the desk does: none is `*x`, none has a digit in front, and none has a class `[!x]` at
+# which a name may have ended.
 GLOBS = ["job*", "job k*", "*kid*", "job ?id*", "job-b*", "job [a-m]*", "job[ -]*p*", "*o*g*", "job kid [0-9]", "*", "j*b*"]
 GLOBS += ["job kid [0-9][0-9]", "job [!a-m]*", "job [[]c] nap?", "?????????*", "job 15*ab", "job c pid=[5-9] x", "job boss"]
-# From an event to another that comes after it on whatever CPU: its tracepoint waits for a lock that the first one's has.
+# Events after which a reader's event comes, on whatever CPU: its tracepoint waits for a lock that the first one's has.
 BEHIND = [("sched_waking", ""), ("sched_wakeup", ""), ("sched_wakeup_new", ""), ("sched_switch", "prev_")]
 
 
@@ -73,13 +74,13 @@ def condition(draw, event, depth):
 
 
 def tail(draw, event, side):
-    """A filter that lets none pass but events of the workload's tasks."""
+    """Return a filter that lets only events of the workload's tasks pass."""
     base = f'{side}comm ~ "job*"'
     return f" if {base}" + (f" && ({condition(draw, event, 3)})" if draw.random() < 0.6 else "")
 
 
 def modified(draw, field, side):
-    """No buckets for the priority of the other task, which may be -1: see fixed.py."""
+    """Return a field, maybe with a modifier: no buckets for the priority of the other task, which may be -1: see fixed.py."""
     if field in TEXTS:
         return field
     buckets = f".buckets={draw.choice([1, 2, 3, 7, 10, 16, 100])}" if field.startswith(side) or "prio" not in field else ""
@@ -87,12 +88,14 @@ def modified(draw, field, side):
 
 
 def size(draw, cpus):
-    """On several CPUs no table overflows: which keys fit hangs on an order that the stamps don't show."""
+    """Return a size, or none. On several CPUs no table overflows: which keys fit depends on an order that the stamps don't
+    show."""
     return draw.choice(["", "", ":size=128", ":size=65", ":size=200"] if cpus == 1 else [":size=8192", ":size=5000"])
 
 
 def sort(draw, keys, values):
-    """Not by a name that is both, which each side takes for another column."""
+    """Return what the rows are sorted by, or nothing: not by a name that is a key and a value, which each side takes for
+    another column."""
     names = [name for name in ["hitcount"] * 2 + keys + values if (name in keys) + (name in values) < 2]
     items = dict.fromkeys(draw.choices(names, k=draw.randrange(3)))
     items = [name + draw.choice(["", ".ascending", ".descending", ".descending"]) for name in items]
@@ -112,7 +115,7 @@ def plain(draw, cpus):
 
 
 def pair(draw, cpus, count):
-    """A saver and its reader, with matching keys."""
+    """Return a saver and its reader, with matching keys."""
     if cpus == 1:
         ends = [(name, "") for name in WAKES] + [("sched_switch", "prev_"), ("sched_switch", "next_")]
         (saver, front), (reader, after) = draw.choice(ends), draw.choice(ends)
@@ -135,8 +138,8 @@ def pair(draw, cpus, count):
 
 
 def reader(case, name):
-    """What the kernel is given in place of a reader. It takes no `vals=$own`, so the reader makes an event of each of its
-    latencies, which the trace shows, and a trigger on these events sums them. The lines are (file, text)."""
+    """Return what the kernel is given in place of a reader. It takes no `vals=$own`, so the reader makes an event of each of
+    its latencies, which the trace shows, and a trigger on these events sums them. The lines are (file, text)."""
     text, at = case["text"], case["text"].index("-$")
     own = case["text"][:at].rpartition(":")[2].partition("=")[0]
     head, _, rest = text.partition(" if ")
@@ -161,14 +164,14 @@ def reader(case, name):
 
 
 def with_clock(cpus, text):
-    """A trigger with a stamp sets the clock: to `global`, if it names none. On several CPUs that one stands still where a
-    CPU's clock is after, so that many events have one stamp."""
+    """Return a trigger's text for the kernel. A trigger with a stamp sets the clock, to `global` if it names none. On several
+    CPUs that clock stands still on a CPU whose own clock is behind, so that many events have one stamp."""
     head, _, rest = text.partition(" if ")
     return f"{head}:clock=mono if {rest}" if cpus > 1 and "=common_timestamp" in head else text
 
 
 def same_to_the_kernel(case):
-    """What tells two triggers apart for the kernel, which takes no equal one: not the size, nor that of buckets."""
+    """Return what tells two triggers apart for the kernel, which takes no equal one: not the size, nor that of buckets."""
     trigger = Trigger(case["event"], case["text"])
     keys = [(field, mode.split("=")[0]) for field, mode in trigger.keys]
     return repr((case["event"], keys, trigger.values, trigger.variable, trigger.sort, case["text"].partition(" if ")[2]))

@@ -1,8 +1,8 @@
 /* workload SEED: the tasks whose events tests/kernel.sh compares. It ends when all of them have ended.
 
    Their names begin with `job`, which no other task's does, and each trigger asks for such a name. So the kernel, which
-   counts from the moment a trigger is attached, and the desk, which has what the trace holds, see the same events. Tasks
-   outside the rule are `7 jobs` and `dline`, for what a few triggers ask of them.
+   counts from the moment a trigger is attached, and the desk, which has what the trace holds, see the same events. The
+   exceptions are `7 jobs` and `dline`, for what a few triggers ask of them.
 
    There are pairs that answer each other over pipes, tasks that nap, spin and yield, two of a fixed priority, one with a
    deadline (its priority is -1), and many that live for a moment, so that small tables overflow. */
@@ -54,7 +54,7 @@ static void spin(long microseconds) {
     while ((now.tv_sec - start.tv_sec) * 1000000 + (now.tv_nsec - start.tv_nsec) / 1000 < microseconds);
 }
 
-/* Makes a task with that name, that draws its own numbers; 0 in the child. */
+/* Makes a task with that name, which draws its own numbers, and returns its number; 0 in the child. */
 static pid_t begin(const char *name, unsigned number) {
     pid_t pid = fork();
     if (pid < 0)

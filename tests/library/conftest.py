@@ -1,6 +1,6 @@
 """What the tests of the package have in common under pytest.
 
-The library is found as the package finds it. HISTDESK may name the program; without it, what runs it is skipped.
+The library is found as the package finds it. HISTDESK may name the program; without it, the tests that run it are skipped.
 """
 
 import signal
@@ -13,5 +13,5 @@ sys.dont_write_bytecode = True
 TESTS = Path(__file__).resolve().parent.parent
 sys.path[:0] = [str(TESTS.parent / "python"), str(TESTS / "model")]
 
-# Who runs this in the background may have interrupts ignored, and programs that are begun here would too.
+# Whoever runs this in the background may have interrupts ignored, and programs that are begun here would ignore them too.
 signal.signal(signal.SIGINT, signal.default_int_handler)

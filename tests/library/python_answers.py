@@ -1,4 +1,4 @@
-"""Holds the Python package's edits, answers and refusals on small traces, by values that were written down by hand."""
+"""Compares the Python package's edits, answers and refusals on small traces with values that were written down by hand."""
 
 import gc
 import gzip
@@ -49,7 +49,7 @@ WAITS = [Latency(1000100, 1, 1, 1000150, 0, 1, 50), Latency(1000200, 1, 2, 10002
 
 
 def at_micros(micros):
-    """A time for `read` and the like, of a timestamp in microseconds; None for none."""
+    """Return a timestamp in microseconds as a time for `read` and the like; None stays None."""
     return None if micros is None else histdesk.Stamp(micros)
 
 
@@ -148,7 +148,7 @@ class Loading(unittest.TestCase):
         self.assertEqual(len(self.desk.events()), 0)
 
     def test_not_packed(self):
-        # A task's name may begin as what is packed does, except for the third byte.
+        # A task's name may begin as packed data does, except for the third byte.
         self.assertEqual(self.desk.load(b"\x1f\x8b-1 [000] 1.000000:"), 1)
         self.assertEqual(self.desk.event(0, 1).task, "\x1f\udc8b")
 
@@ -210,7 +210,7 @@ class Edits(unittest.TestCase):
         places = self.desk.matching("sched_waking", "pid > 0")
         edits = self.desk.strike_events(places)
         self.assertEqual((edits.struck, edits.deferred), (2, False))
-        # All rows that the strikes may have changed one by one, each once.
+        # These are all rows that the strikes may have changed one by one, each named once.
         self.assertEqual(len(edits.changed), len({*edits.changed}))
         self.assertEqual({*edits.changed}, rows)
         self.assertGreaterEqual(rows, {Changed(number, (pid,)) for number in (1, 2) for pid in (7, 42)})
@@ -571,7 +571,7 @@ class Frames(unittest.TestCase):
 
 
 class Refusals(unittest.TestCase):
-    """Each number, with what belongs to it."""
+    """The number of each refusal, with the details that belong to it."""
 
     def refused(self, call, text, **details):
         with self.assertRaises(Refused) as caught:

@@ -1,7 +1,6 @@
 #!/usr/bin/env python3
-"""python_chain.py: chains of wakings, by the package and by tools/why --chain. The values of small traces are written by hand;
-those of simulated machines come from a plain fold over their events (plain_chains.py). The last line says how many of the tests
-hold.
+"""Tests chains of wakings, by the package and by tools/why --chain. The values of small traces are written by hand; those of
+simulated machines come from a plain fold over their events (plain_chains.py). The last line says how many of the tests hold.
 
     python_chain.py [TEST]...
 """
@@ -144,7 +143,7 @@ class ByHand(unittest.TestCase):
         self.assertEqual(
             chain.remark, "The chain ends here: CPU 3 was idle when n-10 was woken there, so an interrupt or a timer woke it."
         )
-        # So it is if the flags say that no interrupt was there.
+        # The end is the same if the flags say that there was no interrupt.
         chain = chain_of(trace(*(each.replace("y-9", IDLE).replace("d.h2.", "d..2.") for each in THREE)), 0, 2)
         self.assertEqual((chain.end, chain[-1].context), ("idle", "task"))
         self.assertIn("idle CPU", str(chain))
@@ -160,7 +159,7 @@ class ByHand(unittest.TestCase):
         self.assertIn("may have woken a task that has task? here.", " ".join(str(chain).split()))
 
     def test_self(self):
-        """Where a task is woken that runs there itself, an interrupt woke it, flags or not."""
+        """If a task is woken on the CPU on which it runs itself, an interrupt woke it, whether there are flags or not."""
         text = trace(
             switch(1, 999990, "swapper/1-0", "R", "w-12", task=IDLE),
             line("w-12", 1, 1000000, "sched_waking: comm=w pid=12 prio=120 target_cpu=001", flags=""),
@@ -271,7 +270,7 @@ class Ends(unittest.TestCase):
         )
         chain = chain_of(text, 0, 2)
         self.assertEqual((figures(chain), chain.end), ([("w", 0, 500, 2, 0, 0), ("b", 1, None, 1, 1499, 0)], "interrupt"))
-        # If not an interrupt woke it, but a task, that one doesn't matter any more.
+        # If a task woke it, and not an interrupt, that task doesn't matter any more.
         text = text.replace(b"<idle>-0 [002] d.h2.", b"c-13 [002] d..2.")
         chain = chain_of(text, 0, 2)
         self.assertEqual((len(chain), chain.end), (2, "awake"))
@@ -293,7 +292,7 @@ class Ends(unittest.TestCase):
         self.assertEqual(chain_of(trace(*lines), 0, 2).end, "start")
 
     def test_ring(self):
-        """What came before the task fell asleep is left out, or goes on as far as is asked for."""
+        """What came before the task fell asleep is left out; if asked for, the chain goes on for at most so many steps."""
         text = ring(101)
         chain = chain_of(text, 1, 151)
         self.assertEqual((figures(chain), chain.end), ([("b", 1, 9, 3, 0, 0), ("a", 0, 9, 3, 7, 0)], "awake"))
@@ -302,7 +301,7 @@ class Ends(unittest.TestCase):
         self.assertEqual(chain.remark, "The chain is cut here, after 32 steps: it goes on before that.")
         self.assertEqual(figures(chain)[1:], [(("a", "b")[at % 2], at % 2, 9, 3, 7, 0) for at in range(31)])
         self.assertEqual(chain.micros, 31 * 10 + 3)
-        # Of many steps those at both ends are shown, or all.
+        # Of many steps only those at both ends are shown, unless all are asked for.
         self.assertEqual((len(str(chain).split("\n")), len(chain.text(all_steps=True).split("\n"))), (25, 36))
         # The first a has run since the recording began.
         chain = chain_of(text, 1, 151, beyond=True, steps=1000)
@@ -312,7 +311,7 @@ class Ends(unittest.TestCase):
             self.assertEqual((len(chain_of(text, 1, 151, beyond=True, steps=steps)), steps), (steps, steps))
 
     def test_start(self):
-        """The waker ran since before the recording began."""
+        """The waker had run since before the recording began."""
         text = trace(
             waking("b-11", 1, 1000100, "z", 9, 1),
             waking("b-11", 1, 1000500, "w", 12, 0),
@@ -424,7 +423,7 @@ class Ends(unittest.TestCase):
         chain = chain_of(trace(*lines), 0, 1)
         self.assertEqual((chain.end, figures(chain)[1]), ("lost", ("b", 1, None, 0, 50, 0)))
         self.assertIn("while b-11 waited, so its waking may be another one", chain.remark)
-        # If it is the wait that is explained, the chain has this step only.
+        # If this wait is the one that is explained, the chain has only this step.
         chain = chain_of(trace(*lines), 1, 1)
         self.assertEqual((figures(chain), chain.end, chain[0].begin), ([("b", 1, None, 50, 0, 0)], "lost", None))
 
@@ -515,7 +514,7 @@ class Sources(unittest.TestCase):
                 why.chain()
         self.assertEqual(chain_of(histdesk.waits(text), 0, 2), whole)
         self.assertEqual(chain_of(histdesk.read(text), 0, 2), whole)
-        # Events in another order of time are held by a desk.
+        # Events that aren't in the order of time are held by a desk.
         self.assertEqual(chain_of(trace(*reversed(THREE)), 0, 1).remark, whole.remark)
         # A desk has no text, and so no flags; it may hold other events later.
         desk = histdesk.Desk()
@@ -580,7 +579,7 @@ class Sources(unittest.TestCase):
 
 
 class Folded(unittest.TestCase):
-    """Simulated machines, whose chains a plain fold over all events has."""
+    """Simulated machines, whose chains a plain fold over all events finds."""
 
     def test_simulated(self):
         ends, steps = {}, 0
@@ -600,8 +599,8 @@ class Folded(unittest.TestCase):
         self.assertGreater(steps, 5000)
 
     def test_lost(self):
-        """Of a recording that has lost events, a chain has no step that is false: each one is that of the whole, but the last
-        one, of which the beginning isn't known."""
+        """If a recording has lost events, its chains have no false step: each step is that of the whole recording, except for
+        the last one, whose beginning isn't known."""
         ends, steps = {}, 0
         for seed in range(12):
             text = plain_chains.simulated(seed, 400, wakes_preempted=False)
@@ -640,7 +639,7 @@ class Command(unittest.TestCase):
         self.path = os.path.join(folder.name, "my.trace")
 
     def ran(self, text, *options):
-        """Its status, what it prints, and its messages."""
+        """Run the tool; return its status, what it prints, and its messages."""
         with open(self.path, "wb") as file:
             file.write(text)
         ran = subprocess.run(
@@ -656,7 +655,7 @@ class Command(unittest.TestCase):
         self.assertEqual("The chain " + chain, THREE_TEXT + "\n")
 
     def test_longest(self):
-        """Without a place it is the chain of the longest wait; with two waits, each has its own."""
+        """If no place is named, the chain is that of the longest wait; of two waits, each has its own."""
         out = self.ran(trace(*THREE), "--chain", "--worst", "2")[1]
         self.assertEqual([part.count("The chain of wakings") for part in out.split("-" * 72 + "\n")], [1, 1])
         self.assertIn("1 step, 5 us (times in us)", out.split("-" * 72)[0])
@@ -734,7 +733,7 @@ class ManyEvents(unittest.TestCase):
     """A recording of a million events."""
 
     def test_time(self):
-        """A chain in the middle of it takes little time beside the wait itself."""
+        """Once a wait in the middle of it is explained, its chain takes little time."""
         second = ring(10_000)
         first, _, rest = second.partition(b"\n")
         text = first + b"\n" + b"".join(rest.replace(b" 1.", b" %d." % now) for now in range(1, 35))

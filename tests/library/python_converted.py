@@ -1,9 +1,9 @@
 #!/usr/bin/env python3
-"""Holds what the tools say of a recording of perf or trace-cmd against what they say of the text that its converter makes.
+"""Compares what the tools say of a recording of perf or trace-cmd with what they say of the text that its converter makes.
 
     python_converted.py [TEST]...
 
-Programs stand in for perf and trace-cmd, and print a text that is known."""
+Programs that stand in for perf and trace-cmd print a known text."""
 
 import csv
 import os
@@ -24,7 +24,7 @@ import plain_waits
 import recordings
 from python_runner import main
 
-# How a recording begins, the program that prints its text, and how that has a line.
+# How a recording begins, the program that prints its text, and how that program prints a line.
 KINDS = {
     "perf.data": (b"PERFILE2 and more", "perf", "{task:>16} {pid:>7} [{cpu:03}] {stamp}000:  sched:{event}: {rest}"),
     "trace.dat": (b"\x17\x08\x44tracing6", "trace-cmd", "{task:>16}-{pid:<5} [{cpu:03}] {stamp}000: {event}: {rest}"),
@@ -60,7 +60,7 @@ class Tools(unittest.TestCase):
         return path
 
     def stand_in(self, program, text, status=0):
-        """A program that knows no filters, and prints this."""
+        """Put a program there that knows no filters, and prints this text."""
         told = self.put(f"{program}.told", text.encode())
         script = f'#!/bin/sh\ncase "$*" in *dlfilter*) exit 129 ;; esac\ncat {told}\nexit {status}\n'
         os.chmod(self.put(program, script.encode()), 0o755)
@@ -71,7 +71,7 @@ class Tools(unittest.TestCase):
         return subprocess.run(command, stdout=subprocess.PIPE, stderr=subprocess.PIPE, env=environment, check=False, **options)
 
     def test_same(self):
-        """Each tool says of a recording what it says of its text, but for its name."""
+        """Each tool says of a recording what it says of its text, except for its name."""
         events = list(plain_waits.events_of(self.text))
         start, end = (recordings.stamp(events[len(events) * part // 3].place.stamp) for part in (1, 2))
         asked = [
@@ -133,7 +133,7 @@ class Tools(unittest.TestCase):
             self.assertIn(b"; name its file instead\n", ran.stderr)
 
     def test_package(self):
-        """The package names the tool."""
+        """The package names the tool that converts a recording."""
         for path in self.recordings.values():
             for call in (histdesk.waits, histdesk.read, histdesk.why):
                 with self.assertRaisesRegex(ValueError, f"^{path} is a recording of .*; tools/from-.* {path} >my.trace makes"):

@@ -1,7 +1,7 @@
 #!/usr/bin/env python3
-"""Holds how waits are counted: as they are kept, and as tools/waits counts them while it reads a text. The figures come from a
-plain count of waits that a plain reckoning finds (plain_waits.py), in texts with many ties, waits that are equally long, names
-that several tasks have, tasks that change theirs, and lost events.
+"""Tests how waits are counted: those that are kept, and those that tools/waits counts while it reads a text. The expected
+figures come from a plain count of waits that a plain reckoning finds (plain_waits.py), in texts with many ties, waits that are
+equally long, names that several tasks have, tasks that change theirs, and lost events.
 
     python_counts.py [TEST]...
 
@@ -67,7 +67,7 @@ def plain_rows(waits, by, with_doubtful):
 
 @contextlib.contextmanager
 def cut(most):
-    """Waits are taken, counted and put aside so many at once, and pairs are joined after that many."""
+    """Have so many waits taken, counted and put aside at once, and pairs joined after that many."""
     with contextlib.ExitStack() as stack:
         changes = [
             (_stream, "CHUNK", most),
@@ -87,7 +87,7 @@ def quietly_found(text):
 
 
 class Plain(unittest.TestCase):
-    """Against the plain count."""
+    """Counts, compared with the plain count."""
 
     def check(self, counts, waits, by, with_doubtful):
         wanted = plain_rows(waits, by, with_doubtful)
@@ -127,7 +127,7 @@ class Plain(unittest.TestCase):
                             self.check(found.counts(by, with_doubtful), waits, by, with_doubtful)
 
     def test_counted(self):
-        """As tools/waits does it: all waits, and those of some kinds, CPUs and tasks."""
+        """Waits are counted as tools/waits does it: all of them, and those of some kinds, CPUs and tasks."""
         choices = [{}, {"kinds": ["woken", "preempted"]}, {"cpus": [0, 3]}, {"kinds": ["new"], "cpus": [1]}, {"kinds": []}]
         for seed in SEEDS:
             text, waits, chance = crowded(seed), plain_waits.waits_of(crowded(seed)), random.Random(seed)
@@ -189,14 +189,14 @@ class Counted(unittest.TestCase):
                 self.assertEqual((len(found), found.table(by), found.doubtful, found.likely), (0, [], 0, 0))
 
     def test_order(self):
-        """Of a text that isn't in the order of time a desk holds the events."""
+        """If a text isn't in the order of time, a desk holds its events."""
         lines = [switch(0, 30, "a-1", "w-7"), waking(0, 20, 7), waking(0, 5, 8), switch(1, 9, "a-1", "v-8")]
         choice = _counting.Choice("task", chosen=Chosen(cpus=[1]))
         found = _counting.count_waits(text_of(lines), choice)
         self.assertEqual([(row.pid, row.max) for row in found.table("task")], [(8, 4)])
 
     def test_full_disk(self):
-        """What can't be put aside names the folder for temporary files."""
+        """If waits can't be put aside, the error names the folder for temporary files."""
         aside = _wait_records.Aside(16)
         aside._file = mock.Mock()
         aside._file.write.side_effect = OSError(errno.ENOSPC, "No space left on device")
@@ -226,7 +226,7 @@ class Pairs(unittest.TestCase):
         self.assertEqual(list(zip(*columns)), [(*pair, times) for pair, times in sorted(plain.items())])
 
     def test_summed(self):
-        """Pairs that 32 bits hold, that 63 do, and that they don't."""
+        """Pairs that fit into 32 bits, pairs that fit into 63, and pairs that don't."""
         chance = random.Random(4)
         for keys, most in ((5, 9), (70000, 65535), (1 << 20, 1 << 30), (1 << 30, (1 << 52) - 1)):
             for size in (0, 1, 2, 500):
@@ -235,7 +235,7 @@ class Pairs(unittest.TestCase):
                 self.check(key, micros, [chance.randrange(1, 9) for _ in range(size)])
 
     def test_a_bit_more(self):
-        """At the greatest pairs that 32 and 63 bits hold, and one bit beyond."""
+        """The greatest pairs that 32 and 63 bits hold, and those of one bit less or more."""
         for bits in (31, 32, 33, 62, 63, 64):
             for low in (1, 20, 31):
                 key, micros = (1 << (bits - low)) - 1, (1 << low) - 1
@@ -251,7 +251,7 @@ class Numbers(unittest.TestCase):
             part = rows[start : start + 100]
             wanted = [known.setdefault(tuple(row), len(known)) for row in part]
             found = numbers.of(numpy.array(part, "u8").reshape(len(part), words)).tolist()
-            # Which number a new row has is not said, but rows have one each.
+            # It isn't said which number a new row has, but each row has one of its own.
             named = [tuple(numbers.rows[number].tolist()) for number in found]
             self.assertEqual(named, [tuple(row) for row in part])
             self.assertEqual(len(set(found)), len(set(wanted)))
@@ -275,14 +275,14 @@ class Numbers(unittest.TestCase):
             self.check([[chance.randrange(300)] for _ in range(3000)], 1)
 
     def test_one_hash(self):
-        """Different rows of which the hash says the same."""
+        """Different rows that have the same hash."""
         one, other = _numbering.FACTORS[:2]
         rows = [[(7 + other * step) % 2**64, (9 - one * step) % 2**64, 1, 2] for step in range(40)]
         self.assertEqual(
             len({sum(word * factor for word, factor in zip(row, _numbering.FACTORS)) % 2**64 for row in rows}), 1
         )
         self.check(random.Random(3).choices(rows, k=900), 4)
-        # And rows of one word which share a place of the table.
+        # And rows of one word that share a place of the table.
         inverse = pow(_numbering.FACTORS[0], -1, 2**64)
         self.check([[inverse * step % 2**64] for step in range(50)] * 4, 1)
 

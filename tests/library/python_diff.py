@@ -1,6 +1,6 @@
 #!/usr/bin/env python3
-"""Holds how waits change, from one recording to another and without some events, beside a plain reckoning over both texts;
-and tools/diff.
+"""Compares how waits change, from one recording to another and without some events, with a plain reckoning over both texts;
+and tests tools/diff.
 
     python_diff.py [TEST]...
 
@@ -38,10 +38,10 @@ try:
 except ImportError:
     pandas = None
 
-# So many events are held by a desk.
+# How many events a desk holds.
 DESK = 1048576
 FIGURES = ("count", "mean", "p50", "p90", "p99", "max", "doubtful")
-# The figures of which parts of each recording are compared.
+# The figures for which parts of each recording are compared.
 SPREADS = ("per_second", "mean", "p99", "max", "waited")
 # Filters, and the lines that they mean.
 FILTERS = {
@@ -108,7 +108,7 @@ class Reckoned:
         self.waits, self.lengths = waits, lengths
 
     def rows(self, by, above=None):
-        """Of each key that changed the figures of both sides."""
+        """Return the figures of both sides for each key that changed."""
         before, after = (sides_of(waits, by, length, above) for waits, length in zip(self.waits, self.lengths))
         rows = {key: (before.get(key, NOTHING), after.get(key, NOTHING)) for key in {**before, **after}}
         return {key: sides for key, sides in rows.items() if without_doubts(sides[0]) != without_doubts(sides[1])}
@@ -190,7 +190,7 @@ class TwoRecordings(Case):
         pid = some[0][0].pid
         of_one = [[wait for wait in plain_waits.waits_of(text) if wait.pid == pid] for text in texts]
         self.holds(diff(*texts).only(tasks=pid), Reckoned(of_one, seconds))
-        # What can be gone through only once chooses of both.
+        # An iterator, which can be gone through only once, chooses from both sides.
         self.holds(diff(*texts).only(tasks=iter([pid])), Reckoned(of_one, seconds))
 
     @unittest.skipUnless(pandas, "pandas is missing")
@@ -207,7 +207,7 @@ class TwoRecordings(Case):
 
 class Without(Case):
     def compared(self, text, filters, above=None):
-        """The difference that some filters make, beside the plain reckoning over the text without those lines."""
+        """Return the difference that some filters make, compared with the plain reckoning over the text without those lines."""
         left, counts = stripped(text, filters)
         gaps = plain_waits.gaps_of(text)
         waits = [waits_in(text, gaps), waits_in(left, gaps)]
@@ -218,7 +218,7 @@ class Without(Case):
         return found
 
     def fate_holds(self, fate, waits):
-        """Lines are counted anew in the text that is left, so events are told apart by stamp, CPU and kind of wait alone."""
+        """Lines are counted anew in the text that is left, so events are told apart only by stamp and CPU."""
         before, after = ({wait.end[:2]: wait.begin[:2] for wait in side} for side in waits)
         moved = sum(before[end] != after[end] for end in set(before) & set(after))
         self.assertEqual(fate, (len(set(before) - set(after)), moved, len(set(after) - set(before))))
@@ -230,7 +230,7 @@ class Without(Case):
                 self.compared(text, filters, above=50)
 
     def test_what_becomes_of_waits(self):
-        """By hand: of the nine wakings four are of task 10."""
+        """What becomes of waits, worked out by hand: four of the nine wakings are of task 10."""
         found = diff(recordings.kinds().text, without="sched_waking if pid == 10")
         self.assertEqual(found.struck, (("sched_waking", "pid == 10", 4, 9),))
         self.assertEqual(
@@ -288,7 +288,7 @@ class Without(Case):
 
 
 class Long(Case):
-    """Recordings of more events than a desk holds: copies of small ones, of which the plain reckoning is asked."""
+    """Recordings of more events than a desk holds: copies of small ones, which the plain reckoning reads."""
 
     def long(self, name, seed):
         """The path of a long recording, its copies, and how many they are."""
@@ -297,7 +297,7 @@ class Long(Case):
         return self.put(name, made.text(count)), made, count
 
     def counts(self, waits):
-        """Of each name and kind how many waits there are, how long they are together and the greatest."""
+        """Return for each name and kind how many waits there are, how long they are together, and how long the longest is."""
         found = {}
         for wait in waits:
             count, total, most = found.get((wait.name, wait.kind), (0, 0, 0))

@@ -1,6 +1,6 @@
 #!/usr/bin/env python3
-"""python_export.py: what tools/export writes is read back by csv, json and pandas, and is what the trace holds. The expected
-values are written by hand, or are those that the trace was made of.
+"""Tests that what tools/export writes, read back by csv, json and pandas, is what the trace holds. The expected values are
+written by hand, or are those that the trace was made of.
 
     python_export.py [TEST]...
 """
@@ -51,7 +51,7 @@ SMALL = f"""# tracer: nop
  {switch("w-42 [001] d.... 1.000190", "w", 42, 98, "S", "sim", 1, -1)}
 """.encode()
 
-# Each byte that a name may hold, alone and between others, and what is something else to those that read CSV or JSON.
+# Each byte that a name may hold, alone and between others, and names that mean something else to readers of CSV or JSON.
 BYTES = [bytes([byte]) for byte in range(256) if byte != 10]
 NAMES = [
     *BYTES,
@@ -99,7 +99,7 @@ class Tool(unittest.TestCase):
         return path
 
     def ran(self, content, *words):
-        """The status of the tool on a trace with that content, what it writes, and what it says."""
+        """Run the tool on a trace with that content; return its status, what it writes, and its messages."""
         path = self.file("my.trace", content)
         ran = subprocess.run(
             [sys.executable, "-B", TOOL, path, *words],
@@ -275,7 +275,7 @@ class Rows(Tool):
         self.assertEqual(rows, [["lat", "pid", "hitcount", "prio"], ["50", "42", "1", "98"]])
 
     def test_dropped(self):
-        """A table that was too small is told of."""
+        """A table that was too small is reported."""
         status, out, told = self.ran(named([b"a"] * 200), "rows", "sched_waking", "hist:keys=pid:size=128")
         self.assertEqual((status, out.count(b"\n")), (0, 129))
         self.assertEqual(told, "export: 72 hits found no room in the table; a greater size= has it\n")
@@ -291,7 +291,7 @@ class Latencies(Tool):
         self.assertEqual([*self.objects(SMALL, *words)[0].values()], ["w", 42, 98, 1000100, 0, 1, 1000150, 1, 2, 50, False])
 
     def test_run_times(self):
-        """The first key says whose they are: of prev_pid, the task that leaves."""
+        """The first key says whose the run times are: if it is prev_pid, those of the task that leaves."""
         words = ["sched_switch", "hist:keys=next_pid:on=common_timestamp.usecs if next_pid != 0"]
         words += ["sched_switch", "hist:keys=prev_pid:ran=common_timestamp.usecs-$on"]
         self.assertEqual(
@@ -300,7 +300,7 @@ class Latencies(Tool):
         )
 
     def test_of_the_running_task(self):
-        """Of common_pid it is the task that runs, whose prio isn't known."""
+        """If the first key is common_pid, the task is the one that runs, whose prio isn't known."""
         words = ["sched_waking", "hist:keys=common_pid:ts0=common_timestamp.usecs"]
         words += ["sched_waking", "hist:keys=common_pid:since=common_timestamp.usecs-$ts0"]
         rows = self.rows(named([b"a", b"b"]), "latencies", "sched_waking", words[1], words[2], words[3])
@@ -310,7 +310,7 @@ class Latencies(Tool):
         )
 
     def test_doubtful(self):
-        """One of two spans lost events of another CPU."""
+        """Events of another CPU were lost within one of two latencies."""
         lines = [
             "a-1 [000] 1.000000: sched_waking: comm=x pid=5 prio=120 target_cpu=000",
             "a-1 [002] 1.000000: some_event: x",
@@ -333,7 +333,7 @@ class Latencies(Tool):
 class Waits(Tool):
     def test_known(self):
         for name, known in all_known().items():
-            # What the doubtful ones are, hangs on which events are lost; they are told from each other only by hand.
+            # What the doubtful waits are depends on which events are lost; they can be told from each other only by hand.
             if name.startswith("damaged"):
                 continue
             status, out, _ = self.ran(known.text, "waits", "--json")
@@ -344,7 +344,7 @@ class Waits(Tool):
                 for wait in known.waits
             ]
             self.assertEqual([[*row.values()][:-1] for row in found], expected, name)
-            # A wait that is sure is not likely besides.
+            # A wait that isn't doubtful isn't marked as likely.
             self.assertEqual([row for row in found if row["likely"] and not row["doubtful"]], [], name)
 
     def test_columns(self):
@@ -365,14 +365,14 @@ class Waits(Tool):
         self.assertEqual([(row[0], row[1], row[10]) for row in rows], [("d", "new", 40), ("e", "new", 7)])
 
     def test_chosen_events(self):
-        """They keep their lines. What began with a creation is no wait then, or another one."""
+        """Chosen events keep their lines. A wait that began with a creation is then none, or another one."""
         words = ["waits", "--events", "sched_waking,sched_switch", "--json"]
         expected = [[*wait.begin, *wait.end] for wait in all_known()["kinds"].waits if wait.kind != "new"]
         rows = [[*row.values()] for row in self.objects(all_known()["kinds"].text, *words)]
         self.assertEqual([row[4:10] for row in rows if row[1] != "new" and row[2] != 13], expected)
 
     def test_parts(self):
-        """Waits are written in parts; how sure those of the first part are, shows only at the end."""
+        """Waits are written in parts; how sure those of the first part are is known only at the end."""
         known = all_known()["lost_in_middle"]
         whole = histdesk.waits(known.text)
         for most in (1, 2, 3):
@@ -386,19 +386,19 @@ class Waits(Tool):
             self.assertEqual([len(part) for part in _waits_in_parts.parts_of(whole)], [3, 1])
 
     def test_any_order(self):
-        """Of a text that isn't in the order of time a desk holds the events."""
+        """If a text isn't in the order of time, a desk holds its events."""
         lines = all_known()["kinds"].text.decode().splitlines(keepends=True)
         text = "".join([*lines[:11], *lines[12:], lines[11]]).encode()
         self.assertEqual(self.written(text, "waits").count(b"\n"), 1 + len(histdesk.waits(text)))
 
     def test_cpu(self):
-        """Those that ended there, wherever they began."""
+        """Only the waits that ended on this CPU are written, wherever they began."""
         self.assertEqual(len(self.rows(SMALL, "waits", "--cpu", "1")), 2)
         self.assertEqual(len(self.rows(SMALL, "waits", "--cpu", "0")), 1)
 
 
 class Words(Tool):
-    """What the tool says of wrong words, and how it ends."""
+    """What the tool says of wrong arguments, and how it ends."""
 
     def refused(self, *words):
         status, out, told = self.ran(SMALL, *words)

@@ -1,9 +1,9 @@
 #!/usr/bin/env python3
-"""Holds waits of texts of which several parts are read at once against those of a plain reckoning, and of one stream.
+"""Compares the waits of texts of which several parts are read at once with those of a plain reckoning, and of one stream.
 
     python_jobs.py [TEST]...
 
-Texts are cut anywhere that an engine may join, and elsewhere."""
+Texts are cut wherever an engine may join them, and elsewhere."""
 
 import os
 import random
@@ -51,12 +51,12 @@ def waits_of(text, jobs, **words):
 
 
 def cut_at(*bytes_of_seams):
-    """Has texts cut there."""
+    """Have texts cut at these bytes."""
     return mock.patch.object(_time_range.Halves, "seams", lambda self, count: list(bytes_of_seams))
 
 
 def starts_of(text):
-    """The bytes at which lines begin, but for the first one."""
+    """The bytes at which lines begin, except for the first one."""
     return [at + 1 for at, byte in enumerate(text[:-1]) if byte == 10]
 
 
@@ -98,7 +98,7 @@ class Joined(unittest.TestCase):
         self.assertEqual((found.missing, found.first_missing), (alone.missing, alone.first_missing), seed)
 
     def test_by_chance(self):
-        """Cut anywhere between lines, in any number of parts, with pieces and chunks of any size."""
+        """Texts are cut anywhere between lines, in any number of parts, with pieces and chunks of any size."""
         with Counting() as counting:
             for seed in range(60):
                 chance, text = random.Random(seed), in_time(noise(seed))
@@ -114,7 +114,7 @@ class Joined(unittest.TestCase):
         self.assertGreater(counting.again, 50)
 
     def test_simulated(self):
-        """Of a scheduler that loses nothing each part is joined that begins with another microsecond."""
+        """If the simulated scheduler loses nothing, each part that begins with another microsecond is joined."""
         with Counting() as counting:
             for seed in range(20):
                 known = recordings.simulated(seed)
@@ -153,7 +153,7 @@ class Joined(unittest.TestCase):
             self.assertEqual((counting.joined, counting.again), (1, 0), seam)
 
     def test_slices(self):
-        """Checkpoints of all parts are those of the text, and slices are read by them."""
+        """The checkpoints of all parts are those of the text, and slices are read with them."""
         for seed in range(5):
             text = recordings.simulated(seed).text
             with mock.patch.object(_text, "PIECE", 4096):
@@ -168,7 +168,7 @@ class Joined(unittest.TestCase):
             self.assertEqual(*(held_by(one) for one in slices))
 
     def test_counted(self):
-        """As tools/waits and export read them."""
+        """What tools/waits and tools/export read is the same with several jobs."""
         for seed in range(20):
             text = recordings.simulated(seed, holes=seed % 3).text
             for by in ("task", "name", "cpu", "prio", "kind"):
@@ -184,7 +184,7 @@ class Joined(unittest.TestCase):
 
 
 def held_by(recording):
-    """The stamps of the events that a desk holds of a recording, by CPU and line in the whole of it."""
+    """Return the switches that a desk holds of a recording: CPU, line in the whole recording, and stamp, in order."""
     with recording.desk() as desk:
         places = [place for cpu in desk.cpus() for place in desk.matching("sched_switch", f"common_cpu == {cpu}")]
     assert places
@@ -241,7 +241,7 @@ class Refusals(unittest.TestCase):
         self.assertEqual(_parallel.jobs_for(text, None), 1)
 
     def test_failing(self):
-        """A part whose file can't be read ends all, and what was seen is no answer."""
+        """If the file of a part can't be read, all ends, and what was seen is no answer."""
         text = recordings.simulated(1).text
         with tempfile.NamedTemporaryFile() as file:
             file.write(text)

@@ -1,7 +1,7 @@
 #!/usr/bin/env python3
-"""Holds what the library tells of the lines of texts, histdesk_lines and histdesk_losses, against plain reckonings: what each
-line is against the plain model of a line (model_line.py), and where events were lost against a fold over the lines that stands
-here. The texts are random and hostile ones, with lines of every form in any order of time, cut at any byte.
+"""Compares what the library reports about the lines of texts, by histdesk_lines and histdesk_losses, with plain reckonings:
+what each line is, with the plain model of a line (model_line.py), and where events were lost, with a fold over the lines that
+is written here. The texts are random and hostile ones, with lines of every form in any order of time, cut at any byte.
 
     python_lines.py [TEST]...
 
@@ -109,18 +109,18 @@ class Losses:
         self.last, self.lost, self.overwritten, self.holes, self.written = {}, {}, {}, [], None
 
     def end(self, cpu, before):
-        """Ends the hole of a CPU, if it has one."""
+        """End the hole of a CPU, if it has one."""
         if cpu in self.lost:
             self.holes.append([*self.lost.pop(cpu), self.last.get(cpu), before, cpu])
 
     def report(self, number, cpu, count):
-        """Takes a line that reports a loss."""
+        """Take a line that reports a loss."""
         line, known = self.lost.get(cpu, (number, None))
         parts = [part for part in (known, count) if part is not None]
         self.lost[cpu] = (line, min(sum(parts), LAST_COUNT) if parts else None)
 
     def take(self, number, line):
-        """Takes a line."""
+        """Take a line."""
         try:
             event = read_line(line)
         except LineFault:
@@ -214,7 +214,7 @@ class Desk(unittest.TestCase):
         return [told(hole) for hole in room[: read.holes]], [read.held, read.written] if read.has_written else None
 
     def agrees(self, text):
-        """Whether both answers about a text are those of the plain reckonings."""
+        """Check that both answers about a text are those of the plain reckonings."""
         self.assertEqual(self.lines(text), wanted_lines(text), text)
         self.assertEqual(self.losses(text), wanted_losses(text), text)
 

@@ -1,6 +1,6 @@
 #!/usr/bin/env python3
-"""python_losses.py: what loading and reading a trace tell of lost events, parts of traces, and lines that are left out. The
-expected values are written by hand."""
+"""Tests what loading and reading a trace report about lost events, parts of traces, and lines that are left out. The expected
+values are written by hand."""
 
 import gzip
 import io
@@ -123,7 +123,7 @@ class Losses(unittest.TestCase):
         self.assertIn("CPU 3 lost 16 in 8 places, the first between 1.000000 and 1.500000", told[0])
 
     def test_far_events(self):
-        # Looked for from each line on, these events would cost a pass over the text for each CPU.
+        # If these events were looked for from each line on, each CPU would cost a pass over the text.
         cpus = range(1, 101)
         text = "".join(f"CPU:{cpu} [LOST {cpu} EVENTS]\n" for cpu in cpus) + waking(0, "1.000000") * 20000
         answer, _ = loaded(text + "".join(waking(cpu, f"2.{cpu:06}") for cpu in cpus))
@@ -135,7 +135,7 @@ class Losses(unittest.TestCase):
         self.assertEqual(answer.holes, (Hole(3, 1000000, 2000000, 9, 502),))
 
     def test_no_such_lines(self):
-        # A task's name, a comment and a payload tell of no loss.
+        # A task's name, a comment and a payload report no loss.
         text = "x [LOST 3 EVENTS]-1 [000] 1.000000: y\n# CPU:0 [LOST 3 EVENTS]\na-1 [000] 2.000000: CPU:0 [LOST 3 EVENTS]\n"
         answer, told = loaded(text + "a-1 [000] 3.000000: ##### CPU 0 buffer started ####")
         self.assertEqual((answer, answer.holes, told), (3, (), []))
@@ -181,7 +181,7 @@ class Parts(unittest.TestCase):
             (recording.text, recording.taken, recording.bad_lines, recording.path), (MIDDLE.encode(), None, (), None)
         )
         self.assertEqual(told, [recording.warning])
-        # Loading it doesn't tell it again.
+        # Loading the recording doesn't warn again.
         answer, told = quiet(histdesk.Desk().load, recording)
         self.assertEqual((answer, answer.holes, told), (4, recording.holes, []))
         self.assertEqual((recording.line(3, 2), recording.desk_line(3, 2)), (2, 2))
@@ -202,9 +202,9 @@ class Parts(unittest.TestCase):
             [(event.cpu, event.line, event.stamp) for event in desk.events()],
             [(1, 1, 5000001), (2, 1, 6250000), (0, 1, 6500000)],
         )
-        # Lines are counted from the first of them on.
+        # Lines are counted from the first of these events on.
         self.assertEqual((recording.lines_from, recording.line(0, 1), recording.desk_line(0, 1)), (5000001, 1, 1))
-        # CPU 2 begins in that time, and CPU 1 just when it begins.
+        # CPU 2 begins within that time, and CPU 1 exactly when that time begins.
         self.assertEqual(recording.holes, (Hole(2, None, 6250000),))
 
     def test_cpus_and_events(self):
@@ -229,17 +229,17 @@ class Parts(unittest.TestCase):
         with self.assertRaises(histdesk.Refused) as caught:
             self.part(text, start=at_micros(1000000)).desk()
         self.assertEqual((caught.exception.line, caught.exception.fault), (4, 1))
-        # It stands where nothing is taken.
+        # The bad line stands where nothing is taken.
         self.assertEqual(histdesk.Desk().load(self.part(text, start=at_micros(2000000))), 1)
 
     def test_more_than_a_desk_holds(self):
-        # The desk's limit is tried elsewhere; here one holds ten events. Two events have each stamp.
+        # The desk's real limit is tested elsewhere; here a desk holds ten events. Each stamp has two events.
         text = "".join(waking(0, f"1.{at // 2:06}") for at in range(15))
         with mock.patch.object(_selection, "LIMIT", 10), mock.patch.object(_recording, "LIMIT", 10):
             recording = self.part(text)
             self.assertEqual(recording.taken, Part(10, 1000000, 1000004, 1000005))
             self.assertEqual(self.part(text, start=at_micros(1000005)).taken, Part(5, 1000005, 1000007, None))
-            # Of eleven events the last two have one stamp, and stay together.
+            # The last two of eleven events have one stamp, and stay together.
             part = self.part(text, start=at_micros(1000001), until=at_micros(1000007))
             self.assertEqual(part.taken, Part(10, 1000001, 1000005, 1000006))
             with self.assertRaisesRegex(ValueError, "have one stamp"):
@@ -354,7 +354,7 @@ PERF = b"            perf    42 [001]     6.012345: sched:sched_waking: comm=w p
 
 
 class Tools(unittest.TestCase):
-    """What each tool does with its words, its trace and its end."""
+    """What each tool does with its arguments and its trace, and how it ends."""
 
     def setUp(self):
         folder = tempfile.TemporaryDirectory()
@@ -440,7 +440,7 @@ class Tools(unittest.TestCase):
         self.assertEqual(self.run_tool(none), (2, "", f"tool: {none}: No such file or directory\n"))
 
     def test_like_other_files(self):
-        """What a desk reads is a trace, though a name in it looks like a line of perf."""
+        """A text that a desk can read is a trace, even if a name in it looks like a line of perf."""
         text = waking(0, "1.000000").replace("comm=w ", "comm=a 4 [1] 6.0: x: ")
         self.assertRegex(text, r" 4 \[1\] 6\.0: x:")
         self.assertEqual(self.run_tool(self.file("my.trace", text.encode())), (0, "0\n", ""))

@@ -1,11 +1,11 @@
 #!/usr/bin/env python3
-"""Holds what many recordings answer together: 200 small ones, asked one by one, by processes and by Dask, with workers that are
-killed, beside a plain reckoning over all of them; recordings that can't be read; and questions of one's own.
+"""Tests what many recordings answer together: 200 small ones, asked one by one, by processes and by Dask, with workers that are
+killed, and compared with a plain reckoning over all of them; recordings that can't be read; and questions of one's own.
 
     python_many.py [TEST]...
 
-The library is found as the package finds it. What needs numpy or Dask is skipped if they are missing: lines at the end say
-what wasn't tried, and the last one how many tests hold.
+The library is found as the package finds it. Tests that need numpy or Dask are skipped if they are missing: lines at
+the end say what wasn't tried, and the last line says how many tests hold.
 """
 
 import atexit
@@ -42,11 +42,11 @@ from python_runner import main
 with_dask = unittest.skipUnless(importlib.util.find_spec("distributed"), "distributed is missing")
 
 COUNT = 200
-# So many events are held by a desk.
+# How many events a desk holds.
 DESK = 1048576
 MASK = 2**64 - 1
 TRIGGER = "hist:keys=comm,pid.log2:vals=prio:sort=prio.descending,pid"
-# Of priority -1, which sums modulo 2^64 have to stand.
+# A priority of -1, with which sums modulo 2^64 have to cope.
 PRIO = b"prio=-1"
 
 
@@ -70,7 +70,7 @@ class Truth:
             self.add(path, text, known.gaps)
 
     def add(self, path, text, gaps):
-        """Reckons one recording."""
+        """Reckon one recording."""
         if gaps:
             self.lossy.append(path)
         for wait in plain_waits.waits_of(text):
@@ -89,7 +89,7 @@ class Truth:
 
 
 class Kills:
-    """A question that kills the worker which asks one of the recordings, so many times."""
+    """A question that kills, so many times, the worker that asks it of one of the recordings."""
 
     def __init__(self, question, path, folder, times=1):
         self.question, self.path, self.guards = question, path, [os.path.join(folder, f"killed{at}") for at in range(times)]
@@ -108,7 +108,7 @@ class Kills:
 
 
 class KillsReading(Kills):
-    """The same of a question that reads recordings itself."""
+    """The same for a question that reads recordings itself."""
 
     def ask_path(self, path, **choice):
         self.kill(path)
@@ -141,7 +141,7 @@ def events_in(recording):
 
 
 def holder(recording):
-    """Answers what can't be handed on."""
+    """Return what can't be handed on."""
     return recording.desk()
 
 
@@ -154,7 +154,7 @@ def out_of_memory(recording):
 
 
 def slow(recording):
-    """Takes long, and says that it has begun."""
+    """Say that it has begun, and take long."""
     with open(f"{recording.path}.begun", "w", encoding="ascii") as file:
         file.write(str(os.getpid()))
     time.sleep(60)
@@ -199,7 +199,7 @@ class Alike(Case):
     @classmethod
     def setUpClass(cls):
         cls.truth = all_recordings()
-        # In what order they are named doesn't matter.
+        # The order in which they are named doesn't matter.
         cls.paths = random.Random(1).sample(cls.truth.paths, COUNT)
 
     def holds(self, found):
@@ -227,7 +227,7 @@ class Alike(Case):
         self.assertEqual([row.p50, row.p90, row.p99], [sorted(micros)[rank - 1] for rank in ranks])
 
     def rows_hold(self, found):
-        """The rows of the trigger are those of the plain reckoning, in the order for which it asks."""
+        """The rows of the trigger are those of the plain reckoning, in the order that the trigger asks for."""
         self.assertEqual((len(found.asked), found.failed), (COUNT, ()))
         expected = [(*key, *sums) for key, sums in self.truth.rows.items()]
         expected.sort(key=lambda row: (-row[3], row[1], row[0]))
@@ -236,7 +236,7 @@ class Alike(Case):
 
 
 class OnThisMachine(Alike):
-    """Asked by this process, or by others."""
+    """Recordings that are asked by this process, or by others."""
 
     def test_one_by_one(self):
         self.holds(many(self.paths, histdesk.AskWaits("name"), processes=0))
@@ -520,7 +520,7 @@ def is_alive(pid):
 
 
 def until(holds, seconds=30):
-    """Whether something comes to hold."""
+    """Wait until something holds, for at most so many seconds; return whether it does."""
     end = time.monotonic() + seconds
     while not holds() and time.monotonic() < end:
         time.sleep(0.02)
@@ -529,7 +529,7 @@ def until(holds, seconds=30):
 
 class Processes(Case):
     def begun(self):
-        """A program that asks by two processes, which take long, and their numbers."""
+        """Return a program that asks by two processes, which take long, and the numbers of these processes."""
         paths = [self.put(name, b"") for name in "ab"]
         running = program(
             f"import histdesk, python_many\nhistdesk.many({paths}, python_many.slow, processes=2)", start_new_session=True
@@ -544,7 +544,7 @@ class Processes(Case):
         os.killpg(running.pid, signal.SIGINT)
         self.assertEqual(running.wait(30), -signal.SIGINT)
         self.assertTrue(until(lambda: not any(map(is_alive, workers))))
-        # It is the program's own, and none of the workers'.
+        # The one traceback is the program's own, and none is a worker's.
         self.assertEqual(running.stderr.read().count(b"Traceback"), 1)
 
     def test_workers_end_with_the_program(self):
@@ -580,7 +580,7 @@ class Processes(Case):
 
 @with_dask
 class ByDask(Alike):
-    """Asked by two workers of a Dask cluster on this machine."""
+    """Recordings that are asked by two workers of a Dask cluster on this machine."""
 
     @classmethod
     def setUpClass(cls):
@@ -594,7 +594,7 @@ class ByDask(Alike):
         cls.addClassCleanup(cls.cluster.close)
         cls.client = distributed.Client(cls.cluster)
         cls.addClassCleanup(cls.client.close)
-        # So what kills a worker is given up by Dask at once.
+        # So Dask gives up at once what kills a worker.
         cls.cluster.scheduler.allowed_failures = 0
 
     def setUp(self):
@@ -603,7 +603,7 @@ class ByDask(Alike):
         self.addCleanup(self.has_two)
 
     def has_two(self):
-        """Those that were killed are made anew; if one of them doesn't begin on a busy machine, all are."""
+        """Wait for two workers. Those that were killed are begun anew; if one doesn't begin on a busy machine, all are."""
         import distributed
 
         try:

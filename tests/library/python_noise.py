@@ -1,10 +1,10 @@
 #!/usr/bin/env python3
-"""Holds how several recordings on each side are compared, and parts of one recording, beside a plain enumeration of all splits,
-a published table of the rank-sum test, and figures that a plain reckoning finds (plain_waits.py); and tools/diff with `--`.
+"""Tests how several recordings on each side are compared, and parts of one recording, by a plain enumeration of all splits, a
+published table of the rank-sum test, and figures that a plain reckoning finds (plain_waits.py); and tests tools/diff with `--`.
 
     python_noise.py [TEST]...
 
-It all needs numpy. The last line says how many of the tests hold.
+All tests need numpy. The last line says how many of the tests hold.
 """
 
 import csv
@@ -88,7 +88,7 @@ def clearness(values, before):
 
 
 def enumerated(columns, size):
-    """The share of all splits in which some column differs as clearly, for each column; the first `size` values are before."""
+    """Return for each column the share of splits in which some column differs as clearly; `size` values are before."""
     count, splits = len(columns[0]), []
     for members in itertools.combinations(range(count), size):
         others = [at for at in range(count) if at not in members]
@@ -120,7 +120,7 @@ def length_of(text):
 
 
 def rows_of(sides, by):
-    """For each key and figure its values on both sides, of sides that are lists of waits and lengths."""
+    """Return for each key and figure its values on both sides. Each side is a list of waits and lengths."""
     keyed = [[(plain_waits.keys_of(waits, by) if by else {(): waits}, length) for waits, length in side] for side in sides]
     keys = {key for side in keyed for waits, _ in side for key in waits}
     rows = {}
@@ -145,7 +145,7 @@ class Case(unittest.TestCase):
         return path
 
     def close(self, one, other):
-        """Both are None or about the same."""
+        """Check that both are None or about the same."""
         self.assertEqual(one is None, other is None)
         if one is not None:
             self.assertAlmostEqual(one, other, delta=1e-9 * max(1, abs(other)))
@@ -160,7 +160,7 @@ class Case(unittest.TestCase):
 
 
 class Test(Case):
-    """The test by itself, of numbers."""
+    """The test by itself, on numbers."""
 
     def test_by_hand(self):
         # Of the 20 ways to split six numbers into three and three, the actual one and its mirror are the clearest.
@@ -170,14 +170,14 @@ class Test(Case):
         # Three against four: three have 12 of 28 on average; 6 is as far from it as 18, which one other way gives.
         self.assertEqual(p_values([[1, 2, 3, 4, 5, 6, 7]], 3), [2 / 35])
         self.assertEqual(p_values([[1, 2, 3, 14, 15, 16, 17]], 3), [1 / 35])
-        # What is the same in all recordings differs in no split from what it is in the actual one.
+        # A figure that is the same in all recordings is in each split what it is in the actual one.
         self.assertEqual(p_values([[7] * 8], 4), [1])
         self.assertEqual(p_values([[0.1] * 8], 4), [1])
         # A figure that is constant doesn't change what is said of the other.
         self.assertEqual(p_values([[7] * 8, list(range(8))], 4), [1, 2 / 70])
 
     def test_beside_a_published_table(self):
-        """Of ranks, the means' difference orders splits as U does; half of each two-sided chance is that of one side."""
+        """With ranks, the means' difference orders splits as U does; half of each two-sided chance is that of one side."""
         for most, chance in enumerate(MANN_WHITNEY_5_5):
             ranks = next(one for one in itertools.combinations(range(1, 11), 5) if sum(one) == 15 + most)
             others = [rank for rank in range(1, 11) if rank not in ranks]
@@ -276,14 +276,14 @@ class Several(Case):
         self.p_holds([found.whole()], 4)
 
     def p_holds(self, rows, least):
-        """What is said of the figures is what all splits say: of rows that are in enough recordings and have a hundredth of
-        the time, and of these the figures that are in all."""
+        """Check that what is said of figures is what all splits say. It is said of rows that are in enough recordings and have
+        a hundredth of the time, and of these rows' figures that are in all recordings."""
         waited = [sum(map(Fraction, (*row.waited.before.values, *row.waited.after.values))) for row in rows]
         pairs = [(row, share) for row, share in zip(rows, waited) if row.present >= least]
         figures = [row.figure(name) for row, share in pairs if 100 * share >= sum(waited) for name in FIGURES]
         figures = [one for one in figures if None not in (*one.before.values, *one.after.values)]
         columns = [[Fraction(value) for value in (*one.before.values, *one.after.values)] for one in figures]
-        # The plain enumeration takes long for many.
+        # The plain enumeration takes long for many columns.
         if len(columns) < 30:
             for one, share in zip(figures, enumerated(columns, least)):
                 self.assertAlmostEqual(one.p, float(share))
@@ -299,7 +299,7 @@ class Several(Case):
             found = compare(texts[:5], texts[5:])
             whole += not found.whole().beyond()
             rows += not any(row.beyond() for row in found.table())
-        # Each is expected to fail in about one of 20.
+        # Each of the two is expected to fail in about one comparison of 20.
         self.assertGreaterEqual(whole, 20)
         self.assertGreaterEqual(rows, 20)
 
@@ -323,7 +323,7 @@ class Several(Case):
         self.assertIn("by chance in 1 of 3 cases.", told)
         self.assertIn("4 recordings on each side are enough.", told)
         self.assertNotIn("(p ", told)
-        # What overlaps is within the spread without a test too; what doesn't isn't known.
+        # Even without a test, values that overlap are within the spread; of others it isn't known.
         figure = histdesk.FigureComparison(histdesk.Spread((1, 5)), histdesk.Spread((4, 9)))
         self.assertIs(figure.is_within, True)
         figure = histdesk.FigureComparison(histdesk.Spread((1, 3)), histdesk.Spread((4, 9)))
@@ -338,7 +338,7 @@ class Several(Case):
         self.assertIsNone(histdesk.FigureComparison(spread, histdesk.Spread((1,))).change)
 
     def test_rows_on_one_side(self):
-        """A task that is in all recordings of one side only is found by its count and its time. One in few isn't tested."""
+        """A task that is in all recordings of only one side is found by its count and its time. One in few isn't tested."""
         before = [load(seed) for seed in range(5)]
         after = [load(10 + seed, names=("a", "b", "c", "new", *(["rare"] * (seed == 3)))) for seed in range(5)]
         rows = {row.key[0]: row for row in compare(before, after).table()}
@@ -412,7 +412,7 @@ class Several(Case):
             histdesk.diff(texts[:2])
 
     def test_order(self):
-        """First the rows that differ beyond the spread, and of each kind first those that changed most."""
+        """The rows that differ beyond the spread come first, and of each kind those first that changed most."""
         before = [load(seed) for seed in range(5)]
         after = [load(30 + seed, 1.5) for seed in range(5)]
         for sort in ("waited", "max"):
@@ -468,7 +468,7 @@ class Parts(Case):
                 self.assertLessEqual({row.key for row in found.table(by) if row.before.count or row.after.count}, set(parts))
 
     def test_by_hand(self):
-        """Of 800 us, each part has 100: one wait of 10 us in all parts but the third, which has one of 50."""
+        """Each part has 100 of 800 us: one wait of 10 us in all parts except the third, which has one of 50."""
         lines = [switch(1, 1000000, "<idle>-0", "x-9", state="R")]
         for at in range(8):
             begin, wait = 1000000 + 100 * at + 20, 50 if at == 2 else 10
@@ -483,7 +483,7 @@ class Parts(Case):
         # A wait of 10 us in 100 us is 100,000 us in a second.
         self.assertEqual((row.waited.before.width, row.per_second.before.width), (400000, 0))
         self.assertEqual(found.parts()[()].max, row.max)
-        # 40 us less in 800 us, and the parts of the first one differ by more.
+        # The second recording waited 40 us less in 800 us, and the parts of the first one differ by more.
         self.assertEqual(found.whole().change("waited"), -50000)
         lines = repr(found).split("\n")
         self.assertTrue([line for line in lines if line.split()[0] == "all" and line.split()[-3:] == ["400000", "0", "within"]])
@@ -531,7 +531,7 @@ class Tool(Case):
         self.assertEqual(lines[-1], "1 more row is not shown; --top all shows it")
 
     def test_same_load(self):
-        # About one seed in 20 has a difference that is reported; Several.test_same_load holds how many are.
+        # About one seed in 20 has a difference that is reported; Several.test_same_load tests how many have one.
         before, after = self.put_loads(slow=1.0, seed=1000)
         told, _ = self.run_tool(*before, "--", *after)
         self.assertNotIn("beyond", told)
@@ -585,7 +585,7 @@ class Tool(Case):
         first = self.run_tool("--by", "cpu", "--csv", *before, "--", *after)
         self.assertEqual(self.run_tool(*before, "--by", "cpu", "--", "--csv", *after), first)
         self.assertEqual(self.run_tool(*before, "--", *after, "--by", "cpu", "--csv"), first)
-        # One on each side is as without --.
+        # One recording on each side is the same with and without --.
         self.assertEqual(self.run_tool("b0", "--", "a0"), self.run_tool("b0", "a0"))
 
     def test_refused(self):

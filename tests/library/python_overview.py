@@ -1,10 +1,10 @@
 #!/usr/bin/env python3
-"""Holds the timeline of all CPUs that tools/view draws to a plain reckoning of each microsecond (plain_timeline.py), and to
-recordings worked by hand.
+"""Compares the timeline of all CPUs that tools/view draws with a plain reckoning of each microsecond (plain_timeline.py), and
+with recordings worked out by hand.
 
     python_overview.py [TEST]...
 
-Where numpy is missing, a line says that nothing was tried. The last line says how many tests hold."""
+If numpy is missing, a line says that nothing was tried. The last line says how many tests hold."""
 
 import base64
 import json
@@ -41,13 +41,13 @@ def side_of(text):
 
 
 def waking(cpu, micros, pid, runs="<idle>-0", name="w", event="sched_waking"):
-    """A waking that a task wrote, which is told by its name, `-` and its number."""
+    """A waking that a task wrote; the task is given as its name, `-` and its number."""
     return recordings.line(runs, cpu, micros, f"{event}: comm={name} pid={pid} prio=120 target_cpu=000")
 
 
 def simulated(seed, steps=400, holes=0):
-    """A recording of a simulated scheduler. That says of each waking that an idle CPU wrote it; here it is written by what runs
-    there, as the switches say."""
+    """A recording of a simulated scheduler. The simulator says that an idle CPU wrote each waking; here it is written by what
+    runs there, as the switches say."""
     runs, lines = {}, []
     for line in recordings.simulated(seed, steps, holes=holes).text.decode().split("\n"):
         found = plain_waits.LINE.fullmatch(line)
@@ -84,7 +84,7 @@ def numbers(text, code):
 
 
 def decoded(answer):
-    """The columns of an answer: of each CPU what is said of each part, and the runs."""
+    """The columns of an answer: for each CPU what is said of each part, and the runs."""
     width, count = answer["width"], len(answer["cpus"])
     rows = {}
     for name, code in (("idle", "B"), ("waited", "B"), ("unknown", "B"), ("task", "I")):
@@ -105,11 +105,11 @@ def decoded(answer):
 class Reckoned(unittest.TestCase):
     """Sums of any stretch of time are those of the plain reckoning."""
 
-    # Whether a task that a CPU runs twice in a row runs another one between for a microsecond at least.
+    # Whether a CPU that runs a task twice in a row always runs another one in between for at least a microsecond.
     is_single = True
 
     def hold(self, text, seed):
-        """One recording, in some windows."""
+        """Check one recording, in some windows."""
         chance, wanted, overview = random.Random(seed), plain_timeline.timeline_of(text), side_of(text).overview
         self.assertEqual((overview.runs.first, overview.runs.length), (wanted.first, len(wanted.waiting)))
         self.lanes(overview, wanted)
@@ -120,7 +120,7 @@ class Reckoned(unittest.TestCase):
         return overview, wanted
 
     def lanes(self, overview, wanted):
-        """What each CPU ran is the same in each microsecond."""
+        """Check that what each CPU ran is the same in each microsecond."""
         self.assertEqual([lane.cpu for lane in overview.runs.lanes], list(wanted.ran))
         for lane in overview.runs.lanes:
             bounds, ran = [*lane.begin.tolist(), overview.runs.length], []
@@ -133,7 +133,7 @@ class Reckoned(unittest.TestCase):
             self.assertEqual(len(ran), len(wanted.ran[lane.cpu]))
 
     def window(self, overview, wanted, window):
-        """The sums of a window, and what is sent of it."""
+        """Check the sums of a window, and what is sent of it."""
         low, high, width = window
         edges = overview.edges(wanted.first + low, wanted.first + high, width)
         cells, at = overview.cells(edges), edges.tolist()
@@ -155,7 +155,7 @@ class Reckoned(unittest.TestCase):
         self.worst(overview, wanted, (low, high))
 
     def worst(self, overview, wanted, window):
-        """The stretches of idle time in which tasks waited longest."""
+        """Check the stretches of idle time in which tasks waited longest."""
         low, high = window
         found = []
         for cpu in wanted.ran:
@@ -194,7 +194,7 @@ class Reckoned(unittest.TestCase):
                 self.hold(simulated(seed, holes=3), seed)
 
     def test_any_order(self):
-        """Of a recording that isn't in the order of time, a desk holds the events."""
+        """If a recording isn't in the order of time, a desk holds its events."""
         lines = [line for line in recordings.simulated(2).text.split(b"\n") if b": sched_" in line]
         text = b"\n".join(sorted(lines, key=lambda line: line.partition(b"[")[2][:3]))
         self.hold(text, 2)
@@ -219,7 +219,7 @@ class Reckoned(unittest.TestCase):
 
 
 def name_of(overview, number):
-    """A task's PID and name, of its number; of one that isn't there None."""
+    """Return the PID and name of the task with this number; None if the number is no task's."""
     return tuple(overview.runs.task(number)) if number > 1 else None
 
 
@@ -241,7 +241,7 @@ def among(ran):
     return {task for task in ran if task[0]} or {None}
 
 
-# Of two CPUs, worked by hand: task 7 waits from 1100 to 1300, while CPU 1 idles from 1000 to 1250.
+# Two CPUs, worked out by hand: task 7 waits from 1100 to 1300, while CPU 1 idles from 1000 to 1250.
 BY_HAND = [
     switch(0, 1000, "<idle>-0", "a-5", state="R"),
     switch(1, 1000, "b-6", "<idle>-0"),
@@ -253,7 +253,7 @@ BY_HAND = [
 
 
 class ByHand(unittest.TestCase):
-    """Recordings of which the numbers are worked by hand."""
+    """Recordings whose numbers are worked out by hand."""
 
     def test_sums(self):
         overview = side_of(text_of(BY_HAND)).overview
@@ -294,7 +294,7 @@ class ByHand(unittest.TestCase):
         self.assertEqual(cells.busy.tolist(), [[50, 0, 0, 0, 50, 50, 0, 0, 0, 0]])
 
     def test_lost_events(self):
-        """What is lost is unknown, though the same task runs before and after, or none does."""
+        """What is lost is unknown, even if the same task runs before and after, or none does."""
         lines = [
             "##### CPU 1 buffer started ####",
             switch(0, 1000, "<idle>-0", "a-5", state="R"),
@@ -362,7 +362,7 @@ class Windows(unittest.TestCase):
             self.assertEqual((event.event, event.place.stamp, event.pid), ("sched_switch", wanted.first + begin, task[0]))
 
     def test_few_runs_of_many(self):
-        """Zoomed out, a run is there alone if it fills a part."""
+        """Zoomed out, a run is there only if it fills a part."""
         text = simulated(5, 400)
         wanted, side = plain_timeline.timeline_of(text), side_of(text)
         width = 60

@@ -1,10 +1,10 @@
 #!/usr/bin/env python3
-"""Holds the Python package: each public call on small traces, by values written down by hand (also in python_answers.py), how a desk
-ends, threads, texts that aren't UTF-8, out of memory, how things are shown, and where the library is looked for.
+"""Tests the Python package: each public call on small traces, by values written down by hand (also in python_answers.py), how a
+desk ends, threads, texts that aren't UTF-8, running out of memory, how things are shown, and where the library is looked for.
 
     python_package.py [TEST]...
 
-The library is found as the package finds it. What needs pandas is skipped if that is missing.
+The library is found as the package finds it. Tests that need pandas are skipped if it is missing.
 """
 
 import copy
@@ -41,7 +41,7 @@ FIELDS = os.path.realpath(os.path.join(HERE, "..", "..", "crates", "ft_fields"))
 
 
 def python(program, **environment):
-    """What a program prints that another Python runs, on both of its streams."""
+    """Return what a program that another Python runs prints on both of its streams."""
     ran = subprocess.run(
         [sys.executable, "-B", "-c", program],
         stdout=subprocess.PIPE,
@@ -368,7 +368,7 @@ class Library(unittest.TestCase):
         self.folder = os.path.realpath(folder.name)
 
     def put(self, package, library):
-        """A copy of the package in a folder, and the library in another one. Answers the library's path."""
+        """Put a copy of the package in a folder, and the library in another one; return the library's path."""
         shutil.copytree(os.path.join(PYTHON, "histdesk"), os.path.join(self.folder, package, "histdesk"))
         place = os.path.join(self.folder, library, native.NAME)
         os.makedirs(os.path.dirname(place), exist_ok=True)
@@ -401,7 +401,7 @@ class Library(unittest.TestCase):
         self.assertIn("build/install", told)
 
     def test_missing_everywhere(self):
-        """It says where it was looked for, in lines."""
+        """The error says, in lines, where the library was looked for."""
         shutil.copytree(os.path.join(PYTHON, "histdesk"), os.path.join(self.folder, "python", "histdesk"))
         packages = os.path.join(self.folder, "python")
         told = python("import histdesk; histdesk.Desk()", PYTHONPATH=packages, HISTDESK_LIBRARY="")
@@ -621,7 +621,7 @@ class Schema(unittest.TestCase):
                 self.assertIn(field.column, (None, *histdesk.Event._fields))
 
 
-# What the docstring of a class says that users don't call, since something else makes its objects.
+# What the docstring of a class says if users don't call the class, since something else makes its objects.
 MADE = re.compile(r"`[\w.]+` (makes|is) (it|one)\b")
 # The title of a section.
 SECTION = re.compile(r"^(\w+)\n-+$", re.MULTILINE)
@@ -639,7 +639,7 @@ def names_in(section):
 
 
 def parameters_of(function):
-    """The names of what a function takes, but for the object itself."""
+    """The names of what a function takes, except for the object itself."""
     kinds = inspect.signature(function).parameters
     return {name for name in kinds if name not in ("self", "cls") and not name.startswith("_")}
 

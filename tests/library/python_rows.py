@@ -5,12 +5,12 @@
     python_rows.py --script SCRIPT [TRACE]...
 
 A row is a folder of tests/rows, and of FOLDER: a script, trace1 and on, the program's whole output in `expected`, and its
-status. Of each the output and the status are those of the folder; and the package's other answers say the same as the texts:
+status. The output and the status of each row are those of its folder, and the package's other answers say what the texts say:
 
 - the rows, printed as the text of the table has them, are its rows, and the totals are its totals;
 - the latencies are printed line by line from what the package answers; each lies between two held events;
 - the events of a CPU, printed as `list` has them, are its text, and each is what the desk has at its place;
-- of an edit that has a report, each row that came, went or changed is named, and none twice;
+- if an edit has a report, it names each row that came, went or changed, and none twice;
 - if pandas is there, its tables are as long as the lists.
 
 With `--script` the output is printed, for comparing it with another program's. The library is found as the package finds it.
@@ -37,16 +37,16 @@ except ImportError:
 
 EVENTS = {b"sched_waking", b"sched_wakeup", b"sched_wakeup_new", b"sched_switch", b"wakeup_latency"}
 MASK = 2**64 - 1
-# Tables of more rows together are not compared before and after each edit.
+# If all tables together have more rows, they are not compared before and after each edit.
 MOST_ROWS = 300
 
 
 class ScriptRefused(Exception):
-    """The script refuses a line by itself: its number."""
+    """The script itself refuses a line: the number of the refusal."""
 
 
 class Differs(Exception):
-    """Two answers of the package don't say the same: which."""
+    """Two answers of the package don't say the same: which answers."""
 
 
 class Script:
@@ -123,7 +123,7 @@ class Script:
         return b"removed %d" % number
 
     def edit(self, do):
-        """An edit, whose report names each row that came, went or changed, and none twice."""
+        """Make an edit; its report has to name each row that came, went or changed, and none twice."""
         before = self.tables()
         edit = do()
         same("the rows that an edit names", len(edit.changed or []), len(set(edit.changed or [])))
@@ -214,7 +214,7 @@ def same(what, one, other):
 
 
 def modifiers(trigger):
-    """Of each key of a trigger its modifier, or an empty text."""
+    """Return the modifier of each key of a trigger, or an empty text."""
     return [item.partition(".")[2] for item in trigger.canonical.split(":")[1].partition("=")[2].split(",")]
 
 

@@ -1,5 +1,5 @@
 #!/usr/bin/env python3
-"""Holds whom the server of tools/view answers and whom not, how it begins and ends, and the page that it saves as one file.
+"""Tests whom the server of tools/view answers and whom not, how it begins and ends, and the page that it saves as one file.
 
     python_serve.py [TEST]...
 
@@ -41,19 +41,19 @@ import recordings
 from python_runner import main
 
 FILTER = {"recording": 0, "event": "sched_waking", "text": "pid > 100"}
-# The longest that something may take.
+# How many seconds anything may take at most.
 LIMIT = 60
-# So many events are held by a desk.
+# How many events a desk holds.
 DESK = 1048576
 
 
 def environment():
-    """What the tool needs; no browser opens."""
+    """Return the environment that the tool needs, in which no browser opens."""
     return {name: value for name, value in os.environ.items() if name not in ("BROWSER", "DISPLAY", "WAYLAND_DISPLAY")}
 
 
 def tool(*words, **named):
-    """Runs the tool to its end."""
+    """Run the tool to its end."""
     words = [sys.executable, TOOL, *words]
     return subprocess.run(words, capture_output=True, check=False, timeout=LIMIT, env=environment(), **named)
 
@@ -72,7 +72,7 @@ class Running:
         self.host, self.port, self.token = found[1], int(found[2]), found[3]
 
     def end(self, number=signal.SIGINT):
-        """Ends it by a signal; its status, and what it said since."""
+        """End the tool by a signal; return its status, and what it printed since."""
         self.process.send_signal(number)
         out, err = self.process.communicate(timeout=LIMIT)
         return self.process.returncode, out, err
@@ -122,7 +122,7 @@ class Asked(unittest.TestCase):
     @classmethod
     def tearDownClass(cls):
         status, out, err = cls.running.end()
-        # It says nothing of requests, and Ctrl-C ends it without a word.
+        # The tool prints nothing about requests, and Ctrl-C ends it without a word.
         assert (status, out, err) == (-signal.SIGINT, b"", b""), (status, out, err)
 
 
@@ -252,7 +252,7 @@ class What(Asked):
         self.assertEqual((status, headers["Content-Type"]), (200, "application/octet-stream"))
         # 111 rows, each column filled up to eight bytes.
         self.assertEqual(len(body), 8 * 111 + 6 * (4 * 111 + 4) + 2 * (2 * 111 + 2) + 2 * (111 + 1))
-        # As examples/recipes.trace has them.
+        # The values are those of examples/recipes.trace.
         asks = {
             "filter": (FILTER, {"count": 59}),
             "trigger": ({**FILTER, "text": "hist:keys=pid"}, {"totals": {"hits": 68, "entries": 14, "dropped": 0}}),
@@ -292,7 +292,7 @@ class What(Asked):
         self.assertEqual((status, json.loads(body)["strike"]), (200, 0))
 
     def test_malformed(self):
-        """Words of another form are told, and the page sees no traceback."""
+        """Questions of another form are refused with a reason, and the page sees no traceback."""
         deep = b"[" * 60000
         bodies = [
             (b"", "the body isn't JSON"),
@@ -348,7 +348,7 @@ class What(Asked):
             ({"Content_Length": "9" * 40}, (413, "a body has at most 65536 bytes")),
         ):
             self.assertEqual(self.running.error("POST", path, **headers), told)
-        # Just as long as it may be.
+        # This body is exactly as long as it may be.
         body = json.dumps(FILTER).encode()
         self.assertEqual(self.running.post("filter", body + b" " * (65536 - len(body)))[0], 200)
 
@@ -379,7 +379,7 @@ class What(Asked):
         for content in (head.encode() + body, head.encode() + body[:-3], head.encode()[:30], b"GET / HTTP/1.1\r\n"):
             for _ in range(20):
                 with socket.create_connection(("127.0.0.1", self.running.port)) as connection:
-                    # It is closed by a reset.
+                    # The connection is closed by a reset.
                     connection.setsockopt(socket.SOL_SOCKET, socket.SO_LINGER, b"\1\0\0\0\0\0\0\0")
                     connection.sendall(content)
         # A connection that says nothing holds nobody up.
@@ -408,7 +408,7 @@ class What(Asked):
         self.assertEqual(self.running.raw(3 * one).count(b"HTTP/1.1 200 "), 3)
 
     def test_at_once(self):
-        """Answers to many at once are those to each."""
+        """Answers to many questions at once are those to each one."""
         wanted = {
             text: self.running.post("filter", {**FILTER, "text": text})[2] for text in ("pid > 5", "pid < 60", "pid & 1", "")
         }
@@ -437,7 +437,7 @@ class Ends(unittest.TestCase):
             self.assertEqual(running.end(), (-signal.SIGINT, b"", b""))
 
     def test_ctrl_c_meanwhile(self):
-        """While a connection is open and one waits for an answer."""
+        """Ctrl-C ends it while a connection is open that sends nothing."""
         running = Running(TRACE, "--no-browser")
         with socket.create_connection(("127.0.0.1", running.port)):
             running.post("filter", FILTER)
@@ -454,7 +454,7 @@ class Ends(unittest.TestCase):
         running = Running(TRACE, "--no-browser", "--port", str(port))
         self.assertEqual(running.port, port)
         running.end()
-        # At once again.
+        # The same port can be used again at once.
         running = Running(TRACE, "--no-browser", "--port", str(port))
         running.end()
 
@@ -477,7 +477,7 @@ class Ends(unittest.TestCase):
                 self.assertEqual(ended.stderr.decode(), told)
 
     def test_options(self):
-        """Those that choose events; two recordings; standard input."""
+        """Options that choose events; two recordings; standard input."""
         other = os.path.join(EXAMPLES, "..", "examples", "recipes.trace")
         running = Running("--from", "1404.968", TRACE, other, "--no-browser")
         recordings_told = json.loads(running.get("about")[2])["recordings"]
@@ -494,7 +494,7 @@ class Ends(unittest.TestCase):
         self.assertIn(b"can't be read and is left out", running.end()[2])
 
     def test_browser(self):
-        """A browser is opened where there is a desktop, or one is named; and --no-browser opens none."""
+        """A browser is opened if there is a desktop, or if one is named; and --no-browser opens none."""
         with tempfile.TemporaryDirectory() as folder:
             browser, told = os.path.join(folder, "browser"), os.path.join(folder, "told")
             with open(browser, "w", encoding="utf-8") as file:
@@ -567,7 +567,7 @@ class Saved(unittest.TestCase):
         running.end()
 
     def test_same(self):
-        """The same words write the same bytes, over what stood there, as other files are written."""
+        """The same arguments write the same bytes, over what was there, and the file has the mode of other files."""
         old = os.umask(0o022)
         try:
             tool(TRACE, "--save", self.path)
@@ -596,7 +596,7 @@ class Saved(unittest.TestCase):
         self.assertLessEqual({"</script>", "bad\udcff"}, set(data["about"]["recordings"][0]["tasks"]))
 
     def test_no_room(self):
-        """Where it can't be written, that is one line, and nothing is left of it."""
+        """If the page can't be written, one line says so, and nothing is left of it."""
         limit = lambda: resource.setrlimit(resource.RLIMIT_FSIZE, (10000, 10000))
         with open(self.path, "w", encoding="utf-8") as file:
             file.write("before")

@@ -1,6 +1,6 @@
 #!/usr/bin/env python3
-"""python_slices.py: slices of recordings, by histdesk.read with a stretch of time, by waits of it, and by Waits.source; and
-long files, which are read in parts. The expected values come from a plain filter over the lines of the whole text, and from the
+"""Tests slices of recordings, by histdesk.read with a stretch of time, by waits of it, and by Waits.source; and long files,
+which are read in parts. The expected values come from a plain filter over the lines of the whole text, and from the
 plain reckoning of plain_waits.py over the lines that it leaves."""
 
 import csv
@@ -56,12 +56,12 @@ def events_of(text: bytes) -> List[Event]:
 
 
 def between(events, start, until):
-    """Those of a stretch of time."""
+    """Return the events of a stretch of time."""
     return [event for event in events if (start is None or start <= event.stamp) and (until is None or event.stamp < until)]
 
 
 def counted_anew(events):
-    """The places of events, with lines that begin with the first of them."""
+    """Return the places of events, with the lines of each CPU counted from the first of these events on."""
     first = {}
     for event in events:
         first.setdefault(event.cpu, event.line - 1)
@@ -102,7 +102,7 @@ def texts():
 
 
 def stretches(events, chance, count):
-    """Stretches of time by chance: from and until stamps of events, and just before and after them, or without an end."""
+    """Stretches of time by chance, from and until stamps of events, or just before or after them; some have only one end."""
     for _ in range(count):
         ends = sorted(chance.choice(events).stamp + chance.choice([-1, 0, 0, 1]) for _ in range(2))
         yield chance.choice([(ends[0], ends[1]), (ends[0], ends[1]), (ends[0], None), (None, ends[1])])
@@ -128,7 +128,7 @@ class Folder(unittest.TestCase):
         return [lambda: path, lambda: packed, lambda: text, lambda: io.BytesIO(text), lambda: Dripping(gzip.compress(text))]
 
     def small_parts(self):
-        """Reads little at once, so that short texts have many parts."""
+        """Have little read at once, so that short texts have many parts."""
         for module, name, value in (
             (_text, "PIECE", 700),
             (_time_range, "ROOM", 128),
@@ -158,7 +158,7 @@ class Stretches(Folder):
                 self.assertEqual(recording.lines_from, None if is_first or start is None else wanted[0].stamp)
 
     def test_waits(self):
-        """They are those of the lines, and doubtful if anything was lost in their time, wherever a line tells of it."""
+        """Waits are those of the lines, and doubtful if anything was lost in their time, wherever a line reports it."""
         self.small_parts()
         chance, doubtful = random.Random(2), 0
         for text in texts():
@@ -177,7 +177,7 @@ class Stretches(Folder):
                     self.assertEqual(wait.doubtful, spanned, (start, until))
                     doubtful += spanned
                     same = known[wait.pid, wait.end]
-                    # Of a task that was preempted and woken the wait that is surer counts.
+                    # If a task was preempted and woken, the wait that is surer counts.
                     if not same.doubtful and not spanned:
                         self.assertEqual(wait, same)
         self.assertGreater(doubtful, 50)
@@ -205,7 +205,7 @@ class Stretches(Folder):
             self.assertEqual([str(one.message) for one in warned], [recording.warning] * len(holes))
 
     def test_late_cpus(self):
-        """A CPU whose events begin after a stretch, of which the header says that some were overwritten."""
+        """A CPU whose events begin after a stretch, and the header says that some events were overwritten."""
         lines = [waking(0, 1000 * at, 7) for at in range(4000)]
         for mark, known in [("##### CPU 3 buffer started ####\n", 2), ("", None)]:
             late = [mark + waking(3, 5000000, 9), "# CPU 3: 2 events overwritten"] if known else [waking(3, 5000000, 9)]
@@ -233,7 +233,7 @@ class Stretches(Folder):
             histdesk.waits(recording)
 
     def test_bad_lines(self):
-        """They are refused or left out in the stretch in which they stand, by their numbers in the whole text."""
+        """Bad lines are refused or left out in the stretch in which they stand, by their numbers in the whole text."""
         lines = [waking(0, 1000 * at, 7) for at in range(100)]
         lines[50] += "\ntorn\na-1 [000] 0.050000: sched_waking: comm=x"
         lines[80] += "\ntorn"
@@ -284,7 +284,7 @@ class Stretches(Folder):
             recording = quiet(histdesk.read, self.file(text), start=at_micros(start), until=at_micros(until))
             self.assertEqual(held(recording), places(between(events, start, until)))
             self.assertIsNone(recording.lines_from)
-        # Two events that only the stream sees.
+        # Two events out of order, where no look at the text meets them: only the stream sees that.
         lines = [waking(0, 1000 * at, 7) for at in range(3000)]
         lines[1500], lines[1501] = lines[1501], switch(0, 1500000, "a-1", "w-7")
         text = text_of(lines)
@@ -305,7 +305,7 @@ class Sources(Folder):
     """`Waits.source`, which reads slices of what the waits are of."""
 
     def check(self, source, events, chance):
-        """Holds some slices and places."""
+        """Check some slices and places."""
         for start, until in stretches(events, chance, 8):
             start, until = start or 0, 1 << 50 if until is None else until
             lead = chance.choice([0, 0, 1, 5, 50])
@@ -406,7 +406,7 @@ class Sources(Folder):
         self.assertEqual(held(recording), [(at, 0, at + 1) for at in range(15, 25)])
 
     def test_none(self):
-        """A desk's waits have none, and pickled ones."""
+        """A desk's waits have no source, and neither have pickled waits."""
         import pickle
 
         with histdesk.Desk() as desk:
@@ -459,7 +459,7 @@ class Long(Folder):
             self.assertEqual(recording.losses, quiet(histdesk.read, text).losses)
 
     def test_what_a_desk_holds(self):
-        """As much as it holds is read from the beginning; it is what is taken of the text in memory."""
+        """As much of a file as a desk holds is read from its beginning; the same is taken of the text in memory."""
         for text in texts():
             path, spare = self.file(text), ("sched_wakeup", "other")
             for choice in ({}, {"spare": spare}, {"events": ["sched_switch", "other"]}, {"cpus": [0, 2], "spare": spare}):
@@ -515,7 +515,7 @@ class Tool(Folder):
         return ran.returncode, ran.stdout.decode(), ran.stderr.decode()
 
     def test_the_same_events(self):
-        """A file, packed or not, and standard input: the same words name the same events."""
+        """A file, packed or not, and standard input: the same arguments name the same events."""
         text = recordings.simulated(3).text
         events = events_of(text)
         start, end = events[len(events) // 3], events[len(events) * 2 // 3]

@@ -1,5 +1,5 @@
 #!/usr/bin/env python3
-"""Holds histdesk.summary and tools/summary: what a recording sums up to by task, by name and by CPU, with the waits of each.
+"""Tests histdesk.summary and tools/summary: what a recording sums up to by task, by name and by CPU, with the waits of each.
 
     python_summary.py [TEST]...
 
@@ -208,7 +208,7 @@ class Answers(unittest.TestCase):
                 self.assertEqual((row.task, row.pid), (whose.get("greatest_name"), whose.get("greatest_pid")))
 
     def test_busy_is_run_time(self):
-        """With each switch there, the time in which a CPU is busy is that of the runs on it."""
+        """If no switch is missing, the time in which a CPU is busy is that of the runs on it."""
         text = recordings.simulated(1).text
         runs = plain_sums.runs_of(sorted(plain_sums.events_of(text)))
         for row in summary_of(text).cpus:
@@ -246,7 +246,7 @@ class Answers(unittest.TestCase):
         self.assertEqual((rows[3], rows[4], rows[5]), ("first", "last", "x"))
 
     def test_cut_anywhere(self):
-        """However a text comes in pieces."""
+        """The summary is the same however the text is cut into pieces."""
 
         class Slow(io.BytesIO):
             def read(self, size=-1):
@@ -389,7 +389,7 @@ class Shown(unittest.TestCase):
         self.assertEqual((again.tasks, again.cpus, again.lines()), (answer.tasks, answer.cpus, answer.lines()))
 
     def test_example(self):
-        """That of the documentation, which is skipped if numpy isn't there."""
+        """The example in the documentation, which is skipped there in case numpy is missing."""
         text = histdesk.summary.__doc__.replace("# doctest: +SKIP", "")
         example = doctest.DocTestParser().get_doctest(text, {"summary": histdesk.summary}, "summary", None, None)
         tried = doctest.DocTestRunner().run(example)

@@ -1,5 +1,5 @@
 #!/usr/bin/env python3
-"""Holds what a stream of waits sums up by task and by CPU to a plain reckoning (plain_sums.py), also of a stream that leaves
+"""Compares what a stream of waits sums up by task and by CPU with a plain reckoning (plain_sums.py), also if the stream leaves
 events out (model_filter.py).
 
     python_sums.py [TEST]...
@@ -66,7 +66,7 @@ class Sums(unittest.TestCase):
     """What a recording sums up to."""
 
     def hold(self, seed):
-        """One recording, under some filters."""
+        """Check one recording, under some filters."""
         chance = random.Random(seed)
         text, filters = recording(chance), []
         with Stream() as stream:
@@ -91,14 +91,14 @@ class Sums(unittest.TestCase):
         told = [self.hold(seed) for seed in range(400)]
         tasks = [one for found, _ in told for one in found]
         cpus = [one for _, found in told for one in found]
-        # Each figure is more than 0 in many of the recordings, and idle time is not all with waiters.
+        # Each figure is more than 0 in many of the recordings, and not all idle time has waiters.
         for field in Task._fields[:-1]:
             self.assertGreater(sum(getattr(one, field) > 0 for one in tasks), 100, field)
         self.assertGreater(sum(0 < one.idle_with_waiters < one.idle for one in cpus), 100)
         self.assertGreater(sum(0 < one.longest < one.idle_with_waiters for one in cpus), 100)
 
     def test_of_a_simulated_scheduler(self):
-        """With each switch there, a CPU runs a task or is idle from its first switch to its last."""
+        """If no switch is missing, a CPU runs a task or is idle from its first switch to its last."""
         known = recordings.simulated(1)
         with Stream() as stream:
             self.assertEqual(library.histdesk_waits_sum_up(stream.desk), 0)

@@ -1,5 +1,5 @@
 #!/usr/bin/env python3
-"""Holds the times that the package takes and gives: seconds in any form, `timedelta`, `Stamp`, and those of DataFrames.
+"""Tests the times that the package takes and gives: seconds in any form, `timedelta`, `Stamp`, and those of DataFrames.
 
     python_times.py [TEST]...
 
@@ -45,7 +45,7 @@ SAME = [
     datetime.timedelta(microseconds=2217600000),
     Stamp(2217600000),
 ]
-# What is no time, and what is none of a trace.
+# What is no time, and what is no time of a trace.
 NO_TIME = [True, b"2217.6", object(), datetime.datetime(2026, 1, 1), [1], 1j]
 NO_STAMP = ["", "-1", "2217.6000001", "1e3", -1, -0.1, float("nan"), float("inf"), decimal.Decimal("NaN"), 2217600000000]
 
@@ -63,7 +63,7 @@ class Forms(unittest.TestCase):
         self.assertEqual((_times.micros_of(2218, "start"), _times.micros_of(None, "start")), (2218000000, None))
 
     def test_rounded(self):
-        """To the nearest microsecond, as a float may have none of its own."""
+        """Times are rounded to the nearest microsecond, since a float may not be exactly one."""
         for micros in (1, 6012001092, 4294967295999999, 123456789012345):
             self.assertEqual(_times.micros_of(micros / 1e6, "start"), micros)
             self.assertEqual(_times.micros_of(recordings.stamp(micros), "start"), micros)
@@ -139,7 +139,7 @@ class Read(unittest.TestCase):
             self.assertEqual(histdesk.many([path], histdesk.AskWaits(), processes=0, start=2217.6).answer.count, 0)
 
     def test_microseconds_by_mistake(self):
-        """A whole number that is a microsecond of the trace, and a second after its end."""
+        """A whole number that is in the trace's time as microseconds, and after its end as seconds."""
         text = text_of(LINES)
         for words in ({"start": 2217600000}, {"until": 2217600000}, {"start": numpy.int64(2217600000)}):
             with self.assertRaisesRegex(ValueError, "ends at 2218.000000; for microseconds, pass timedelta"):
@@ -149,7 +149,7 @@ class Read(unittest.TestCase):
         self.assertEqual(stamps(histdesk.read(text, start=4000)), [])
 
     def test_timedelta_of_numpy(self):
-        """One of any unit is that long; none is taken for seconds."""
+        """A timedelta of any unit is as long as it says; none is taken for seconds."""
         text = text_of([line("a-1", 0, 2000100, "x: y"), line("a-1", 0, 2500100, "x: y")])
         for count, unit in ((2100, "ms"), (2100000, "us"), (2100000000, "ns")):
             self.assertEqual(histdesk.read(text, start=numpy.timedelta64(count, unit)).taken.events, 1)
@@ -170,7 +170,7 @@ class Read(unittest.TestCase):
 @with_pandas
 class Frames(unittest.TestCase):
     def check(self, frame, plain, columns):
-        """These columns are times, of as many microseconds as in another frame."""
+        """Check that these columns are times, of as many microseconds as in another frame."""
         for column in columns:
             self.assertEqual(str(frame[column].dtype), "timedelta64[ns]", column)
             wanted = [pandas.NaT if pandas.isna(value) else value for value in plain[column].astype(object)]

@@ -1,10 +1,10 @@
 #!/usr/bin/env python3
-"""Holds what tools/view answers a browser: the waits beside a plain reckoning and beside the other tools, filters, triggers and
-strikes beside what the program prints; and whom its server answers.
+"""Compares what tools/view answers a browser: waits with a plain reckoning and with the other tools, and filters, triggers and
+strikes with what the program prints.
 
     [HISTDESK=PROGRAM] python_view.py [TEST]...
 
-PROGRAM is histdesk; without it, what runs it is skipped."""
+PROGRAM is histdesk; without it, the tests that run it are skipped."""
 
 import base64
 import gzip
@@ -59,7 +59,7 @@ COLUMNS = [
     ("doubtful", "B"),
 ]
 KINDS = ["woken", "new", "preempted"]
-# So many events are held by a desk.
+# How many events a desk holds.
 DESK = 1048576
 # Filters, by their event, and the lines that they mean.
 FILTERS = {
@@ -128,14 +128,14 @@ def waits_in(view, recording=0):
 
 
 def bits_of(text, count):
-    """The mask of that text."""
+    """Return the mask that this text holds."""
     content = base64.b64decode(text)
     assert len(content) == (count + 7) // 8
     return [bool(content[at // 8] >> at % 8 & 1) for at in range(count)]
 
 
 def after(view, answer):
-    """The waits after strikes, of their answer: those before that are left, and the new ones."""
+    """Return the waits after strikes, from the answer to them: those before that are left, and the new ones."""
     about = view.about()["recordings"][0]
     taken = base64.b64decode(answer["changed"]["taken"])
     places = struct.unpack(f"<{len(taken) // 4}I", taken)
@@ -206,7 +206,7 @@ class Shown(unittest.TestCase):
         self.assertEqual(list(first.values()), wanted)
 
     def test_long_waits(self):
-        """A wait of more than 71 minutes is shown as of that."""
+        """A wait of more than 71 minutes is shown as one of 71 minutes."""
         view = view_of(text_of([waking(0, 1000, 2), switch(0, 2**33, "<idle>-0", "w-2", state="R")]))
         self.assertEqual([row["micros"] for row in unpacked(view.waits(0), 1)], [4294967295])
 
@@ -230,7 +230,7 @@ class Shown(unittest.TestCase):
         self.assertEqual(view_of(b"").about()["recordings"][0]["first"], None)
 
     def test_differences(self):
-        """What differs between two recordings is what the package says, while something is struck too; of one there is none."""
+        """What differs between two recordings is what the package says, even after strikes; one recording has no difference."""
         texts = [example("recipes-before.trace"), example("recipes.trace")]
         self.assertEqual(view_of(texts[0]).differences(), {"rows": []})
         self.assertEqual(view_of(texts[0], texts[0]).differences(), {"rows": []})
@@ -271,7 +271,7 @@ class Shown(unittest.TestCase):
                     ask(number)
 
     def test_schema(self):
-        """The page knows events by the table of the package only."""
+        """The page knows events only by the table of the package."""
         schema = view_of(example("recipes.trace")).about()["schema"]
         self.assertEqual([event["name"] for event in schema["events"]], list(_schema.WAIT_EVENTS))
         for event in schema["events"]:
@@ -306,7 +306,7 @@ class Shown(unittest.TestCase):
         self.assertIn("part of one", view.script(0, model.Asked("sched_waking", "", "hist:keys=pid"), [])["refused"])
 
     def test_chosen_events(self):
-        """Of events of some names a desk holds as many as it has room for; lines are those of the whole recording."""
+        """If events are chosen by name, a desk holds as many as it has room for; lines are those of the whole recording."""
         lines = []
         for at in range(1000, 2000, 100):
             lines += [waking(0, at, 7, target=1), waking(0, at + 3, 7, target=1, event="sched_wakeup")]
@@ -323,7 +323,7 @@ class Shown(unittest.TestCase):
         self.assertIn("part of one", view.script(0, model.Asked("sched_waking", "", "hist:keys=pid"), [])["refused"])
 
     def test_any_order(self):
-        """Of a recording that isn't in the order of time a desk holds the events."""
+        """If a recording isn't in the order of time, a desk holds its events."""
         known = recordings.simulated(2)
         lines = known.text.split(b"\n")
         text = b"\n".join(sorted((line for line in lines if b": sched_" in line), key=lambda line: line.partition(b"[")[2][:3]))
@@ -344,7 +344,7 @@ def stamp_of(line):
 
 class Filters(unittest.TestCase):
     def test_chosen(self):
-        """A mask of the waits whose event a filter means."""
+        """A filter answers with a mask of the waits whose event it means."""
         for seed in range(3):
             text = recordings.simulated(seed).text
             view, waits = view_of(text), plain_waits.waits_of(text)
@@ -367,7 +367,7 @@ class Filters(unittest.TestCase):
 
     def test_refused(self):
         view = view_of(example("recipes.trace"))
-        # An umlaut is one character of a browser's, and what lies beyond the first plane two.
+        # To a browser, an umlaut is one character, and a character beyond the first plane is two.
         fields = "; sched_waking has comm, pid, prio, target_cpu, common_pid, common_cpu"
         words = {
             "pid >> 100": ("unexpected token", 5, ""),
@@ -389,7 +389,7 @@ class Filters(unittest.TestCase):
 
 
 def places_of(text, pattern):
-    """Where the events of a text stand that a pattern means."""
+    """Return where the events that a pattern means stand in a text."""
     counts, found = {}, set()
     for line in text.split(b"\n"):
         event = plain_waits.LINE.fullmatch(line.decode("utf-8", "surrogateescape"))
@@ -407,7 +407,7 @@ def is_of(wait, event):
 
 
 class Triggers(unittest.TestCase):
-    """Tables beside those that the program prints."""
+    """Tables, compared with those that the program prints."""
 
     TRIGGERS = [
         ("sched_waking", "hist:keys=pid"),
@@ -441,7 +441,7 @@ class Triggers(unittest.TestCase):
 
     def test_refused(self):
         view = view_of(example("recipes.trace"))
-        # What measures waits isn't there for others to read.
+        # What measures waits isn't there for other triggers to read.
         answers = {
             "": ("the trigger can't be read", None),
             "hist:keys=pid if pid >> 1": ("the trigger can't be read: its filter: unexpected token", 22),
@@ -523,7 +523,7 @@ class OneWait(unittest.TestCase):
             view.wait(0, (0, 24), model.Window(7, 7))
 
     def test_words(self):
-        """The text is that of tools/why, but that a page breaks its lines; of what belongs to no wait its reason."""
+        """The text is that of tools/why, except that a page breaks its lines; if an event has no wait, it is the reason."""
         path = os.path.join(EXAMPLES, "recipes.trace")
         view = view_of(path)
         for place in ((0, 24), (1, 49), (3, 3), (2, 5), (0, 1), (9, 1), (1, 1000)):
@@ -600,10 +600,10 @@ class OneWait(unittest.TestCase):
 
 
 class Strikes(unittest.TestCase):
-    """Waits after strikes, beside the plain reckoning over the text without these lines."""
+    """Waits after strikes, compared with the plain reckoning over the text without the struck lines."""
 
     def check(self, view, text, strikes):
-        """Strikes, and compares."""
+        """Strike, and compare."""
         answer = view.strike(strikes)
         waits, counts = reckoned(text, strikes)
         left, new = after(view, answer)
@@ -691,7 +691,7 @@ class Strikes(unittest.TestCase):
         self.assertEqual([one["begin"] for one in told], [1100, 1000])
         self.assertIn(" waited 200 us for CPU 0, ", told[1]["text"])
         self.assertEqual(told[1]["marks"][0], {"cpu": 0, "stamp": 1000, "what": "woken"})
-        # Where it ends no wait then, it is told as it was.
+        # If the event ends no wait then, the wait is told as it was.
         self.assertEqual(view.strike([("sched_waking", "pid == 2")])["struck"], [2])
         self.assertEqual(view.wait(0, (0, 3), after=True)["begin"], 1100)
 
@@ -719,7 +719,7 @@ class Strikes(unittest.TestCase):
                 view.strike([(event, "")])
 
     def test_no_memory(self):
-        """Where memory runs out in a strike, what was struck before stays struck."""
+        """If memory runs out in a strike, what was struck before stays struck."""
         text = recordings.simulated(2).text
         view = view_of(text)
         kept = [("sched_waking", "pid < 110")]
@@ -733,7 +733,7 @@ class Strikes(unittest.TestCase):
         self.check(view, text, [])
 
     def test_tables_of_one_desk_after_the_other(self):
-        """A desk without some events serves for more of them, and a new one is made if some come back."""
+        """A desk without some events also serves if more are struck, and a new one is made if some come back."""
         text = example("recipes.trace")
         view = view_of(text)
         for condition, hits in (("pid < 60", 64), ("pid > 0", 0), ("pid < 60", 64), ("common_pid == 24659", 62), ("", 0)):
@@ -744,7 +744,7 @@ class Strikes(unittest.TestCase):
             self.assertEqual(view.trigger(0, "sched_waking", "hist:keys=pid")["totals"]["hits"], hits)
 
     def test_new_names(self):
-        """A new wait's task may be called as none was before."""
+        """The task of a new wait may have a name that none had before."""
         lines = [
             waking(0, 1000, 1),
             switch(0, 1100, "<idle>-0", "a-1", state="R"),
@@ -752,7 +752,7 @@ class Strikes(unittest.TestCase):
         ]
         view = view_of(text_of(lines))
         self.assertEqual([(wait.name, wait.micros) for wait in waits_in(view)], [("a", 100)])
-        # Without the switch that ran it, it waits until the other one, which nobody knows how it came about.
+        # Without the switch that ran it, the task waits until the other one; nobody knows how that came about.
         answer = view.strike([("sched_switch", "common_cpu == 0")])
         self.assertEqual(answer["changed"]["tasks"], {1: "b"})
         self.assertEqual([(wait.name, wait.micros) for wait in after(view, answer)[1]], [("b", 200)])
@@ -784,7 +784,7 @@ def rows_told(answer):
 
 
 def rows_reckoned(before, after):
-    """The same by the plain reckoning, of tasks of which some wait is another one."""
+    """The same by the plain reckoning, for each task and kind whose waits are not the same."""
     sides = [plain_waits.keys_of(waits, "task") for waits in (before, after)]
     found = {}
     for key in {**sides[0], **sides[1]}:
@@ -799,7 +799,7 @@ def figures_of(waits):
 
 
 class Long(unittest.TestCase):
-    """A recording of more events than a desk holds: copies of a small one, of which the plain reckoning is asked."""
+    """A recording of more events than a desk holds: copies of a small one, which the plain reckoning reads."""
 
     STRIKES = [("sched_waking", "pid == 104 || pid > 110"), ("sched_switch", "next_pid & 1")]
 
@@ -822,7 +822,7 @@ class Long(unittest.TestCase):
         self.same(waits_in(self.view), self.waits)
 
     def same(self, found, wanted):
-        """Two long lists are the same. Of such lists a test would look for what differs all day."""
+        """Check that two long lists are the same. `assertEqual` would look all day for what differs in them."""
         self.assertEqual(len(found), len(wanted))
         differ = next((pair for pair in zip(found, wanted) if pair[0] != pair[1]), None)
         self.assertIsNone(differ)
@@ -835,7 +835,7 @@ class Long(unittest.TestCase):
         wanted = self.copies.waits(lambda text: reckoned(text, self.STRIKES)[0], self.count)
         self.same(sorted([*left, *new], key=lambda wait: wait.end), wanted)
         self.assertTrue(left and new)
-        # A filter chooses of them too, and of those that were there before.
+        # A filter chooses from the new waits too, and from those that were there before.
         found = self.view.filter(0, "sched_switch", "next_pid == 103")
         masks = bits_of(found["chosen"], len(self.waits)), bits_of(found["new"], len(new))
         for waits, mask in zip((self.waits, new), masks):
@@ -851,7 +851,7 @@ class Long(unittest.TestCase):
 
     def test_one_wait(self):
         """A wait far behind is told as the same one near the beginning."""
-        # Both are the last one of a copy after which one more comes.
+        # Both are the last wait of a copy after which one more copy comes.
         far, near = self.copies.later(self.waits[-1], -1), self.copies.later(self.waits[-1], 3 - self.count)
         short = view_of(self.copies.text(4))
         told = [view.wait(0, (wait.end.cpu, wait.end.line)) for view, wait in ((self.view, far), (short, near))]
@@ -864,7 +864,7 @@ class Long(unittest.TestCase):
         self.assertEqual((told[0]["from"], told[0]["until"]), tuple(told[1][name] + moved for name in ("from", "until")))
 
     def test_waits_that_lie_together(self):
-        """Waits that are told from events which are read once are told as each by itself."""
+        """Waits that are told from events that are read once are told as each is by itself."""
         side, count = self.view.sides[0], len(self.waits)
         some = [*range(20), *range(count // 2, count // 2 + 20), *range(0, count, count // 10), *range(count - 20, count)]
         told = list(side.strips(side.waits[sorted(set(some))], 5000))
@@ -937,12 +937,12 @@ class Scripts(unittest.TestCase):
             self.assertEqual((found[0][1][:2], len(found)), ((len(waits), len(wanted)), 1))
         struck = [("sched_waking", "common_pid == 24659")]
         rows, _ = self.tables(view, path, model.Asked("sched_switch", "", ""), struck)[0]
-        # As recipe 11 of docs/GUIDE.md has it.
+        # Recipe 11 of docs/GUIDE.md has this row.
         self.assertIn(["24651", "7", "271"], rows)
 
     @with_program
     def test_names(self):
-        """A trigger that saves a variable of the same name as the waits' doesn't meet it."""
+        """A trigger that saves a variable of the same name as the waits' doesn't collide with it."""
         path = os.path.join(EXAMPLES, "wakeups.trace")
         for name in ("begin", "begin0"):
             trigger = f"hist:keys=pid:{name}=common_timestamp.usecs"

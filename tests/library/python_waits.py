@@ -1,5 +1,5 @@
 #!/usr/bin/env python3
-"""Holds histdesk.waits and tools/waits: what waits there are, of which kind, which are doubtful, and all figures of the tables.
+"""Tests histdesk.waits and tools/waits: what waits there are, of which kind, which are doubtful, and all figures of the tables.
 
     python_waits.py [TEST]...
 
@@ -158,7 +158,7 @@ class Waits(unittest.TestCase):
                 found.only(tasks=wrong)
         with self.assertRaisesRegex(TypeError, "integer"):
             found.only(cpus=b"2")
-        # A name isn't a number, and a number no name.
+        # A name isn't a number, and a number isn't a name.
         lines = [waking(0, 5, 7), switch(0, 9, "a-1", "12-7"), waking(0, 20, 12), switch(0, 30, "12-7", "b-12")]
         named = waits_of(text_of(lines))
         self.assertEqual([wait.pid for wait in told(named.only(tasks="12"))], [7])
@@ -327,7 +327,7 @@ class Streams(unittest.TestCase):
             self.assertEqual(found.warning, histdesk.read(known.text).warning)
 
     def test_overwritten(self):
-        """Only the header says that events were overwritten: CPU 1 begins late, so a wait of before may be false."""
+        """Only the header says that events were overwritten: CPU 1 begins late, so a wait from before that may be false."""
         lines = [waking(0, 5, 7), waking(0, 6, 8), waking(1, 20, 9), switch(0, 30, "x-1", "a-7"), switch(0, 40, "a-7", "c-9")]
         text = text_of(lines, in_buffer=5, lost=4)
         for piece in (1 << 22, 64):
@@ -346,7 +346,7 @@ class Streams(unittest.TestCase):
         self.assertEqual((found.missing, found.first_missing), (2, Place(6, 0, 2)))
 
     def test_grades(self):
-        """CPU 3 lost events while a task waited that was woken on CPU 0 and ran on CPU 1."""
+        """CPU 3 lost events while a task that was woken on CPU 0 and ran on CPU 1 waited."""
         found = waits_of(recordings.lost_in_middle().text)
         grades = {(wait.end_cpu, bool(wait.doubtful), bool(wait.likely)) for wait in found.array}
         self.assertEqual(grades, {(3, False, False), (3, True, False), (1, True, True)})
@@ -371,7 +371,7 @@ class Streams(unittest.TestCase):
 
 class Tables(unittest.TestCase):
     def check(self, found, waits, with_doubtful):
-        """Holds each table against the plain figures."""
+        """Compare each table with the plain figures."""
         for by in BYS:
             rows = found.table(by, with_doubtful)
             groups = plain_waits.keys_of(waits, by)
@@ -405,7 +405,7 @@ class Tables(unittest.TestCase):
     def test_a_task_is_named_as_at_its_greatest_wait(self):
         rows = {(row.pid, row.kind): row.task for row in waits_of(recordings.kinds().text).table()}
         self.assertEqual((rows[10, "woken"], rows[13, "new"]), ("a", "d"))
-        # Of a task whose waits are all doubtful it is the last one.
+        # A task whose waits are all doubtful has the name that it had last.
         rows = waits_of(recordings.hole_at_start().text).table()
         self.assertEqual([row.task for row in rows], ["true", "edge", "victim", "child", "thrown"])
 
@@ -513,7 +513,7 @@ class Counted(unittest.TestCase):
                 counts.percentile(percent)
 
     def test_equal_waits(self):
-        """Of waits that are equally long the first one counts as the greatest, and of recordings the first by name."""
+        """The first of equally long waits counts as the greatest; of several recordings, that of the first one by name does."""
         lines = [waking(0, 100, 7), switch(0, 110, "a-1", "w-7"), waking(0, 200, 7), switch(1, 210, "a-1", "w-7")]
         one, other = self.counts(text_of(lines), source="b"), self.counts(text_of(lines[:2]), source="a")
         self.assertEqual((one.whole().greatest.stamp, one.whole().greatest.source), (110, "b"))
@@ -660,7 +660,7 @@ class Shown(unittest.TestCase):
         self.assertEqual(_wait_answer.ranges(()), "")
 
     def test_example(self):
-        """That of the documentation, which is skipped if numpy isn't there."""
+        """The example in the documentation, which is skipped there in case numpy is missing."""
         text = histdesk.waits.__doc__.replace("# doctest: +SKIP", "")
         example = doctest.DocTestParser().get_doctest(text, {"waits": histdesk.waits}, "waits", None, None)
         tried = doctest.DocTestRunner().run(example)
@@ -698,7 +698,7 @@ class Tool(unittest.TestCase):
         return {tuple(map(str, key)): plain_waits.figures_of(waits, with_doubtful) for key, waits in groups.items()}
 
     def check_rows(self, rows, want, by, read):
-        """Holds rows by name, with what reads a figure's text."""
+        """Check rows by their names; `read` reads the text of a figure."""
         self.assertEqual(len(rows), len(want))
         for row in rows:
             fields = [*(["pid"] if by == "task" else [by][: by != "kind"]), "kind"]
@@ -771,7 +771,7 @@ class Tool(unittest.TestCase):
         self.assertEqual(text.count("\n"), 3)
 
     def test_terminal(self):
-        """There it is the first 30 rows, and what to ask next."""
+        """A terminal gets the first 30 rows, and what to ask next."""
         here, there = os.openpty()
         with open(here, "rb") as screen:
             subprocess.run([sys.executable, "-B", TOOL, self.path("simulated_1")], stdout=there, check=True)

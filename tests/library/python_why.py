@@ -1,6 +1,6 @@
 #!/usr/bin/env python3
-"""Holds what the package reports about a wait; why_command.py is of tools/why, and why_slices.py of slices of a recording. The
-values are written by hand; of simulated machines, what ran is reckoned microsecond by microsecond.
+"""Tests what the package reports about a wait; why_command.py tests tools/why, and why_slices.py slices of a recording. The
+values are written by hand; for simulated machines, what ran is reckoned microsecond by microsecond.
 
     python_why.py [TEST]...
 """
@@ -55,7 +55,7 @@ class Told(unittest.TestCase):
         self.assertEqual((why.cpu, why.queue_cpu, why.until, why.doubtful), (2, 2, 1000500, False))
         self.assertEqual(why.begin[:4], (1000100, 0, 1, "sched_waking"))
         self.assertEqual(why.end[:4], (1000500, 2, 4, "sched_switch"))
-        # The kernel has kept no name of it at the waking; a switch has it.
+        # The kernel has kept no name of the waker at the waking; a switch has it.
         self.assertEqual((why.waker, why.context), (("bash", 7, None), "task"))
         self.assertEqual((why.queued.stamp, why.queued.cpu, why.queued.line, why.slept), (1000104, 0, 2, None))
         self.assertEqual(
@@ -82,14 +82,14 @@ class Told(unittest.TestCase):
         self.assertEqual(doctest.DocTestRunner().run(example), (0, 2))
 
     def test_places(self):
-        """Each event of the wait tells it: its waking, its queueing, its end."""
+        """Each event of the wait leads to it: its waking, its queueing, its end."""
         whole = told(trace(*BUSY), 2, 4)
         for place in [(0, 1), (0, 2)]:
             self.assertEqual(told(trace(*BUSY), *place), whole)
         # A desk, what was read, and an open file.
         self.assertEqual(told(desk_of(trace(*BUSY)), 0, 1), whole._replace(context=None))
         self.assertEqual(told(histdesk.read(trace(*BUSY)), 0, 1), whole)
-        # Waits, of which the events around one are read again; they can't be if they were pickled.
+        # Waits: the events around one are read again, which can't be done if the waits were pickled.
         waits = histdesk.waits(trace(*BUSY))
         self.assertEqual(told(waits, 0, 1), whole)
         with self.assertRaisesRegex(ValueError, "can't be read again"):
@@ -124,11 +124,11 @@ class Kinds(unittest.TestCase):
                 "  1.000035  1:3  it ran on CPU 1, after rt-5, which slept (S)",
             ],
         )
-        # The switch that begins it ends none of its own: rt was not woken.
+        # The switch that begins it ends no other wait: rt was not woken.
         self.assertEqual(told(text, 1, 2), why)
 
     def test_switched_out_runnable(self):
-        """The kernel has R of a task on its way back to user space, or that gave way; it is moved over to another CPU."""
+        """The kernel has R for a task on its way back to user space, or one that gave way; it is moved to another CPU."""
         why = told(
             trace(
                 waking("<idle>-0", 0, 1000000, "b", 6, 0),
@@ -141,7 +141,7 @@ class Kinds(unittest.TestCase):
         )
         self.assertEqual((why.kind, why.cpu, why.queue_cpu, why.micros), ("preempted", 1, 0, 40))
         self.assertEqual(why.stretches, (Stretch(1, 1000010, 1000050, "<idle>", 0, None, "R", 1),))
-        # It isn't switched out before the wait is over.
+        # b isn't switched out before the wait is over.
         self.assertEqual(why.elsewhere, (Stretch(0, 1000010, 1000050, "b", 6, 120),))
         self.assertEqual(
             lines_of(why)[:6],
@@ -289,12 +289,12 @@ class Contexts(unittest.TestCase):
         )
 
     def test_without_flags(self):
-        """Texts of perf and trace-cmd have none."""
+        """Texts of perf and trace-cmd have no flags."""
         self.assertEqual(self.context_of(""), (None, "bash-7 on CPU 0, or an interrupt there, woke it"))
         self.assertEqual(self.context_of("", task="<idle>-0"), (None, "CPU 0, which was idle, woke it"))
 
     def test_other_lines_of_that_moment(self):
-        """The flags are those of the very line: of its CPU, event and task."""
+        """The flags are those of the waking's own line: of its CPU, event and task."""
         others = (
             waking("x-3", 1, 1000100, "w", 42, 1, flags="d.s4."),
             waking("bash-7", 0, 1000100, "w", 42, 1, flags="d.s4.", event="sched_wakeup"),
@@ -353,7 +353,7 @@ class Lost(unittest.TestCase):
         )
 
     def test_warning(self):
-        """What was lost is told once."""
+        """There is one warning about what was lost."""
         text = trace(waking("x-5", 0, 1000000, "w", 42, 1), "CPU:0 [LOST 3 EVENTS]", switch(0, 1000100, "a-1", "S", "w-42"))
         with warnings.catch_warnings(record=True) as warned:
             warnings.simplefilter("always")
@@ -378,7 +378,7 @@ class Lost(unittest.TestCase):
         self.assertEqual((why.doubtful, why.shares), (True, [Share("a", 10, 120, 100, 1)]))
 
     def test_hole_beside(self):
-        """One that ends as the wait begins, and one that begins as it ends, are not within it."""
+        """A hole that ends as the wait begins, and one that begins as it ends, are not within it."""
         why = told(
             trace(
                 waking("x-3", 0, 1000000, "z", 9, 1),
@@ -394,7 +394,7 @@ class Lost(unittest.TestCase):
         self.assertEqual((why.doubtful, why.stretches), (False, (Stretch(1, 1000100, 1000200, "a", 10, 120, "S", 1),)))
 
     def test_many_holes(self):
-        """Five within one wait; three are told."""
+        """Five holes are within one wait; three are told."""
         lines = [waking("bash-7", 0, 1000000, "w", 42, 1)]
         for number in range(1, 7):
             lines += [*["CPU:1 [LOST 2 EVENTS]"] * (number > 1), waking("a-10", 1, 1000000 + 100 * number, "z", 9, 1)]
@@ -455,7 +455,7 @@ class Lost(unittest.TestCase):
         self.assertEqual(lines_of(why)[1], "What ran on CPU 3 for 50 us (100 %) isn't known: no event in the trace tells.")
 
     def test_first_event_of_its_cpu(self):
-        """Nothing is before the switch that ends it; that knows who ran."""
+        """No event of the CPU comes before the switch that ends the wait; that switch says what ran."""
         why = told(trace(waking("bash-7", 0, 1000100, "w", 42, 1), switch(1, 1000400, "a-10", "S", "w-42")), 1, 1)
         self.assertEqual(why.stretches, (Stretch(1, 1000100, 1000400, "a", 10, 120, "S", 1),))
 
@@ -478,7 +478,7 @@ class Longest(unittest.TestCase):
                 self.assertEqual((why.micros, why.pid, why.begin[:3]), (first.micros, first.pid, first.begin))
 
     def test_of_what(self):
-        """Of a desk, of waits, and of what was read of a trace; not of some CPUs."""
+        """The longest wait of a desk, of waits, or of what was read of a trace; but not if only some CPUs were read."""
         text = all_known()["kinds"].text
         why = told(text)
         for source in (desk_of(text), histdesk.waits(text), histdesk.read(text)):
@@ -517,7 +517,7 @@ class Nothing(unittest.TestCase):
             "nothing before the sched_switch at 2:1 shows what made a-10 runnable: "
             "it was lost or left out, or the trace begins later",
         )
-        # Nor of this one, but it begins another wait.
+        # Nothing shows what made b-11 runnable either, but its switch begins another wait.
         self.assertEqual(told(trace(*BUSY), 2, 2).pid, 10)
 
     def test_idle(self):
@@ -552,7 +552,7 @@ class Nothing(unittest.TestCase):
         self.assertEqual(self.reason(text, 0, 1), "the sched_waking at 0:1 begins no wait: w-42 is woken again before it runs")
 
     def test_waking_within_a_wait(self):
-        """Of a task that was preempted it begins nothing: the wait is that since then."""
+        """If the task was preempted, a waking begins nothing: the wait is the one since the preemption."""
         text = trace(
             switch(1, 1000000, "w-42", "R+", "a-10"),
             waking("bash-7", 0, 1000100, "w", 42, 1),
@@ -613,7 +613,7 @@ class Shown(unittest.TestCase):
 
 
 def events_of(text):
-    """The events of a text as the reckoning needs them, in order of time: stamp, CPU, and of a switch both pids, else None."""
+    """The events of a text as the reckoning needs them, in order of time: stamp, CPU, and a switch's two PIDs, or else None."""
     found = []
     for each in text.decode("utf-8", "surrogateescape").split("\n"):
         if " sched_" in each:
@@ -624,7 +624,7 @@ def events_of(text):
 
 
 def by_runners(text):
-    """The text of a simulated machine, with each waking told by the task that runs on its CPU."""
+    """The text of a simulated machine, with each waking written by the task that runs on its CPU."""
     running, lines = {}, []
     for each in text.decode("utf-8", "surrogateescape").split("\n"):
         cpu = each.partition("[")[2][:3]
@@ -649,7 +649,7 @@ def ran(events, cpu, begin, end):
 
 
 class Reckoned(unittest.TestCase):
-    """Simulated machines, whose waits are known, and what ran meanwhile too."""
+    """Simulated machines: it is known what waits they have, and what ran meanwhile."""
 
     def test_simulated(self):
         for seed in range(4):
@@ -676,7 +676,7 @@ class Reckoned(unittest.TestCase):
                 self.assertEqual(told_at_begin(scene, wait), why)
 
     def test_known(self):
-        """The waits that are known by hand, and in traces that have lost events; those that aren't doubtful."""
+        """All known waits that aren't doubtful, except those of damaged traces."""
         for name, known in all_known().items():
             desk = desk_of(known.text)
             for wait in known.waits:

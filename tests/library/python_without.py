@@ -1,5 +1,5 @@
 #!/usr/bin/env python3
-"""Holds a stream of waits that leaves events out to a plain reckoning (plain_waits.py) with a plain reading of filters
+"""Compares a stream of waits that leaves events out with a plain reckoning (plain_waits.py) that has a plain reading of filters
 (model_filter.py): which waits there are, how sure they are, and how many events were left out.
 
     python_without.py [TEST]...
@@ -50,7 +50,7 @@ class Stream:
         library.histdesk_free(self.desk)
 
     def leave_out(self, event, text):
-        """Leaves out the events of a name that pass a filter: the number of the filter's fault, or None."""
+        """Leave out the events of a name that pass a filter; return the number of the filter's fault, or None."""
         code = library.histdesk_waits_without(self.desk, random_texts.EVENTS.index(event), text.encode("latin-1"), len(text))
         refusal = layout.Refusal()
         library.histdesk_waits_refused(self.desk, refusal)
@@ -58,14 +58,14 @@ class Stream:
         return refusal.filter_fault if code else None
 
     def take(self):
-        """Copies the waits that were told."""
+        """Copy the waits that were told."""
         room = ctypes.create_string_buffer(ROOM * WAIT.size)
         while count := library.histdesk_waits_copy(self.desk, len(self.waits) - self.taken, room, ROOM):
             self.waits += [room.raw[at * WAIT.size : (at + 1) * WAIT.size] for at in range(count)]
         self.taken = len(self.waits)
 
     def read(self, text, chance):
-        """Reads a text in pieces of random sizes: the waits, and how many events each filter counted and left out."""
+        """Read a text in pieces of random sizes; return the waits, and how many events each filter counted and left out."""
         count, at, self.taken = ctypes.c_uint64(), 0, 0
         while at < len(text):
             piece = text[at : at + chance.choice([1, 7, 100, 4097, 20000])]
@@ -135,7 +135,7 @@ class Without(unittest.TestCase):
     """Waits of a recording without some of its events."""
 
     def hold(self, seed):
-        """One recording under some filters."""
+        """Check one recording under some filters."""
         chance = random.Random(seed)
         text, filters = recording(chance), []
         with Stream() as stream:
@@ -165,7 +165,7 @@ class Without(unittest.TestCase):
         self.assertGreater(sum(out > 0 for _, out in told), 100)
 
     def test_of_a_simulated_scheduler(self):
-        """Without the wakings of one task its waits that a waking began are gone, and no other task's."""
+        """Without the wakings of one task, its waits that a waking began are gone, and no other task's waits are."""
         known = recordings.simulated(1)
         pid = next(wait.pid for wait in known.waits if wait.kind == "woken")
         with Stream() as stream:

@@ -1,4 +1,4 @@
-"""Holds tools/why: its status, what it prints, and what it reports on standard error."""
+"""Tests tools/why: its status, what it prints, and what it reports on standard error."""
 
 import gzip
 import os
@@ -23,7 +23,7 @@ class Command(unittest.TestCase):
         self.folder = folder.name
 
     def ran(self, text, *words):
-        """Its status, what it prints, and what it says."""
+        """Run the tool; return its status, what it prints, and its messages."""
         path = os.path.join(self.folder, "my.trace")
         with open(path, "wb") as file:
             file.write(text)
@@ -37,7 +37,7 @@ class Command(unittest.TestCase):
         return ran.returncode, ran.stdout.decode(), ran.stderr.decode().replace(path, "TRACE")
 
     def heads(self, text, *words):
-        """The tasks that it tells of, and how long they waited."""
+        """Return the tasks that the tool reports, and how long they waited."""
         status, out, told = self.ran(text, *words)
         self.assertEqual((status, told), (0, ""))
         return [each.partition(" (prio")[0] + each.partition("waited")[2].partition(" us")[0] for each in heads_of(out)]
@@ -89,14 +89,14 @@ class Places(Command):
         self.assertEqual((status, told.split("\n")[1]), (1, "why: no event of CPU 2 is at line 4: its lines are 1 to 3"))
 
     def test_chosen_events(self):
-        """Those that are left out keep their numbers, and a wait that needs them isn't told."""
+        """Events keep their numbers if others are left out, and what only these show isn't told."""
         status, out, told = self.ran(trace(*BUSY), "2:4", "--events", "waking,switch")
         self.assertEqual((status, told), (0, ""))
         self.assertNotIn("it was queued", out)
         self.assertIn("  1.000500  2:4  it ran on CPU 2", out)
 
     def test_any_order(self):
-        """Of a trace that isn't in the order of time a desk holds the events; it must be a file."""
+        """If a trace isn't in the order of time, a desk holds its events; the trace must be a file."""
         text = trace(*reversed(BUSY))
         status, out, told = self.ran(text)
         self.assertEqual((status, told, out.split("\n")[0]), (0, "", BUSY_TEXT.split("\n")[0]))
@@ -117,7 +117,7 @@ class Places(Command):
         self.assertEqual(told, "why: TRACE: 2 lines can't be read and are left out: the first is 1\n")
 
     def test_options_that_would_do_nothing(self):
-        """They are refused: a place names one wait, and some options are of chains."""
+        """Options that would do nothing are refused: a place names one wait, and some options are only for chains."""
         for words in ("--task w", "--kind woken", "--worst 2", "--cpu 2", "--doubtful", "--at 1.0003"):
             status, out, told = self.ran(trace(*BUSY), "2:4", *words.split())
             self.assertEqual((status, out), (2, ""))
@@ -160,7 +160,7 @@ class Chosen(Command):
         self.assertEqual(self.heads(text, "--task", "renamed"), ["renamed-10 3"])
 
     def test_moment(self):
-        """All that last then: from the stamp at which they begin on, up to that at which they end, that one too."""
+        """All waits that last at that moment: from the stamp at which they begin to that at which they end, both included."""
         text = all_known()["kinds"].text
         self.assertEqual(self.heads(text, "--at", "1.00002"), ["a-10 30"])
         self.assertEqual(self.heads(text, "--at", "1.000049"), ["a-10 30"])
@@ -195,7 +195,7 @@ class Unreadable(Command):
     """What is said of a trace that can't be read."""
 
     def hint(self, text):
-        """What follows the first sign in the message about a trace."""
+        """What follows the first semicolon in the message about a trace."""
         status, out, message = self.ran(text)
         self.assertEqual((status, out), (2, ""))
         return message.split("\n")[0].partition("; ")[2]

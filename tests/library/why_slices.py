@@ -1,4 +1,4 @@
-"""Holds what is reported about waits from slices of a recording. That depends on what ran before the wait began, which may be
+"""Tests what is reported about waits from slices of a recording. That depends on what ran before the wait began, which may be
 long ago: each answer is compared with that over the whole recording, or is known by hand."""
 
 import os
@@ -52,7 +52,7 @@ def answer(teller, cpu, at):
 
 
 def cut(**sizes):
-    """Cuts recordings into small slices: so many bytes between checkpoints, events before a wait, and so on."""
+    """Return what cuts recordings into small slices: so many bytes between checkpoints, events before a wait, and so on."""
     patches = [mock.patch.object(_text, "PIECE", sizes.pop("PIECE"))]
     return [*patches, *(mock.patch.object(_surroundings, name, size) for name, size in sizes.items())]
 
@@ -61,7 +61,7 @@ class Cut(unittest.TestCase):
     """Tests over small slices."""
 
     def slices(self, text, **sizes):
-        """What tells of the waits of a text that is read in slices."""
+        """Return what explains the waits of a text that is read in slices."""
         for patch in cut(**{"PIECE": 200, "LEAD": 1, "WIDTH": 1, "GROWTH": 2, "PART": 4, **sizes}):
             patch.start()
             self.addCleanup(patch.stop)
@@ -70,7 +70,7 @@ class Cut(unittest.TestCase):
         return teller
 
     def whole(self, text):
-        """What tells of the waits of a text that a desk holds."""
+        """Return what explains the waits of a text that a desk holds."""
         with warnings.catch_warnings():
             warnings.simplefilter("ignore", histdesk.LossWarning)
             return _explainer.part_explainer(histdesk.read(text))
@@ -147,7 +147,7 @@ class Slices(Cut):
             self.assertEqual(self.slices(text, LEAD=lead).explain_at(1, 2).shares, [Share("b", 11, 120, 50, 1)])
 
     def test_still_waits(self):
-        """A task that doesn't run any more waits to the end, from its preemption on; one that is waking it then is none."""
+        """A task that doesn't run any more waits to the end, from its preemption on; a waking meanwhile begins no wait."""
         text = trace(
             switch(1, 1000000, "swapper/1-0", "R", "w-42", task="<idle>-0"),
             switch(1, 1000010, "w-42", "R", "a-10"),
@@ -179,7 +179,7 @@ class Long(Cut):
         return trace(*lines, switch(1, 1003000, "a-10", "R", "w-42"))
 
     def test_events_that_matter(self):
-        """It is told as from the whole: what ran, and which tasks became runnable later."""
+        """The wait is told as from the whole recording: what ran, and which tasks became runnable later."""
         whole = self.whole(self.text()).explain_at(1, 12)
         self.assertEqual((whole.micros, len(whole.stretches), whole.shares[0].task), (2990, 11, "a"))
         for limit in (20, 40, 100):
@@ -190,7 +190,7 @@ class Long(Cut):
                 self.assertEqual(slices.explain_at(1, 12), whole)
 
     def test_by_chance(self):
-        """Of any wait it is told the same as from the whole, except for what ran on CPUs of which that isn't told."""
+        """Any wait is told as from the whole recording, except for what ran on CPUs of which that isn't told."""
         waits = untold = 0
         for seed in range(6):
             text = noise(seed, 200)
@@ -200,7 +200,7 @@ class Long(Cut):
                 for why, same in zip(slices.explain_each(slices.waits), whole.explain_each(whole.waits)):
                     if why.unknown_cpus:
                         untold += 1
-                        # Of names that the kernel hasn't kept, the switches of those CPUs may have told.
+                        # The switches of those CPUs may have told names that the kernel hasn't kept.
                         names = "waker", "stretches", "elsewhere", "unknown_cpus"
                         why, same = (one._replace(**dict.fromkeys(names)) for one in (why, same))
                     self.assertEqual(why, same, seed)

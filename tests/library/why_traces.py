@@ -15,7 +15,7 @@ def waking(task, cpu, micros, comm, pid, target, *, prio=120, flags="d..2.", eve
 
 
 def switch(cpu, micros, before, state, after, *, prio=120, next_prio=120, task=None):
-    """A CPU switches between two tasks, told by name, `-` and number."""
+    """A CPU switches between two tasks, which are given as name, `-` and number."""
     (old, old_pid), (new, new_pid) = before.rsplit("-", 1), after.rsplit("-", 1)
     fields = f"prev_comm={old} prev_pid={old_pid} prev_prio={prio} prev_state={state}"
     fields += f" ==> next_comm={new} next_pid={new_pid} next_prio={next_prio}"

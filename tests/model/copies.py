@@ -8,7 +8,7 @@ from plain_waits import LINE
 from recordings import Place, Wait
 
 STAMP = re.compile(rb" ([0-9]+)\.([0-9]{6}): ")
-# So many microseconds lie between two copies.
+# How many microseconds lie between two copies.
 APART = 10
 
 
@@ -30,7 +30,7 @@ class Copies:
         self._form = b"".join(b"%b %%d.%%06d: %b\n" % pair for pair in zip(parts[::2], parts[1::2]))
 
     def text(self, count: int) -> bytes:
-        """So many copies."""
+        """Return the text of so many copies."""
         return b"".join(self._form % tuple(self._split(at * self.after)) for at in range(count))
 
     def _split(self, later: int) -> List[int]:
@@ -45,8 +45,8 @@ class Copies:
         return Place(place.stamp + copies * self.after, place.cpu, place.line + copies * self.counts[place.cpu])
 
     def waits(self, fold: Callable[[bytes], List[Wait]], count: int) -> List[Wait]:
-        """The waits of so many copies, of what a fold says of two and of three. It says that the third one adds what the second
-        one adds, later; and so does each further one, since it begins as the third one begins."""
+        """Return the waits of so many copies, from what a fold says of two and of three. It says that the third copy adds what
+        the second one adds, later; and so does each further one, since it begins as the third one begins."""
         two, three = fold(self.text(2)), fold(self.text(3))
         second = min(self.stamps) + self.after
         added = [wait for wait in two if wait.end.stamp >= second]

@@ -57,7 +57,7 @@ class Script:
         self.edits = self.accepted = self.switched = self.most_keys = 0
 
     def perform(self, text):
-        """Adds a line to the script: whether it is accepted."""
+        """Add a line to the script; return whether it is accepted."""
         self.lines.append(text)
         try:
             told = self.desk.perform(text, self.traces)
@@ -73,7 +73,7 @@ class Script:
         return {number: frozenset(state[number]["table"]) for number, trigger in self.desk.triggers.items() if trigger.saves}
 
     def edit(self, text):
-        """Adds an edit, and the answers after it."""
+        """Add an edit, and the answers after it."""
         before = self.keys_of_savers()
         self.edits += 1
         self.accepted += self.perform(text)

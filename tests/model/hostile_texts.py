@@ -1,13 +1,13 @@
 """Hostile texts, for hostile.py: trace lines, filters, triggers and commands, good ones and what is near them.
 
-A character stands for each byte, as in model.py. Each call takes a `random.Random`, which decides all, first.
+A character stands for each byte, as in model.py. Each call takes a `random.Random` first, which decides everything.
 """
 
 import re
 
 from model_line import EVENTS, MADE, TEXTS, fields_of
 
-# What is put into texts: most often a byte that says something there.
+# What is put into texts: most often a byte that means something there.
 SIGNS = " \t\r&|!()=<>~'\"$.,:;-+[]*?\\#@_0123456789abefhimnopstxzAZ"
 ODD = [chr(byte) for byte in [0, 1, 9, 11, 12, 13, 26, 27, 28, 31, 127, 133, 160, *range(128, 256)]]
 ENDS = [*map(str, (2**31 - 2, 2**31 - 1, 2**31, -(2**31), -(2**31) - 1, 2**32 - 1, 2**32, -1, 0)), "-0"]
@@ -70,7 +70,7 @@ def near(draw, text):
 
 
 def doubled(draw, text, piece):
-    """The text with one of its pieces, runs of the form `piece`, standing twice, or put in at another one."""
+    """The text with one of its pieces, which are runs of the form `piece`, twice, or put in at another one."""
     found = list(re.finditer(piece, text))
     if not found:
         return text + text
@@ -176,7 +176,7 @@ def predicate(draw, event):
 
 
 def condition(draw, event, depth=3):
-    """A filter for the event; not each one is good, since values may be out of range."""
+    """A filter for the event; not every one is good, since values may be out of range."""
     kind = draw.randrange(7) if depth else 0
     if kind < 3:
         return predicate(draw, event)
@@ -189,7 +189,7 @@ def condition(draw, event, depth=3):
 
 
 def deep_condition(draw, event):
-    """About as many levels as there may be; or as many of them side by side, which is no more than one."""
+    """A filter of about as many levels as there may be; or as many levels side by side, which count as no more than one."""
     level, count = draw.choice(["(", "!", "!(", "( "]), draw.choice([31, 32, 33])
     if draw.random() < 0.2:
         return "||".join([level + predicate(draw, event) + ")" * level.count("(")] * count)
@@ -260,7 +260,7 @@ def maker(draw, event):
 
 
 def trigger(draw, event):
-    """A trigger's text for the event; there may be an item too many, a size out of range, a variable that isn't there."""
+    """A trigger's text for the event; there may be an item too many, a size out of range, or a variable that isn't there."""
     fields = fields_of(event)
     keys = [modified(draw, field) for field in draw.sample(fields, draw.choice([1, 1, 1, 1, 2, 2, 3, 3, 4]))]
     is_made = event == MADE and draw.random() < 0.8

@@ -12,7 +12,7 @@ import sys
 
 # Nothing is written beside the sources.
 sys.dont_write_bytecode = True
-# A number may have thousands of digits, for which newer versions of Python want to be asked.
+# A number may have thousands of digits, which newer versions of Python have to be told to accept.
 if hasattr(sys, "set_int_max_str_digits"):
     sys.set_int_max_str_digits(0)
 

@@ -1,4 +1,4 @@
-"""Filters, for model.py: docs/REFERENCE.md, Filters. A filter is a tree of tuples, by the word in front."""
+"""Filters, for model.py: docs/REFERENCE.md, Filters. A filter is a tree of tuples, which the word in front tells apart."""
 
 import functools
 import re
@@ -138,7 +138,7 @@ def read_filter(text, fields):
 
 @functools.cache
 def read_pattern(pattern):
-    """The items of a pattern of `~`, None for `*` and else the bytes that one byte is of; None if it is no pattern."""
+    """The items of a pattern of `~`: None for `*`, or the bytes of which one may stand there; None if it is no pattern."""
     if "\\" in pattern or pattern.startswith("!"):
         return None
     items, at = [], 0
@@ -184,7 +184,7 @@ def matches(items, text):
 
 
 def passes(tree, value_of):
-    """Whether the filter holds of an event, whose fields `value_of` gives."""
+    """Whether the filter holds for an event, whose fields `value_of` gives."""
     if tree[0] == "is":
         _, field, operator, value = tree
         return MEANINGS[operator](value_of(field), value)

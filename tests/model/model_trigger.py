@@ -32,7 +32,7 @@ class Trigger:
         self.parts, self.keys, self.values, self.sort, self.size = set(), [], [], [], 2048
         self.own = self.saves = self.reads = self.filter = None
         self.value_items, self.variable = set(), ""
-        # What events are made of at latencies: the event that must have saved, the variable and the fields handed on.
+        # What events are made of at latencies: the event that must have saved, and the variable and fields that are handed on.
         self.making, self.matched, self.handed = "", None, ()
         head = re.match("[^ \t]*", text)[0]
         self.read_head(head)

@@ -1,6 +1,6 @@
 """A plain reckoning of chains of wakings: it reads a trace's text by regular expressions and goes once through its events, and
 at each waking notes what the waker has done until then. It uses neither the package nor the program; it was written from what
-docs/REFERENCE.md says that a chain is. Chains are found from the wakings on, and not back from a wait as the package does."""
+docs/REFERENCE.md says that a chain is. Chains are found from the wakings on, not from a wait backwards as in the package."""
 
 from __future__ import annotations
 
@@ -11,7 +11,7 @@ from typing import NamedTuple
 import recordings
 from plain_waits import LINE, SWITCH, WAKE, lines_of
 
-# A chain has no more steps.
+# A chain has at most so many steps.
 STEPS = 32
 INTERRUPT = re.compile(r"\] +[^ ]{2}[hHszZ]")
 # A waking of a simulated machine, with its CPU.
@@ -70,12 +70,12 @@ class Task:
         self.starts(0, "start", None)
 
     def starts(self, since: int, cause: Link | str, slept: int | None, is_new: bool = False) -> None:
-        """It is runnable from now on, since something that is known or not."""
+        """From now on the task is runnable, by a cause that is known or not."""
         self.since, self.cause, self.slept, self.is_new = since, cause, slept, is_new
         self.waited = self.ran = self.preemptions = 0
 
     def link(self, pid: int, cpu: int, now: int) -> Link:
-        """What it has done until now."""
+        """What the task has done until now."""
         ran = self.ran + (0 if self.runs_since is None else now - self.runs_since)
         step = Step(pid, cpu, self.since, now, self.waited, ran, self.preemptions, self.slept)
         return Link(step, self.is_new, self.cause)
@@ -191,9 +191,9 @@ def chain_of(link: Link, beyond: bool) -> Known:
 
 
 def simulated(seed: int, steps: int, wakes_preempted: bool = True) -> bytes:
-    """What a simulated machine writes down, with each waking by the task that runs on its CPU, or by an interrupt there. Of
-    every other machine the first quarter is cut off. If it isn't asked for, no task is woken that was preempted: that changes
-    nothing, but if the switch is lost nobody can know it."""
+    """What a simulated machine writes down, with each waking by the task that runs on its CPU, or by an interrupt there. The
+    first quarter is cut off for every other machine. Unless it is asked for, no task that was preempted is woken: such a waking
+    changes nothing, but if the switch is lost, nobody can know that."""
     chance, running, preempted, lines = random.Random(seed), {}, set(), []
     for text in recordings.simulated(seed, steps).text.decode("utf-8", "surrogateescape").split("\n"):
         waking, switch, wake = WAKING.fullmatch(text), SWITCHED.fullmatch(text), WAKE.search(text)
@@ -213,7 +213,7 @@ def simulated(seed: int, steps: int, wakes_preempted: bool = True) -> bytes:
 
 
 def damaged(text: bytes, seed: int) -> tuple[bytes, dict[int, list[int]]]:
-    """A text that has lost events of some CPUs, and says so; and of each CPU which lines it had before."""
+    """A text that has lost events of some CPUs, and says so; and for each CPU, which lines its events had before."""
     chance, lines = random.Random(seed), text.decode("utf-8", "surrogateescape").split("\n")[:-1]
     lanes: dict[int, list[int]] = {}
     for at, line in enumerate(lines):

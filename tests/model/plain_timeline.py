@@ -20,7 +20,7 @@ class Event(NamedTuple):
 
 
 class Timeline(NamedTuple):
-    """What a recording did: the stamp of its first event; of each CPU the PID and the name of what it ran in each microsecond,
+    """What a recording did: the stamp of its first event; for each CPU the PID and the name of what it ran in each microsecond,
     or `UNKNOWN`; and how many tasks waited in each."""
 
     first: int
@@ -64,7 +64,7 @@ def ran_on(events: List[Event], gaps: List[Gap], first: int, last: int) -> List[
     for at, event in enumerate(events):
         known = not at or events[at - 1].after[0] == event.runs
         if not known:
-            # Up to the last event before, it ran what that said.
+            # Up to the last event before, the CPU ran what that event says.
             ran += [now] * (events[at - 1].stamp - first - len(ran))
             ran += [UNKNOWN] * (event.stamp - first - len(ran))
             now = event.before
@@ -105,7 +105,7 @@ def part_of(timeline: Timeline, cpu: int, low: int, high: int) -> Part:
 
 
 def runs_of(timeline: Timeline, cpu: int) -> List[Tuple[int, int, Tuple[Optional[int], str]]]:
-    """What a CPU ran, as stretches: when each begins and ends, and what it is of. Alike neighbours are one."""
+    """What a CPU ran, as stretches: when each begins and ends, and what ran in it. Equal neighbours are one."""
     runs: List[Tuple[int, int, Tuple[Optional[int], str]]] = []
     for at, task in enumerate(timeline.ran[cpu]):
         if runs and runs[-1][2] == task:

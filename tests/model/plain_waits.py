@@ -40,8 +40,8 @@ def lines_of(text: bytes) -> List[str]:
 
 
 def events_of(text: bytes, without: Callable[[str], bool] = lambda line: False) -> Iterator[Event]:
-    """The events that matter here, in the order of the lines; those of other names, and of lines that are left out, count as
-    lines of their CPU only."""
+    """The events that matter here, in the order of the lines; those of other names, and of lines that are left out, count
+    only as lines of their CPU."""
     counts: Dict[int, int] = {}
     for found in filter(None, map(LINE.fullmatch, lines_of(text))):
         cpu = int(found["cpu"])
@@ -75,8 +75,8 @@ def gaps_of(text: bytes) -> List[Gap]:
 
 
 def missing_told(text: bytes) -> List[str]:
-    """The line about missing switches, if a CPU runs another task than the one that its last switch went to. Of a text that
-    isn't in the order of time nothing is told."""
+    """The line about missing switches, if a CPU runs another task than the one that its last switch went to. Nothing is
+    told of a text that isn't in the order of time."""
     stamps = [int(found["s"] + found["us"]) for found in filter(None, map(LINE.fullmatch, lines_of(text)))]
     if stamps != sorted(stamps):
         return []
@@ -119,7 +119,7 @@ def waits_of(text: bytes, without: Callable[[str], bool] = lambda line: False) -
 
 
 def wait_of(event: Event, begins: Dict[str, Place], gaps: List[Gap]) -> Optional[Wait]:
-    """The wait that a switch ends, of the places at which one of each kind would have begun."""
+    """The wait that a switch ends, by the places at which a wait of each kind would have begun."""
     waits = {}
     for kind, begin in begins.items():
         wait = Wait(kind, event.pid, event.name, event.prio, begin, event.place)
@@ -127,7 +127,7 @@ def wait_of(event: Event, begins: Dict[str, Place], gaps: List[Gap]) -> Optional
     # A new task has nothing to do with one that had its number before.
     if "new" in waits:
         waits = {kind: wait for kind, wait in waits.items() if wait.begin >= waits["new"].begin}
-    # Of a new task that has run unseen only what came later counts.
+    # If a new task has run unseen, only what came later counts.
     if "new" in waits and len(waits) > 1:
         del waits["new"]
     preempted, woken = waits.get("preempted"), waits.get("woken")
@@ -145,7 +145,7 @@ def like(patterns: Sequence[Pattern[bytes]]) -> Callable[[str], bool]:
 
 
 def percentile(values: List[int], percent: int) -> int:
-    """By nearest rank, as it is said: the least value such that at least so many per cent aren't above it."""
+    """The percentile by nearest rank, as it is defined: the least value such that at least so many per cent aren't above it."""
     return next(value for value in sorted(values) if 100 * sum(other <= value for other in values) >= percent * len(values))
 
 

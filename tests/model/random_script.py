@@ -62,7 +62,7 @@ def trigger(draw):
 
 
 def condition(draw):
-    """A filter that each event name has the fields of, or one of any form on some event."""
+    """A filter with fields that each event has, or one of any form on some event."""
     if draw.randrange(2):
         return random_texts.condition(draw, draw.choice(ATTACHED))
     return draw.choice(["common_pid < 6", "common_cpu == 0", "common_cpu != 1 && common_pid & 3", "common_pid >= 2"])

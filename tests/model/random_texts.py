@@ -8,7 +8,7 @@ COMMON = ["common_pid", "common_cpu"]
 EVENTS = ["sched_waking", "sched_wakeup", "sched_wakeup_new", "sched_switch"]
 # What triggers are attached to: the events of traces, and the one that triggers make.
 ATTACHED = [*EVENTS, "wakeup_latency"]
-# Names of tasks, with each kind of quote and with what stands for more in a pattern.
+# Names of tasks, with each kind of quote and with characters that mean something else in a pattern.
 COMMS = ["cyclictest", "my app 2", "kworker/0:1", "sh", "it's me", 'say "hi"', "[x]-y"]
 STATES = ["S", "R+", "D"]
 # Bytes that a spoilt text has in place of its own.
@@ -48,12 +48,12 @@ def number(draw):
 
 
 def quoted(draw, text):
-    """The text in quotes that it has none of."""
+    """The text in quotes of a kind that it doesn't have, if there is one."""
     return draw.choice([quote + text + quote for quote in "'\"" if quote not in text] or ['"' + text + '"'])
 
 
 def byte_class(draw, byte):
-    """A class that has the byte, or that the other bytes have."""
+    """A class that has the byte, or one that has the other bytes."""
     low, high = chr(max(33, ord(byte) - draw.randrange(3))), chr(ord(byte) + draw.randrange(3))
     members = draw.choice([byte, f"{byte}z", f"{low}-{high}", f"0-9{low}-{high}", f"{byte}-", f"a-c-{byte}"])
     return "[" + draw.choice(["", "", "!"]) + members + "]"

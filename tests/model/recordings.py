@@ -1,4 +1,4 @@
-"""Small recordings of which is known what is true of them: by hand, or since a scheduler was simulated that wrote them.
+"""Small recordings of which it is known what is true: by hand, or because a simulated scheduler wrote them.
 
     recordings.py FOLDER
 
@@ -26,7 +26,7 @@ HEADER = """# tracer: nop
 
 
 class Place(NamedTuple):
-    """Where an event stands: its stamp in microseconds, its CPU, and the how manieth event of that CPU it is."""
+    """Where an event stands: its stamp in microseconds, its CPU, and which event of that CPU it is, counted from 1."""
 
     stamp: int
     cpu: int
@@ -87,7 +87,7 @@ def waking(cpu: int, micros: int, pid: int, *, name: str = "w", target: int = 0,
 def switch(
     cpu: int, micros: int, before: str, after: str, *, state: str = "S", prio: int = 120, task: Optional[str] = None
 ) -> str:
-    """A switch from a task to another one, each told by its name, `-` and its number; `task` is what stands at the line's
+    """A switch from a task to another one, each given as its name, `-` and its number; `task` is what stands at the line's
     beginning, if not the first one."""
     (old, old_pid), (new, new_pid) = (task.rsplit("-", 1) for task in (before, after))
     left = f"prev_comm={old} prev_pid={old_pid} prev_prio=120 prev_state={state}"
@@ -135,7 +135,7 @@ def hole_at_start() -> Known:
 
 
 def lost_in_middle() -> Known:
-    """CPU 3 lost 5,948 events, in which task 51 ran and slept: its wait of 644,589 us is none. What began and ended before the
+    """CPU 3 lost 5,948 events, in which task 51 ran and slept: its wait of 644,589 us is false. What began and ended before the
     hole, or after it, or began at its last moment, is true."""
     lines = [
         waking(0, 5000000, 50, name="before", target=3),
@@ -177,7 +177,7 @@ ODD_NAMES = (
 
 def odd_names() -> Known:
     """Names with spaces, brackets, what looks like fields, bytes that aren't UTF-8, quotes, and what a terminal takes for a
-    command. The n-th task waits 110 us and ten for each that was before it. At a line's beginning `[003]` would spoil it."""
+    command. The n-th task waits 110 us, and ten more for each one before it. `[003]` would spoil the beginning of a line."""
     lines, waits = [], []
     for at, name in enumerate(ODD_NAMES):
         pid, begin, end = 100 + at, 1000000 + 1000 * at, 1000000 + 1010 * at + 110
@@ -188,7 +188,7 @@ def odd_names() -> Known:
 
 
 def kinds() -> Known:
-    """What begins a wait, and what doesn't: see the words at each line."""
+    """What begins a wait, and what doesn't: see the comment at each line."""
     lines = [
         # Task 0 is switched out runnable, and waits for nothing.
         switch(0, 1000000, "<idle>-0", "a-10", state="R"),
@@ -196,12 +196,12 @@ def kinds() -> Known:
         waking(1, 1000010, 10, name="a"),
         # It is preempted: that is where its wait begins.
         switch(0, 1000020, "a-10", "b-11", state="R"),
-        # A waking of a task that is queued already.
+        # This is a waking of a task that is queued already.
         waking(1, 1000025, 10, name="a"),
         switch(0, 1000050, "b-11", "a-10", state="R+"),
         # The last preemption of b is from 1000050 on; it runs on another CPU.
         switch(1, 1000090, "<idle>-0", "b-11", state="R"),
-        # A waking of a task that runs and is about to sleep: the race of the kernel. It waits from the waking on.
+        # A task is woken while it runs and is about to sleep, which is a race in the kernel. It waits from the waking on.
         waking(2, 1000100, 10, name="a"),
         switch(0, 1000101, "a-10", "<idle>-0", state="S"),
         switch(2, 1000130, "<idle>-0", "a-10", state="R"),
@@ -213,7 +213,7 @@ def kinds() -> Known:
         waking(0, 1000300, 13, name="d", event="sched_wakeup_new"),
         waking(0, 1000305, 13, name="d", event="sched_wakeup"),
         switch(3, 1000340, "<idle>-0", "d-13", state="R"),
-        # It dies; a new one gets its number, and a waking that came too late is not its.
+        # It dies; a new one gets its number, and a waking that came too late isn't one of the new task.
         waking(0, 1000350, 13, name="d"),
         switch(3, 1000360, "d-13", "<idle>-0", state="X"),
         waking(0, 1000400, 13, name="e", event="sched_wakeup_new"),
@@ -290,7 +290,7 @@ class Machine:
         self.waits: List[Wait] = []
 
     def write(self, cpu: int, make: Callable[[int, int], str]) -> Place:
-        """Writes an event of a CPU, of what makes its line."""
+        """Write an event of a CPU, with the line that `make` makes."""
         self.now += self.chance.randrange(1, 40)
         self.counts[cpu] += 1
         place = Place(self.now, cpu, self.counts[cpu])
@@ -298,17 +298,17 @@ class Machine:
         return place
 
     def wake(self, task: Task, event: str = "sched_waking") -> Place:
-        """Writes that a task is woken by some CPU."""
+        """Write that a task is woken by some CPU."""
         cpu = self.chance.randrange(len(self.running))
         return self.write(cpu, lambda cpu, now: waking(cpu, now, task.pid, name=task.name, event=event))
 
     def queue(self, task: Task, kind: str, place: Place) -> None:
-        """Lets a task wait."""
+        """Let a task wait."""
         task.waits = (kind, place)
         self.queued.append(task)
 
     def switch(self, cpu: int, state: str) -> Place:
-        """Lets a CPU leave what it runs, in that state, and run something that waits, if there is something."""
+        """Let a CPU leave what it runs, in that state, and run something that waits, if there is something."""
         old, new = self.running[cpu], None
         if self.queued:
             new = self.queued.pop(self.chance.randrange(len(self.queued)))
@@ -323,7 +323,7 @@ class Machine:
         return place
 
     def step(self) -> None:
-        """Something happens."""
+        """Let something happen."""
         what, cpu = self.chance.random(), self.chance.randrange(len(self.running))
         task = self.running[cpu]
         if what < 0.08 or not (self.asleep or self.queued or any(self.running)):
@@ -355,14 +355,14 @@ class Machine:
             self.asleep.append(task)
 
     def wake_queued(self) -> None:
-        """Writes a waking of a task that was preempted, which changes nothing."""
+        """Write a waking of a task that was preempted, which changes nothing."""
         preempted = [task for task in self.queued if task.waits and task.waits[0] == "preempted"]
         if preempted:
             self.wake(self.chance.choice(preempted))
 
 
 def simulated(seed: int, steps: int = 400, *, holes: int = 0) -> Known:
-    """What a machine writes down that runs tasks by chance, and the waits that its tasks had, though the trace has lost events
+    """What a machine that runs tasks by chance writes down, and the waits that its tasks had, even if the trace has lost events
     of some CPUs. `doubtful` is set for the waits that span a gap; a wait whose events are lost is among them, and has the lines
     that it had before."""
     machine = Machine(seed)
@@ -378,8 +378,8 @@ def simulated(seed: int, steps: int = 400, *, holes: int = 0) -> Known:
 
 
 def damaged(chance: random.Random, events: List[Tuple[Place, str]], lines: List[str]) -> Optional[Gap]:
-    """Takes some events of a CPU away that stand side by side there, and has the line after them say so; lines that are taken
-    are empty. Where that would meet another gap nothing is taken."""
+    """Take away some events of a CPU that stand side by side there, and have the line after them say so; lines that are taken
+    are empty. If that would meet another gap, nothing is taken."""
     cpu, count = chance.randrange(4), chance.randrange(1, 30)
     lane = [at for at, (place, _) in enumerate(events) if place.cpu == cpu]
     if len(lane) < count + 3:

@@ -24,7 +24,7 @@ import histdesk
 
 TRACE, OTHER = (os.path.join(ROOT, "examples", name) for name in ("recipes.trace", "recipes-before.trace"))
 SIZES = ((1280, 720), (3840, 2160))
-# So long a page may take to answer, in seconds, on a machine that has other work.
+# How long a page may take to answer, in seconds, on a machine that has other work.
 PATIENCE = 30
 # What scripts of these tests use of the page's modules. A saved page knows its modules by their names, without a path.
 MODULES = """
@@ -37,7 +37,7 @@ const { choose, colour, forgetStyles, KEYS, lanes, openTab, overTime, rem, side,
 
 
 def missing():
-    """What isn't there and is needed; None if all is."""
+    """Return what is needed and isn't there; None if all is."""
     for module in ("numpy", "selenium"):
         try:
             __import__(module)
@@ -61,7 +61,7 @@ class Server:
 
 
 def browser():
-    """A browser without a window."""
+    """Return a browser without a window."""
     from selenium import webdriver
     from selenium.webdriver.chrome.service import Service
 
@@ -74,19 +74,19 @@ def browser():
 
 
 def quietly(call, *words, **named):
-    """Calls without warnings of losses."""
+    """Call a function without warnings of losses, and return what it returns."""
     with warnings.catch_warnings():
         warnings.simplefilter("ignore", histdesk.LossWarning)
         return call(*words, **named)
 
 
 def shown(value):
-    """A figure as the page shows it."""
+    """Return a figure as the page shows it."""
     return "-" if value is None else f"{value:,.1f}" if isinstance(value, float) else f"{value:,}"
 
 
 def figures_of(waits, doubtful=False):
-    """The figures of waits, as the page shows them."""
+    """Return the figures of waits, as the page shows them."""
     counts = waits.counts("kind", doubtful)
     row = counts.whole()
     # A page shows the mean of numbers as JavaScript rounds it.
@@ -126,11 +126,11 @@ class Page(unittest.TestCase):
         self.driver.execute_cdp_cmd("Emulation.setDeviceMetricsOverride", words)
 
     def js(self, script, *words):
-        """Runs a script that knows what the page's modules export."""
+        """Run a script that knows what the page's modules export, and return its value."""
         return self.driver.execute_script(f"return (async () => {{{MODULES}{{{script}\n}}}})()", *words)
 
     def until(self, holds):
-        """Waits until something holds, and gives what it gave."""
+        """Wait until a function returns something true, and return that."""
         end = time.monotonic() + PATIENCE
         while True:
             found = holds()
@@ -140,7 +140,7 @@ class Page(unittest.TestCase):
             time.sleep(0.02)
 
     def until_equal(self, wanted, ask):
-        """Waits until an answer is the one that is wanted."""
+        """Wait until an answer is the one that is wanted."""
         end = time.monotonic() + PATIENCE
         while (found := ask()) != wanted and time.monotonic() < end:
             time.sleep(0.02)
@@ -152,7 +152,7 @@ class Page(unittest.TestCase):
         return self.driver.find_element(By.CSS_SELECTOR, chosen)
 
     def click(self, chosen):
-        """Clicks something that may be drawn anew meanwhile."""
+        """Click something that may be drawn anew meanwhile."""
         from selenium.common.exceptions import StaleElementReferenceException
 
         def clicked():
@@ -173,24 +173,24 @@ class Page(unittest.TestCase):
         return self.js("return document.querySelector(arguments[0]).textContent", chosen)
 
     def rows(self, chosen):
-        """The cells of a table's body, as texts."""
+        """Return the cells of a table's body, as texts."""
         script = """return [...document.querySelector(arguments[0]).tBodies[0].rows].map(
             (row) => [...row.cells].map((cell) => cell.textContent))"""
         return self.js(script, chosen)
 
     def figures(self):
-        """The figures of each side."""
+        """Return the figures of each side."""
         return [row[1:] for row in self.rows("#figures")]
 
     def bars(self):
-        """What is said of each bar: its bounds, and how many waits it has."""
+        """Return what the page says of each bar: its bounds, and how many waits it has."""
         labels = self.js(
             "return [...document.querySelectorAll('#bars [role=option]')].map((bar) => bar.getAttribute('aria-label'))"
         )
         return [label.split(": ", 1) for label in labels]
 
     def click_at(self, element, x, y):
-        """Clicks so far right of an element's left edge, and below its top."""
+        """Click so far to the right of an element's left edge, and below its top."""
         from selenium.webdriver.common.action_chains import ActionChains
 
         size = element.rect
@@ -213,7 +213,7 @@ class Page(unittest.TestCase):
         self.js(script, chosen, value)
 
     def listed(self):
-        """The rows of the list that are in sight."""
+        """Return the rows of the list that are in sight."""
         script = """return [...document.querySelectorAll(".tall .row")].map(
             (row) => [...row.children].map((cell) => cell.textContent))"""
         return self.js(script)
@@ -224,5 +224,5 @@ class Page(unittest.TestCase):
 
 
 def bounds(power):
-    """The bounds of a power of two, as the page tells them."""
+    """Return the bounds of a power of two, as the page shows them."""
     return f"above {power.low - 1:,} to {power.high:,} µs" if power.low > 1 else f"up to {power.high:,} µs"

@@ -1,6 +1,6 @@
 #!/usr/bin/env python3
-"""Holds the page of tools/view in a real browser: what it shows beside what the Python package and the program say of the same
-traces, what each key and click does, at two sizes, light and dark, and as a saved file.
+"""Tests the page of tools/view in a real browser: whether it shows what the Python package and the program say of the same
+traces, and what keys and clicks do, at two sizes, light and dark, and as a saved file.
 
     [HISTDESK=PROGRAM] page.py [TEST]...
 
@@ -83,7 +83,7 @@ class Shown(Page):
         with histdesk.Desk() as desk, self.assertRaises(histdesk.Refused) as refused:
             desk.matching("sched_switch", text)
         self.typed("#filter", text)
-        # What explain says follows.
+        # What explain says comes after that.
         self.until_equal(f"{' ' * 9}^ {refused.exception}: an operator is expected here", lambda: self.text("#filter-message"))
         self.assertEqual(self.find("#filter").get_attribute("aria-invalid"), "true")
         # What was there stays.
@@ -228,7 +228,7 @@ class Triggers(Page):
             self.assertEqual([list(row) for row in told], rows)
 
     def ran(self):
-        """What the program prints of the script that the page shows."""
+        """Return what the program prints for the script that the page shows."""
         with tempfile.NamedTemporaryFile("w", suffix=".script") as file:
             file.write(self.text("#script-text"))
             file.flush()
@@ -275,7 +275,7 @@ class Strikes(Page):
         self.js('document.querySelector(`[data-strike="${CSS.escape(arguments[0])}"]`).click()', text)
 
     def assert_struck(self, *texts):
-        """The page shows what the package says of a recording without these events."""
+        """Test that the page shows what the package says of a recording without these events."""
         difference = quietly(histdesk.diff, TRACE, without=list(texts))
         self.until_equal([figures_of(difference.before), figures_of(difference.after)], self.figures)
         rows = {f"{row.key[0]} {row.key[1]} {row.key[2]}": row for row in difference.table("task")}
@@ -310,7 +310,7 @@ class Strikes(Page):
         self.typed("#strike-text", "common_pid == 0 || pid == 24650")
         self.find("#strike-any button").click()
         self.assert_struck("sched_waking if common_pid == 0 || pid == 24650")
-        # A filter chooses on both sides; the other side is listed by a key.
+        # A filter chooses on both sides; a button lists the other side.
         self.typed("#filter", "next_pid == 24650")
         difference = quietly(histdesk.diff, TRACE, without="sched_waking if common_pid == 0 || pid == 24650")
         wanted = [figures_of(side[side.array.pid == 24650]) for side in (difference.before, difference.after)]
@@ -391,7 +391,7 @@ class Two(Page):
         self.until_equal(len(others), self.count_listed)
 
     def wanted(self, figure):
-        """What differs, as the package has it: the rows first of which a figure changed most."""
+        """Return what differs, as the package has it: first the rows in which a figure changed most."""
         table = histdesk.diff(OTHER, TRACE).table("name")
         told = lambda side, name: getattr(side, name) if side.count else None
         table.sort(key=lambda row: -abs((told(row.after, figure) or 0) - (told(row.before, figure) or 0)))
@@ -406,14 +406,14 @@ class Two(Page):
         for figure in ("count", "p99"):
             self.find(f"[data-change={figure}] button").click()
             wanted = self.wanted(figure)
-            # Those that changed alike stand in either order.
+            # Rows in which it changed equally may stand in either order.
             self.until_equal(sorted(wanted), lambda: sorted(self.rows("#rows")))
             changes = [row[1 + 2 * (figure == "p99")] for row in wanted]
             self.until_equal(changes, lambda: [row[1 + 2 * (figure == "p99")] for row in self.rows("#rows")])
         self.assertEqual(self.rows("#rows")[0][0], "cyclictest  woken")
         told = self.text("#side-summary")
         self.assertEqual(told, f"{len(wanted)} rows differ")
-        # What is struck is struck from the first one; after it the rows come again.
+        # Events are struck from the first recording; after undo, the rows are there again.
         self.js("document.querySelector('#ticks input').click()")
         self.until(lambda: "recipes-before.trace struck" in self.text("#side-summary"))
         self.press("u")
@@ -463,7 +463,7 @@ class Lossy(Page):
 
 
 class Wide(Page):
-    """More CPUs than have room."""
+    """More CPUs than there is room for."""
 
     CPUS = 80
 
@@ -527,7 +527,7 @@ class OtherEvents(Page):
 
 
 class Busy(Page):
-    """A wait during which more runs than are sent."""
+    """A wait during which there are more runs than are sent."""
 
     SWITCHES = 9000
 
@@ -557,7 +557,7 @@ class Busy(Page):
         length = 10 + 10 * self.SWITCHES
         self.until_equal(f"task-7 7 waited {length:,} µs for CPU 1".replace("task-7", "w"), lambda: self.text("#view-title"))
         self.assertIn("Grey stands for many short runs", self.text("#wait-note"))
-        # From the beginning to the end of the wait something is drawn on each lane, and half as high as time is idle.
+        # From the beginning to the end of the wait, something is drawn on each lane; runs that are put together are half busy.
         boxes = """const { axis, scene } = lanes, [from, until] = [axis.x(0), axis.x(scene.end - scene.begin)];
             return [0, 1].map((cpu) => {
                 const own = lanes.boxes.filter((box) => box.cpu === cpu);
@@ -643,7 +643,7 @@ class Saved(Page):
 
 
 class Ends(Page):
-    """Where the server ends, or something goes wrong."""
+    """What the page shows if the server ends, or if something goes wrong."""
 
     def test_an_ended_server_is_told(self):
         self.server.end()

@@ -50,7 +50,7 @@ class ByKeys(Page):
         self.until(lambda: self.js("return state.group === 1"))
         self.until(lambda: self.js("return document.querySelectorAll('#bars .dim').length"))
         self.assertEqual(focused(), name)
-        # The button that takes this back goes away by it; the list stays.
+        # The button that takes this back disappears when it is pressed; the list stays.
         self.js("document.getElementById('all-bars').focus()")
         self.press(Keys.ENTER)
         self.until(lambda: self.js("return state.group === null"))
@@ -75,10 +75,10 @@ class ByKeys(Page):
         self.assertEqual(self.focus(), "worst-rows")
         self.press("/", Keys.ESCAPE)
         self.assertEqual((self.focus(), self.find("#filter").get_attribute("value")), ("", text))
-        # What was left has shortcuts again.
+        # After a box is left, the shortcuts work again.
         self.press("t", Keys.ENTER)
         self.assertEqual(self.js("return document.activeElement.getAttribute('aria-label')"), "the trigger's table")
-        # Who types quickly goes on before the answer is there, whatever was thought of the beginning of the text.
+        # Whoever types quickly goes on before the answer is there, even if the beginning of the text was refused.
         self.press("t")
         self.typed("#filter", "next_prio <")
         self.until(lambda: self.find("#filter").get_attribute("aria-invalid") == "true")

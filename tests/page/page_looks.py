@@ -102,12 +102,12 @@ class Looks(Page):
 
 
 def rgb(colour):
-    """Red, green and blue of a colour, as a browser writes it."""
+    """Return red, green and blue of a colour, as a browser writes it."""
     return [int(number) for number in re.findall("[0-9]+", colour)[:3]]
 
 
 def contrast(one, other):
-    """How far two colours stand apart, as WCAG has it."""
+    """Return the contrast of two colours, as WCAG defines it."""
     levels = []
     for colour in (one, other):
         parts = [part / 255 for part in rgb(colour)]

@@ -3,7 +3,7 @@
 
     page_pictures.py TRACE
 
-Such a trace writes bench/make_trace.py. It needs what page.py needs.
+bench/make_trace.py writes such a trace. This script needs what page.py needs.
 """
 
 import os
@@ -18,7 +18,7 @@ SIZE = (1280, 720)
 
 
 def light(page):
-    """A wait of a bar, and what had been without some wakings."""
+    """Show a wait of a bar, and what the waits would have been without some wakings."""
     page.js("choose(state.scale.bar(2000), null); worst.choose(3, true)")
     page.until(lambda: page.js("return lanes.scene !== null"))
     page.js(
@@ -29,7 +29,7 @@ def light(page):
 
 
 def dark(page):
-    """The longest wait among all CPUs, with a trigger's table."""
+    """Show the longest wait among all CPUs, with a trigger's table."""
     page.choose("#theme", "dark")
     page.choose("#heights", "log")
     page.typed("#filter", "next_prio <= 120")
@@ -46,7 +46,7 @@ def main():
     if len(sys.argv) != 2 or missing():
         sys.exit(f"page_pictures.py TRACE; missing: {missing()}")
     folder, name = os.path.split(os.path.abspath(sys.argv[1]))
-    # The page shows how the trace is called.
+    # The page shows the path of the trace as it is given.
     os.chdir(folder)
     Page.words = (name,)
     Page.setUpClass()
@@ -56,7 +56,7 @@ def main():
             page.resize(*SIZE)
             page.open(Page.server.address)
             prepare(page)
-            # Rows that changed have flashed, and all is drawn.
+            # After a while, rows that changed have flashed, and all is drawn.
             page.js("document.activeElement.blur(); document.getElementById('tip').hidden = true")
             page.driver.execute_async_script("setTimeout(arguments[0], 2500)")
             page.driver.save_screenshot(os.path.join(ROOT, "docs", f"{name}.png"))

@@ -10,7 +10,7 @@ import histdesk
 import recordings
 from histdesk.view.model import Side
 
-# What scripts of these tests use besides.
+# What scripts of these tests use in addition.
 TIMELINE = "const { timeline } = await import(`${path}timeline.js`);"
 
 
@@ -22,26 +22,26 @@ class Timeline(Page):
         self.show()
 
     def show(self):
-        """Opens the tab, and waits until all is there."""
+        """Open the tab, and wait until all is there."""
         self.click("#tab-timeline")
         self.until(lambda: self.ask("timeline.overview !== null && timeline.pictures !== null"))
 
     def ask(self, expression, *words):
-        """The value of an expression of the page."""
+        """Return the value of an expression of the page."""
         return self.js(f"{TIMELINE} return {expression}", *words)
 
     def sight(self):
-        """From when to when something is in sight, in microseconds since the first event."""
+        """Return when the time in sight begins and ends, in microseconds since the first event."""
         return self.ask("[timeline.axis.low, timeline.axis.high]")
 
     def answered(self):
-        """Waits until what is in sight was answered."""
+        """Wait until there is an answer for what is in sight."""
         both = """Math.abs(timeline.overview.low - timeline.axis.low) <= 1
             && Math.abs(timeline.overview.high - timeline.axis.high) <= 1"""
         self.until(lambda: self.ask(both))
 
     def run_with_a_wait(self):
-        """A run that a wait led to, brought into sight: its index, and where its middle is."""
+        """Bring a run that ended a wait into sight, and return its CPU and line, and where its middle is."""
         found = self.js(
             f"""{TIMELINE}
             const {{ end, begin, line }} = timeline.overview.runs;
@@ -82,7 +82,7 @@ class AllCpus(Timeline):
         self.assertIn(f"{len(runs.lanes)} CPUs from ", self.text("#view-title"))
 
     def test_marks_of_the_axis_differ(self):
-        """They have one unit, and the digits in which they differ."""
+        """The marks of the axis have one unit, and the digits in which they differ."""
         marks = {
             (0, 100000, 200000): ["0 ms", "100 ms", "200 ms"],
             (2112000, 2114000, 2116000): ["2.112 s", "2.114 s", "2.116 s"],
@@ -201,7 +201,7 @@ class AllCpus(Timeline):
         self.assertEqual(self.ask("Array.from({ length: 100 }, (_, pid) => timeline.colourOf(pid))"), colours)
 
     def test_sizes(self):
-        # What other tests had the browser note is none of this one's.
+        # What the browser noted during other tests doesn't count here.
         self.driver.get_log("browser")
         for width, height in (*SIZES, (390, 844)):
             self.resize(width, height)
@@ -314,7 +314,7 @@ class SavedTimeline(Timeline):
 
 
 def save(trace, path):
-    """Writes a page as one file."""
+    """Write a page as one file."""
     from histdesk.cli import view
 
     assert view.main([trace, "--save", path]) == 0

@@ -1,12 +1,12 @@
 #!/usr/bin/env python3
-"""Refuses growths of a desk's memory in the middle of a script, and holds what it answers then, and asked again.
+"""Refuses growths of a desk's memory in the middle of a script, and checks what it answers then, and when it is asked again.
 
     asked_again.py ASKAGAIN LIBRARY ROW...
 
 ASKAGAIN is the program of that crate, LIBRARY is built from refuse_growth.c, and ROW is a folder with `script`,
 `trace1`.. and `expected`. Of the growths in the calls that the script's commands make, the Nth is refused, and then in
 other runs each from the Nth on; N goes from 1 to the first that no run reaches. A call that runs out of memory is
-made once more at once, with memory. Of each run is held:
+made once more at once, with memory. These things must hold for each run:
 
 - a call answers what the row says, or runs out of memory and then, made again, answers what the row says;
 - `strike`, `unload` and `remove` never run out of memory;
@@ -15,12 +15,12 @@ made once more at once, with memory. Of each run is held:
 - the rows that an accepted insert or strike names are those that it names with memory, or there is no report, as on a
   deferred desk;
 - an insert or a strike that a refused growth defers has a growth before that, of what is gathered for its report, which
-  costs it the report alone: it answers `Now`;
+  costs it only the report: it answers `Now`;
 - what is refused, or runs out of memory, leaves the desk deferred or not as it was; but if tables are asked for and
-  the text of the answer runs out of memory, the desk may be deferred no more;
+  the text of the answer runs out of memory, the desk may no longer be deferred;
 - after a table, totals or latencies that were answered the desk isn't deferred, and a `list` leaves it as it was.
 
-Of a refusal its number alone is compared. A row fails in which no edit ever answered `Later`. There is a line for each
+Only the number of a refusal is compared. A row fails if no edit of it ever answered `Later`. There is a line for each
 row, and a last one with the counts.
 """
 
@@ -37,7 +37,7 @@ TABLES = {"hist", "lat", "totals"}
 NEVER_OUT_OF_MEMORY = {"unload", "strike", "remove"}
 MEMORY = b"memory\n"
 NO_REPORT = b"no report"
-# A run that takes more seconds is ended, and its row fails.
+# A run that takes more seconds than this is ended, and its row fails.
 LIMIT = 120
 
 
@@ -72,7 +72,7 @@ class Desk:
         return not any(sign in text for text in asked)
 
     def hold(self, command, want, answer, again):
-        """Checks an answer to a command that with memory is `want`."""
+        """Check an answer to a command, which with memory is `want`."""
         word = command.split()[0]
         is_memory = answer.text == MEMORY
         demand(answer.text == want.text or is_memory and not again, "another answer")
@@ -94,7 +94,7 @@ class Desk:
         self.is_deferred = answer.is_deferred
 
     def follow(self, command, answer):
-        """Attaches or removes what an accepted edit does."""
+        """Attach or remove the trigger that an accepted edit attaches or removes."""
         word, *others = command.split(maxsplit=2)
         if word == "attach":
             self.triggers[int(answer.text.split()[1])] = others[1]
@@ -103,7 +103,7 @@ class Desk:
 
 
 class CameTo:
-    """Which commands a run deferred the desk by, and which it left without a report, and not deferred."""
+    """The commands by which a run deferred the desk, and those that it left without a report, and not deferred."""
 
     def __init__(self):
         self.deferred, self.unreported = set(), set()
@@ -127,12 +127,12 @@ class Row:
             return file.read()
 
     def run(self, **more):
-        """The answers of a run, and how many growths its calls made."""
+        """Return the answers of a run, and how many growths its calls made."""
         path = os.path.join(self.folder, "count")
         env = {**os.environ, "LD_PRELOAD": self.library, "REFUSE_SWITCH": "1", "REFUSE_COUNT": path, **more}
         command = [self.program, *self.files]
         ran = subprocess.run(command, env=env, stdin=subprocess.DEVNULL, capture_output=True, timeout=LIMIT)
-        # The switch is turned twice for each command; else the driver itself has met a fault.
+        # The switch is turned twice for each command, unless the driver itself has met a fault.
         demand(ran.returncode == 0 and ran.stderr == b".." * len(self.commands), f"status {ran.returncode}, {ran.stderr}")
         form = rb"(.*?)^(?:-- (rows[^\n]*|no report)\n)?-- (now|later|none) (deferred|kept)\n"
         answers = [Answer(found) for found in re.finditer(form, ran.stdout, re.MULTILINE | re.DOTALL)]
@@ -140,7 +140,7 @@ class Row:
             return answers, int(file.read())
 
     def hold(self, wanted, answers):
-        """Checks the answers of a run that with memory are `wanted`: what it came to."""
+        """Check the answers of a run, which with memory are `wanted`, and return what the run came to."""
         desk, left, came = Desk(), iter(answers), CameTo()
         for number, (command, want) in enumerate(zip(self.commands, wanted)):
             for again in [False, True]:
@@ -160,8 +160,9 @@ class Row:
         return came
 
     def series(self, mode, plain):
-        """How many growths were refused, or those from each on, and in how many runs an edit answered `Later`. By the
-        commands that the refused growth deferred, or left without a report alone, the first such growth."""
+        """Return how many growths were refused, or those from each on, and in how many runs an edit answered `Later`; and,
+        for each command that a refused growth deferred, and for each that it only left without a report, the first such
+        growth."""
         later, deferred, unreported = 0, {}, {}
         for number in itertools.count(1):
             try:
@@ -179,7 +180,7 @@ class Row:
                 unreported.setdefault(command, number)
 
     def check(self):
-        """What was run."""
+        """Check the row, and return what was run."""
         plain, _ = self.run()
         demand(len(plain) == len(self.commands), "as many answers as commands")
         expected = re.sub(rb"^(refused \d+).*$", rb"\1", self.bytes_of("expected"), flags=re.MULTILINE)
@@ -203,7 +204,7 @@ class Row:
 
 
 def check(program, library, path):
-    """Whether a row holds, and what was run or is wrong."""
+    """Return whether a row holds, and what was run or is wrong."""
     with tempfile.TemporaryDirectory() as folder:
         try:
             return True, Row(program, library, path, folder).check()

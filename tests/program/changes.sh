@@ -1,13 +1,13 @@
 #!/usr/bin/env bash
-# changes.sh [HISTDESK [PLAINDESK [ASKAGAIN [HISTWATCH]]]]: the rows that edits name, by ASKAGAIN, and those that HISTWATCH
-# prints as changed, beside the tables that HISTDESK prints. program.sh says more of these words.
+# changes.sh [HISTDESK [PLAINDESK [ASKAGAIN [HISTWATCH]]]]: tests the rows that edits name, by ASKAGAIN, and those that
+# HISTWATCH prints as changed, beside the tables that HISTDESK prints. program.sh says more about these arguments.
 set -uo pipefail
 
 tests=$(dirname -- "$(dirname -- "$(realpath -- "${BASH_SOURCE[0]}")")")
 . "$tests/counts.sh"
 . "$tests/program/common.sh"
 
-# watched_row NAME SCRIPT TRACE EXPECTED: a folder with these is made a row.
+# watched_row NAME SCRIPT TRACE EXPECTED: makes a row, which is a folder, of these.
 watched_row() {
     local row=$folder/watched/$1
     mkdir -p -- "$row"
@@ -17,8 +17,8 @@ watched_row() {
     echo 0 >"$row/status"
 }
 
-# watches HISTWATCH: what it prints of its example, of words that are refused, and of edits by chance, and that it ends
-# cleanly if a growth of memory is refused.
+# watches HISTWATCH: checks what it prints for its examples, for arguments that are refused and for random edits, and that it
+# ends cleanly if a growth of memory is refused.
 watches() {
     gives watched 0 "" "$1" "$examples/changes.script" "$examples/wakeups.trace"
     prints watched "$examples/changes.expected"

@@ -1,6 +1,6 @@
 # shellcheck shell=bash disable=SC2154,SC2034 # what counts.sh and the parts assign, and what the parts read
-# What program.sh and its parts, program/*.sh, test with, read by them after counts.sh: their words, which are program.sh's,
-# and checks of what a program does. `tests` is the folder of the tests.
+# What program.sh and its parts, program/*.sh, test with: their arguments, which are those of program.sh, and checks of what a
+# program does. They read this after counts.sh. `tests` is the folder of the tests.
 
 launcher=$(realpath -- "$tests/../histdesk")
 histdesk=$(realpath -- "${1:-$launcher}")
@@ -12,7 +12,7 @@ examples=$tests/../examples
 
 . "$tests/commands.sh"
 
-# row PROGRAM FOLDER: the program prints the row's whole output, ends with its status and says nothing else.
+# row PROGRAM FOLDER: checks that the program prints the row's whole output, ends with its status and says nothing else.
 row() {
     local number=1 status traces=()
     while [[ -e $2/trace$number ]]; do
@@ -30,8 +30,7 @@ row() {
     fi
 }
 
-# mixed_row NAME COMMANDS EVENTS SEED: a folder with a random script of edits and answers is made a row, by a plain
-# model in Python.
+# mixed_row NAME COMMANDS EVENTS SEED: makes a row of a random script of edits and answers, by a plain model in Python.
 mixed_row() {
     local row=$folder/$1
     mkdir -p -- "$row"
@@ -43,7 +42,7 @@ mixed_row() {
     fi
 }
 
-# short_rows: ten short ones.
+# short_rows: makes ten short ones.
 short_rows() {
     local seed
     for ((seed = 1; seed <= 10; seed++)); do
@@ -51,7 +50,7 @@ short_rows() {
     done
 }
 
-# refused SCRIPT PROGRAM ROW..: the script refuses growths of the program's memory, in each row. Each row is
+# refused SCRIPT PROGRAM ROW..: has the script refuse growths of the program's memory, in each row. Each row is
 # a test.
 refused() {
     local library=$folder/refuse_growth.so
@@ -62,13 +61,13 @@ refused() {
     holds "$tests/program/$1" "$2" "$library" "${@:3}"
 }
 
-# growths PROGRAM ROW..: with each growth of its memory refused in turn, the program prints a row's whole
+# growths PROGRAM ROW..: checks that the program, with each growth of its memory refused in turn, prints a row's whole
 # output, or that of its first commands and that memory ran out.
 growths() {
     refused growths.py "$@"
 }
 
-# built NAME: where the program of that crate is, if it is built.
+# built NAME: prints where the program of that crate is, if it is built.
 built() {
     local program=$tests/../crates/$1/out/$1
     if [[ -x $program ]]; then
@@ -81,13 +80,13 @@ if (($# == 0)); then
     askagain=$(built askagain)
     histwatch=$(built histwatch)
 fi
-# The launcher builds the program if it is stale, which no limit holds for.
+# The launcher builds the program if it is stale, for which there is no time limit.
 if ! "$histdesk" - </dev/null >/dev/null; then
     echo "not run: $histdesk"
     echo "0 passed, 1 failed"
     exit 1
 fi
-# The launcher itself is a script that bash runs, whose growths are none of the program's.
+# The launcher itself is a script that bash runs, and growths of bash's memory are not those of the program.
 program=$histdesk
 if [[ $histdesk == "$launcher" ]]; then
     program=$(built histdesk)

@@ -1,13 +1,13 @@
 #!/usr/bin/env bash
-# examples.sh [HISTDESK [PLAINDESK [ASKAGAIN [HISTWATCH]]]]: what HISTDESK prints of the examples. program.sh says more
-# of these words.
+# examples.sh [HISTDESK [PLAINDESK [ASKAGAIN [HISTWATCH]]]]: tests what HISTDESK prints for the examples. program.sh says
+# more about these arguments.
 set -uo pipefail
 
 tests=$(dirname -- "$(dirname -- "$(realpath -- "${BASH_SOURCE[0]}")")")
 . "$tests/counts.sh"
 . "$tests/program/common.sh"
 
-# example NAME STATUS TRACE..: the script of that name over these traces.
+# example NAME STATUS TRACE..: runs the script of that name over these traces, and checks its status and output.
 example() {
     gives "${1//-/_}" "$2" "" "$histdesk" "$examples/$1.script" "${@:3}"
     prints "${1//-/_}" "$examples/$1.expected"

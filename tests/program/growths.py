@@ -21,10 +21,10 @@ import tempfile
 
 # What `histwatch` says last.
 COUNTS = re.compile(rb"histwatch: \d+ edits, \d+ rows, \d+ without a report\n")
-# A run that takes more seconds is ended, and its row fails.
+# A run that takes more seconds than this is ended, and its row fails.
 LIMIT = 120
-# Only a trace of thousands of lines takes so many growths, one for some lines each, and the runs are then not many but
-# slow ones. Of its growths so many are refused: the first, the last, and each so many between them.
+# Only a trace of thousands of lines takes more growths than MOST, one for every few lines, and such runs are slow. So only
+# some of its growths are refused: the first, the last, and every EACH-th between them.
 MOST, EACH = 300, 10
 
 
@@ -48,14 +48,14 @@ class Row:
             return file.read()
 
     def run(self, script, **more):
-        """The status, standard error and output of a run."""
+        """Return the status, standard error and output of a run."""
         command = [self.program, script, *self.traces]
         env = {**os.environ, **more}
         ran = subprocess.run(command, env=env, stdin=subprocess.DEVNULL, capture_output=True, timeout=LIMIT)
         return (ran.returncode, COUNTS.sub(b"", ran.stderr)), ran.stdout
 
     def run_counted(self, **more):
-        """A run of the row with growths refused, and how many growths it made."""
+        """Run the row with growths refused, and return what `run` returns, and how many growths the run made."""
         path = os.path.join(self.folder, "count")
         ran = self.run(os.path.join(self.path, "script"), LD_PRELOAD=self.library, REFUSE_COUNT=path, **more)
         if not os.path.exists(path):
@@ -66,7 +66,7 @@ class Row:
         return ran, count
 
     def cuts(self):
-        """How long the output is after each of the first lines of the script."""
+        """Return how long the output is after each of the first lines of the script."""
         lines, lengths = re.findall(rb"[^\n]*\n|[^\n]+", self.script), set()
         path = os.path.join(self.folder, "script")
         for number in range(len(lines) + 1):
@@ -79,7 +79,7 @@ class Row:
         return lengths
 
     def check(self):
-        """How many runs there were."""
+        """Check the row, and return how many runs there were."""
         whole = ((self.status, b""), self.expected)
         ran, count = self.run_counted()
         if ran != whole:
@@ -102,7 +102,7 @@ def numbers_to(last):
 
 
 def check(program, library, path):
-    """What is wrong with a row, or nothing, and how many runs there were."""
+    """Return what is wrong with a row, or an empty text, and how many runs there were."""
     with tempfile.TemporaryDirectory() as folder:
         try:
             return "", Row(program, library, path, folder).check()

@@ -1,14 +1,14 @@
 #!/usr/bin/env bash
-# growths.sh [HISTDESK [PLAINDESK [ASKAGAIN [HISTWATCH]]]]: growths of HISTDESK's memory that are refused, in each row;
-# ASKAGAIN asks a second time for what found none, in some of them. program.sh says more of these words.
+# growths.sh [HISTDESK [PLAINDESK [ASKAGAIN [HISTWATCH]]]]: has growths of HISTDESK's memory refused, in each row; ASKAGAIN
+# asks a second time for what found no memory, in some rows. program.sh says more about these arguments.
 set -uo pipefail
 
 tests=$(dirname -- "$(dirname -- "$(realpath -- "${BASH_SOURCE[0]}")")")
 . "$tests/counts.sh"
 . "$tests/program/common.sh"
 
-# asks_again PROGRAM NAME..: a desk that is asked a second time for what found no memory does what the rows of
-# these names say.
+# asks_again PROGRAM NAME..: checks that a desk that is asked a second time for what found no memory does what the rows
+# of these names say.
 asks_again() {
     local names=("${@:2}")
     refused asked_again.py "$1" "${names[@]/#/$tests/rows/}"

@@ -1,15 +1,15 @@
 #!/usr/bin/env python3
-"""Gives programs hostile bytes, and holds that they print what the plain model prints (model.py), with its exit status.
+"""Gives programs hostile bytes, and checks that they print what the plain model prints (model.py), with its exit status.
 
     hostile.py [--part N] [--start WORD] PROGRAM...
 
-All is drawn from a fixed start (hostile_texts.py), so that each run is the same; another word gives other bytes. 20,000
-trace lines, inserted and in traces, 5,000 filters, 5,000 triggers and 2,000 scripts come in a hundred parts; with
-`--part N`, from 1 to 100, that one alone. Lines, filters and triggers stand many in one script, which asks after each
+All is drawn from a fixed start (hostile_texts.py), so that each run is the same; another WORD gives other bytes. There
+are 20,000 trace lines, inserted and in traces, 5,000 filters, 5,000 triggers and 2,000 scripts, in a hundred parts;
+`--part N`, from 1 to 100, runs only that one. Many lines, filters or triggers stand in one script, which asks after each
 accepted filter and trigger what the desk made of it, and at its end for all that is there.
 
-Where a program prints something else, a line says in which part, and after it stand the first command whose output
-differs and both outputs. A whole run ends with how often the model answered what. The last line counts the programs'
+If a program prints something else, a line says in which part, and after it stand the first command whose output
+differs and both outputs. A whole run ends with how often the model gave each answer. The last line counts the programs'
 runs.
 """
 
@@ -34,9 +34,9 @@ PARTS = 100
 LINES, FILTERS, TRIGGERS, SCRIPTS = 200, 50, 50, 20
 # Lines of a trace, if many traces are loaded.
 TRACE = 5
-# A run that takes more seconds is ended, and fails.
+# A run that takes more seconds than this is ended, and fails.
 LIMIT = 120
-# So many bytes of an output are shown.
+# How many bytes of an output are shown.
 SHOWN = 200
 # A trigger on switches that reads t and makes events.
 MAKER = "hist:keys=next_pid:v=common_timestamp.usecs-$t"
@@ -53,7 +53,7 @@ class Session:
         self.told, self.is_refused, self.ending = [], False, "\n"
 
     def perform(self, line):
-        """Adds a line: whether it is accepted."""
+        """Add a line, and return whether it is accepted."""
         try:
             text, accepted = self.desk.perform(line, self.files), True
         except Refused as refused:
@@ -78,7 +78,7 @@ class Session:
         self.ask_lanes()
 
     def attached(self):
-        """The id of the trigger that the last line attached."""
+        """Return the id of the trigger that the last line attached."""
         return self.desk.next_id - 1
 
     def script(self):
@@ -97,7 +97,8 @@ def lines_of(text):
 
 
 def lines_session(draw, name):
-    """Lines that are inserted, and then in traces of a few, which a bad line refuses."""
+    """Return a session with lines that are inserted, and then loaded in traces of a few, of which those with a bad line are
+    refused."""
     lines = texts.hostile_lines(draw, LINES)
     mixed = [texts.line(draw) if draw.random() < 0.8 else line for line in lines]
     traces = ["\n".join(mixed[at : at + TRACE]) + draw.choice(["\n", "", "\r\n"]) for at in range(0, len(mixed), TRACE)]
@@ -115,7 +116,7 @@ def lines_session(draw, name):
 
 
 def held(draw, count):
-    """A trace whose every line is an event, with odd parts among them."""
+    """Return a trace of which every line is an event, some with odd parts."""
     session, lines = Session("held"), []
     while len(lines) < count:
         line = texts.odd_line(draw, 2)
@@ -125,8 +126,8 @@ def held(draw, count):
 
 
 def filters_session(draw, name):
-    """Filters of a trigger for each event, and of triggers as they come; tables have a row for each event that passes.
-    Two triggers save and read, so that there are events that triggers make."""
+    """Return a session with filters, for a trigger on each event and for triggers that are attached with them; tables have a
+    row for each event that passes. Two triggers save and read, so that there are events that triggers make."""
     session = Session(name, [held(draw, 40)])
     session.perform("load @1")
     keys = {event: ",".join([fields_of(event)[2], fields_of(event)[3], "common_cpu"]) for event in ATTACHED}
@@ -149,8 +150,8 @@ def filters_session(draw, name):
 
 
 def triggers_session(draw, name):
-    """Triggers beside two savers, whose variables they may read, and one on the event that they may make. Each that is
-    accepted goes again."""
+    """Return a session with triggers beside two savers, whose variables they may read, and beside one on the event that they
+    may make. Each trigger that is accepted is removed again."""
     session = Session(name, [held(draw, 40)])
     session.perform("load @1")
     session.perform("attach sched_waking hist:keys=pid:t=common_timestamp.usecs")
@@ -167,7 +168,7 @@ def triggers_session(draw, name):
 
 
 def script_session(draw, name):
-    """A few commands, many of them a character away from good; some scripts end in mid-line."""
+    """Return a session with a few commands, many of them a character away from good ones; some scripts end in mid-line."""
     traces = [texts.line(draw) + "\n" + texts.line(draw) + "\n" for _ in range(draw.randrange(1, 4))]
     if draw.random() < 0.3:
         traces[0] += draw.choice([texts.hostile_line(draw), texts.skipped_line(draw) + "\n"])
@@ -183,7 +184,7 @@ def script_session(draw, name):
 
 
 def sessions_of(start, part):
-    """What a part gives to each program. Each session is drawn by itself."""
+    """Yield the sessions that a part gives to each program, each drawn by itself."""
     kinds = [("lines", lines_session, 1), ("filters", filters_session, 1), ("triggers", triggers_session, 1)]
     for kind, make, count in [*kinds, ("script", script_session, SCRIPTS)]:
         for number in range(1, count + 1):
@@ -195,7 +196,7 @@ def sessions_of(start, part):
 
 
 def written(folder, session):
-    """The session's script and traces as files: their paths."""
+    """Write the session's script and traces to files, and return their paths."""
     paths = []
     for number, content in enumerate([session.script(), *(trace.encode("latin-1") for trace in session.traces)]):
         paths.append(os.path.join(folder, f"trace{number}" if number else "script"))
@@ -205,7 +206,7 @@ def written(folder, session):
 
 
 def differs(program, paths, session):
-    """What a program gives that isn't the model's, or None."""
+    """Return what a program gives that isn't the model's, or None."""
     try:
         ran = subprocess.run([program, *paths], stdin=subprocess.DEVNULL, capture_output=True, timeout=LIMIT)
     except subprocess.TimeoutExpired:
@@ -230,7 +231,7 @@ def first_difference(printed, session):
 
 
 def count_answers(session, counts):
-    """Counts what the lines of a session were answered, without places and numbers of lines."""
+    """Count the answers to the lines of a session, without places and the numbers of lines, CPUs and triggers."""
     for line, text in session.told:
         word = "accepted"
         if text.startswith("refused "):

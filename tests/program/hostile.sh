@@ -1,7 +1,7 @@
 #!/usr/bin/env bash
-# hostile.sh [HISTDESK [PLAINDESK [ASKAGAIN [HISTWATCH]]]]: a part of the hostile bytes, of which HISTDESK and
-# PLAINDESK print what the plain model does; and lanes of many distinct keys that go and come in HISTDESK. program.sh
-# says more of these words.
+# hostile.sh [HISTDESK [PLAINDESK [ASKAGAIN [HISTWATCH]]]]: tests a part of the hostile bytes, for which HISTDESK and
+# PLAINDESK print what the plain model does, and lanes of many distinct keys that go and come in HISTDESK. program.sh
+# says more about these arguments.
 set -uo pipefail
 
 tests=$(dirname -- "$(dirname -- "$(realpath -- "${BASH_SOURCE[0]}")")")

@@ -1,10 +1,10 @@
 #!/usr/bin/env python3
-"""Whether what a lane of many distinct keys costs as it goes or comes stays in proportion to the keys, and what is printed.
+"""Checks that what a lane of many distinct keys costs as it goes or comes stays in proportion to the keys, and what is printed.
 
     keys.py PROGRAM
 
-A table of 80,000 keys takes four times as long as one of 20,000 if each key costs the same. If each key costs what all
-others are, it takes 16 times as long; half of that is too long here, since the machine may be busy.
+A table of 80,000 keys takes four times as long as one of 20,000 if each key costs the same. If the cost of
+each key is in proportion to the keys, it takes 16 times as long. Here half of that is too long, since the machine may be busy.
 """
 
 import resource
@@ -25,8 +25,8 @@ def waking(micros, pid, cpu):
 
 
 def scripts(keys):
-    """Of CPU 0, the first to wake `keys` tasks, the lane goes, or comes to that of CPU 1, which wakes other tasks: in a table
-    of the usual size, and in one that has room for all."""
+    """Yield scripts, each with what it prints: the lane of CPU 0, which wakes `keys` tasks before CPU 1 wakes others, goes, or
+    comes to the lane of CPU 1; in a table of the usual size, and in one that has room for all."""
     for size in "", f":size={1 << 17}":
         room = min(keys + 1, 131072 if size else 2048)
         totals = f"hits {room} entries {room} dropped {keys + 1 - room}\n"
@@ -41,7 +41,7 @@ def scripts(keys):
 
 
 def run(program, folder, script):
-    """The least processor time of some runs, and what one printed."""
+    """Return the least processor time of some runs, and what one of them printed."""
     least, printed = float("inf"), ""
     with open(f"{folder}/script", "w", encoding="ascii") as file:
         file.write(script)
@@ -55,7 +55,7 @@ def run(program, folder, script):
 
 
 def measure(program, folder, keys, wrong):
-    """The time of each script with so many keys. Output that isn't expected is added to `wrong`."""
+    """Return the time of each script with that many keys. Output that isn't expected is added to `wrong`."""
     with open(f"{folder}/trace1", "w", encoding="ascii") as file:
         file.writelines(waking(n, n, 0) for n in range(keys))
     with open(f"{folder}/trace2", "w", encoding="ascii") as file:

@@ -1,14 +1,14 @@
 #!/usr/bin/env bash
-# limits.sh [HISTDESK [PLAINDESK [ASKAGAIN [HISTWATCH]]]]: files that are larger than HISTDESK takes, and desks that
-# hold as much as they can, by PLAINDESK too. program.sh says more of these words.
+# limits.sh [HISTDESK [PLAINDESK [ASKAGAIN [HISTWATCH]]]]: tests files that are larger than HISTDESK takes, and desks that
+# hold as much as they can, with PLAINDESK too. program.sh says more about these arguments.
 set -uo pipefail
 
 tests=$(dirname -- "$(dirname -- "$(realpath -- "${BASH_SOURCE[0]}")")")
 . "$tests/counts.sh"
 . "$tests/program/common.sh"
 
-# full_desk PROGRAM..: a trace of one event more than a desk holds, and what edits a desk takes that holds the most. What
-# may be refused for another reason is refused for that one.
+# full_desk PROGRAM..: tests a trace of one event more than a desk holds, and which edits a full desk takes. What may be
+# refused for another reason is refused for that one.
 full_desk() {
     local name program full=$folder/full
     mkdir -p -- "$full"/{one_more,edits}

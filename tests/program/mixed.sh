@@ -1,6 +1,6 @@
 #!/usr/bin/env bash
-# mixed.sh [COMMANDS [EVENTS [SEEDS]]]: random scripts of so many edits and answers (2,000) over so many events (1,000),
-# for so many seeds (3), through the built program and through a plain model in Python: both print the same bytes.
+# mixed.sh [COMMANDS [EVENTS [SEEDS]]]: runs random scripts of COMMANDS edits and answers (2,000) over EVENTS events (1,000),
+# for SEEDS seeds (3), through the built program and through a plain model in Python: both must print the same bytes.
 set -euo pipefail
 
 tests=$(dirname -- "$(dirname -- "$(realpath -- "${BASH_SOURCE[0]}")")")

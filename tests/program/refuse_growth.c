@@ -1,4 +1,4 @@
-/* Put before a program by LD_PRELOAD, it refuses growths of its memory, as a system does that has no more.
+/* LD_PRELOAD puts this before a program. It refuses growths of the program's memory, as a system does that has no more.
 
    A growth is a call of malloc, calloc, aligned_alloc or posix_memalign, and a realloc to more bytes than the block has
    room for. Growths are counted from 1.
@@ -6,8 +6,9 @@
      REFUSE_AT=N     the growth of that number is refused
      REFUSE_FROM=N   this one and all after it are refused
      REFUSE_COUNT=F  the count is written to the file F when the program exits
-     REFUSE_SWITCH=1 growths are counted and refused between the first byte that the program writes to standard error
-                     and the second, the third and the fourth, and so on: each write there turns a switch, off at first
+     REFUSE_SWITCH=1 growths are only counted and refused between the first byte that the program writes to standard error
+                     and the second, between the third and the fourth, and so on: each write there turns a switch, which
+                     is off at first
 
    A realloc to fewer bytes goes through as it is: no program needs memory for it. */
 #define _GNU_SOURCE

@@ -1,18 +1,18 @@
 #!/usr/bin/env python3
-"""Holds the reports of a desk's inserts and strikes against the tables before and after each.
+"""Checks the reports of a desk's inserts and strikes against the tables before and after each.
 
     reports.py ASKAGAIN [EDITS]
 
 ASKAGAIN is the program of that crate, which prints after an accepted insert or strike `-- rows ID:KEY ..`, the rows that
-may have changed, or `-- no report`. Of each report is held, by the tables that are asked for after each edit:
+may have changed, or `-- no report`. The tables that are asked for after each edit show whether each report holds:
 
-- each row that came, went or changed of a trigger on an event of the trace is in it, and no row is twice;
-- it has at most 2 rows of a trigger that reads no variable, and 4 and two for each trigger that reads the same variable of
-  one that does; none of a trigger on `wakeup_latency`.
+- each row that came, went or changed is in it, if its trigger is on an event of the trace, and no row is in it twice;
+- it has at most 2 rows of a trigger that reads no variable; of one that reads a variable it has at most 4, and 2 more for
+  each trigger that reads the same variable; and it has none of a trigger on `wakeup_latency`.
 
-First come three edits whose rows are known by hand, then EDITS (500 if none are given) by chance, over full tables, with
-two readers of one variable, one of which makes events. That a report is the same or none if growths are refused is
-held by `asked_again.py`.
+First come three edits whose rows are known by hand, then EDITS random ones (500 if none are given), over full tables, with
+two readers of one variable, one of which makes events. `asked_again.py` checks that a report is the same or none if
+growths are refused.
 """
 
 import os
@@ -52,7 +52,7 @@ def switch(cpu, micros, before, pid):
 
 
 def answers(program, script, trace):
-    """What each command of a script prints, its report (None if it has none) and whether the desk is deferred."""
+    """Return what each command of a script prints, its report (None if it has none), and `now`, `later` or `none`."""
     with tempfile.TemporaryDirectory() as folder:
         paths = [os.path.join(folder, name) for name in ["script", "trace1"]]
         for path, lines in zip(paths, [script, trace]):
@@ -72,7 +72,7 @@ def report_of(text):
 
 
 def rows_of(text):
-    """The rows of a table by key: what stands after it."""
+    """Return the rows of a table: what stands after the key, by key."""
     rows = re.findall(r"^\{ (.*?) \} (.*)$", text, re.MULTILINE)
     return {tuple(map(int, re.findall(r": *(-?\d+)", key))): rest for key, rest in rows}
 
@@ -87,7 +87,7 @@ def most(number, readers=READERS, reads=READS):
 
 
 def hold(command, report, before, after):
-    """Holds a report against the tables by trigger, before an edit and after it: how many rows changed."""
+    """Check a report against the tables by trigger, before an edit and after it, and return how many rows changed."""
     demand(report is not None, f"{command}: no report")
     demand(len(set(report)) == len(report), f"{command}: a row twice")
     changed = {
@@ -104,7 +104,7 @@ def hold(command, report, before, after):
 
 
 def by_hand(program):
-    """The rows of three edits that are known by hand."""
+    """Check three edits whose rows are known by hand."""
     saver = (
         "attach sched_waking hist:keys=pid:ts0=common_timestamp.usecs{}",
         "attach sched_switch hist:keys=next_pid:vals=$lat:lat=common_timestamp.usecs-$ts0",
@@ -128,7 +128,7 @@ def by_hand(program):
 
 
 def by_chance(program, edits, seed=1):
-    """Edits by chance: how many there were, and how many rows changed."""
+    """Check random edits, and return how many there were, and how many rows changed."""
     chance = random.Random(seed)
 
     def event():

@@ -1,6 +1,6 @@
 #!/usr/bin/env bash
-# rows.sh [HISTDESK [PLAINDESK [ASKAGAIN [HISTWATCH]]]]: the rows of tests/rows, and random ones, which a plain model in
-# Python answers, by HISTDESK and PLAINDESK, and in memory by ASKAGAIN. program.sh says more of these words.
+# rows.sh [HISTDESK [PLAINDESK [ASKAGAIN [HISTWATCH]]]]: runs the rows of tests/rows, and random ones, which a plain model in
+# Python answers, with HISTDESK and PLAINDESK, and in memory with ASKAGAIN. program.sh says more about these arguments.
 #
 # A row is a folder: a script, its traces, its whole output and its exit status.
 set -uo pipefail
@@ -9,12 +9,12 @@ tests=$(dirname -- "$(dirname -- "$(realpath -- "${BASH_SOURCE[0]}")")")
 . "$tests/counts.sh"
 . "$tests/program/common.sh"
 
-# crowded_row NAME EDITS SEED: a folder with edits over tables that are full is made a row, by the plain model.
+# crowded_row NAME EDITS SEED: makes a row of edits over tables that are full, by the plain model.
 crowded_row() {
     echo "$1: $(python3 "$tests/model/crowded_script.py" "$2" "$3" "$folder/$1")"
 }
 
-# checks PROGRAM ROW..: the program says of these rows that all of them hold.
+# checks PROGRAM ROW..: checks that the program says that all of these rows hold.
 checks() {
     local told status count=$(($# - 1))
     told=$(timeout "$limit" "$1" rows "${@:2}" 2>&1 </dev/null)

@@ -1,13 +1,13 @@
 #!/usr/bin/env bash
-# streams.sh [HISTDESK [PLAINDESK [ASKAGAIN [HISTWATCH]]]]: what HISTDESK does if the disk is full, and that a
-# script which is typed is answered as it comes. program.sh says more of these words.
+# streams.sh [HISTDESK [PLAINDESK [ASKAGAIN [HISTWATCH]]]]: tests what HISTDESK does if the disk is full, and that a
+# script that is typed is answered as it comes. program.sh says more about these arguments.
 set -uo pipefail
 
 tests=$(dirname -- "$(dirname -- "$(realpath -- "${BASH_SOURCE[0]}")")")
 . "$tests/counts.sh"
 . "$tests/program/common.sh"
 
-# comes FILE LINE: whether the file holds that line alone, now or some seconds later.
+# comes FILE LINE: succeeds if the file holds only that line, now or some seconds later.
 comes() {
     local end=$((SECONDS + 10))
     until [[ $(<"$1") == "$2" ]]; do
@@ -16,14 +16,14 @@ comes() {
     done
 }
 
-# Who types a script sees a command's output before the next one, and its end ends the program.
+# Whoever types a script sees a command's output before typing the next one, and the script's end ends the program.
 types() {
     local run status
     mkfifo "$folder/typed"
     : >"$folder/seen"
     timeout "$limit" "$histdesk" - <"$folder/typed" >"$folder/seen" &
     run=$!
-    # Open for reading too, so that no writing ends this script if the program has ended.
+    # It is open for reading too, so that no writing ends this script if the program has ended.
     exec 3<>"$folder/typed"
     echo 'hist 1' >&3
     if comes "$folder/seen" "refused 10"; then

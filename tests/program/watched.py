@@ -1,14 +1,14 @@
 #!/usr/bin/env python3
-"""Holds what `histwatch` prints of rows that changed against the tables before and after each edit, by `histdesk`.
+"""Checks what `histwatch` prints of rows that changed against the tables of `histdesk` before and after each edit.
 
     watched.py HISTDESK HISTWATCH [ASKAGAIN]
 
-First come three scripts whose changes are written here by hand. Then edits by chance of all kinds (random_script.py) and
-over full tables (crowded_script.py), some hundreds accepted. Of each script `histdesk` runs another one that has `hist` of
-each attached trigger before and after each accepted insert and strike. By these tables, the `-` and `+` lines after each
-such edit are told, in order of trigger id, then key, and how many rows changed; `histwatch` must print the output of
+First come three scripts whose changes are written here by hand. Then come random edits, of all kinds (random_script.py) and
+over full tables (crowded_script.py), some hundreds of them accepted. For each script, `histdesk` runs another one that has
+`hist` of each attached trigger before and after each accepted insert and strike. These tables give the `-` and `+` lines
+after each such edit, in order of trigger id, then key, and how many rows changed; `histwatch` must print the output of
 `histdesk` with these lines, byte for byte, end with its status and say nothing on standard error. ASKAGAIN, if it is given,
-watches over the board that keeps no tables, on which no edit has a report: of the shorter scripts it must print the same.
+watches over the board that keeps no tables, on which no edit has a report: for the shorter scripts it must print the same.
 """
 
 import os
@@ -18,7 +18,7 @@ import sys
 import tempfile
 
 MODEL = os.path.join(os.path.dirname(os.path.realpath(__file__)), "..", "model")
-# A command that is always refused, and what it prints: so outputs of commands are told apart.
+# A command that is always refused, and what it prints, by which the outputs of commands are told apart.
 MARK, MARKED = b"unload 8191", b"refused 5: cpu 8191\n"
 LATENCY = (
     b" sim-1 [000] d.h.. 1.000050: sched_waking: comm=v pid=7 prio=120 target_cpu=000\n"
@@ -98,7 +98,7 @@ def demand(holds, otherwise):
 
 
 def run(words, script, traces):
-    """The status, output and standard error of a program over a script."""
+    """Return the status, output and standard error of a program over a script."""
     with tempfile.TemporaryDirectory() as folder:
         paths = [os.path.join(folder, "script")] + [os.path.join(folder, f"trace{at + 1}") for at in range(len(traces))]
         for path, text in zip(paths, [script, *traces]):
@@ -109,7 +109,7 @@ def run(words, script, traces):
 
 
 def outputs(histdesk, commands, traces):
-    """The status of a script's run, and what each of its commands prints."""
+    """Return what each command of a script prints."""
     script = b"".join(command + b"\n" + MARK + b"\n" for command in commands)
     _, output, error = run([histdesk], script, traces)
     demand(not error and output.endswith(MARKED), f"histdesk: {error}")
@@ -123,13 +123,13 @@ def outputs(histdesk, commands, traces):
 
 
 def keys_of(head):
-    """The names and modifiers of a table's keys, by its third line."""
+    """Return the names and modifiers of a table's keys, from its third line."""
     items = re.search(rb"^# trigger info: hist:keys=([^:]*):", head, re.MULTILINE)[1].split(b",")
     return [(item.partition(b".")[0], item.partition(b".")[2]) for item in items]
 
 
 def component(modifier, text):
-    """A key's component, as it is ordered."""
+    """Return a key's component in the form by which it is ordered."""
     if modifier == b"log2":
         return int(text.removeprefix(b"~ 2^"))
     if modifier.startswith(b"buckets"):
@@ -137,12 +137,12 @@ def component(modifier, text):
     if modifier == b"hex" or re.fullmatch(rb" *\d+", text):
         value = int(text, 16 if modifier == b"hex" else 10)
         return value - 2**64 if value >= 2**63 else value
-    # A text, after which spaces stand.
+    # A text, with spaces after it.
     return text.rstrip(b" ")
 
 
 def rows_of(text):
-    """The rows of a table by key: their lines."""
+    """Return the lines of a table's rows, by key."""
     head, rows = text.split(b"\n\n", 1)
     keys = keys_of(head)
     form = rb"\{ " + rb", ".join(re.escape(name) + rb": (.*)" for name, _ in keys) + rb" \} hitcount: .*"
@@ -155,7 +155,7 @@ def rows_of(text):
 
 
 def changes(before, now):
-    """The lines of the rows that differ, of tables by id; and the id of each such row's table."""
+    """Return the lines for the rows that differ, of tables by id, and the id of each such row's table."""
     lines, ids = b"", []
     for number in sorted(before):
         for key in sorted({**before[number], **now[number]}):
@@ -171,7 +171,7 @@ def changes(before, now):
 
 
 def attached_at(commands, texts):
-    """The attached triggers' ids before each command; and the ids of those on the event that readings make."""
+    """Return the attached triggers' ids before each command, and the ids of those on the event that readings make."""
     ids, at, made = [], [], set()
     for command, text in zip(commands, texts):
         at.append(list(ids))
@@ -186,7 +186,7 @@ def attached_at(commands, texts):
 
 
 def expected(histdesk, commands, traces):
-    """What a script must print, how many edits tell of rows, how many rows changed, and how many of those count what
+    """Return what a script must print, how many edits report rows, how many rows changed, and how many of those count what
     readings make."""
     texts = outputs(histdesk, commands, traces)
     attached, made = attached_at(commands, texts)
@@ -212,7 +212,7 @@ def expected(histdesk, commands, traces):
 
 
 def hold(words, script, traces, wanted, status):
-    """Holds what a program prints of a script, and how it ends."""
+    """Check what a program prints for a script, and how it ends."""
     ended, output, error = run(words, script, traces)
     if output != wanted:
         pairs = zip(output.splitlines(), wanted.splitlines())
@@ -230,7 +230,7 @@ def by_hand(histwatch, plain):
 
 
 def made_by(words, folder):
-    """The commands and traces of a script that a program writes."""
+    """Return the commands and traces of a script that a program writes."""
     os.mkdir(folder)
     subprocess.run([sys.executable, os.path.join(MODEL, words[0]), *words[1:], folder], check=True, stdout=subprocess.DEVNULL)
 
@@ -243,7 +243,8 @@ def made_by(words, folder):
 
 
 def by_chance(histdesk, histwatch, plain):
-    """How many edits told of rows, how many rows changed, and how many of those count what readings make."""
+    """Check random scripts, and return how many edits reported rows, how many rows changed, and how many of those count what
+    readings make."""
     scripts = [["random_script.py", "400", "600", "1"], ["crowded_script.py", "250", "2"]]
     # The plain board replays for each table, so its scripts are short.
     short = [["random_script.py", "400", "300", "5"], ["random_script.py", "300", "150", "8"]]

@@ -1,6 +1,6 @@
 #!/usr/bin/env bash
-# words.sh [HISTDESK [PLAINDESK [ASKAGAIN [HISTWATCH]]]]: the words that HISTDESK takes and those that it doesn't, and
-# files that it can't read. program.sh says more of these words.
+# words.sh [HISTDESK [PLAINDESK [ASKAGAIN [HISTWATCH]]]]: tests the arguments that HISTDESK takes and those that it doesn't,
+# and files that it can't read. program.sh says more about the arguments of this script.
 set -uo pipefail
 
 tests=$(dirname -- "$(dirname -- "$(realpath -- "${BASH_SOURCE[0]}")")")

@@ -1,17 +1,17 @@
 #!/usr/bin/env python3
-"""Holds the waits and the summary of a recording of this machine against what perf says of the same recording.
+"""Compares the waits and the summary of a recording of this machine with what perf says of the same recording.
 
     beside_perf.py [SECONDS]
 
-By hand, as root, with perf. It records the scheduler's events (of one second if none are given), lets `perf sched latency`
-tell of each task how many waits it had and how long the greatest was, and the package of the same events, turned by from-perf.
-perf counts from the sched_wakeup on, takes a task that left in state R+ for one that sleeps, has no wait of a task that was
-woken just before it slept, and has one of 0 us for a task of which it hasn't heard before it runs: for the comparison the text
-is made so, and what is left of the differences is printed.
+It is run by hand, as root, and needs perf. It records the scheduler's events, of one second if SECONDS isn't given. For each
+task, `perf sched latency` reports how many waits it had and how long the greatest was, and so does the package, from the same
+events, converted by from-perf. perf counts from the sched_wakeup on, takes a task that left in state R+ for one that sleeps,
+has no wait of a task that was woken just before it slept, and has one of 0 us for a task of which it hasn't heard before it
+runs. For the comparison the text is changed to fit this, and the differences that are left are printed.
 
 `perf sched timehist -s` says how often each task was switched from, and how long it ran. If a switch is missing, perf counts
 the time since the CPU's last switch for the task that the next one leaves, and the summary counts it for none: such tasks are
-compared by the count only. perf's stamps have nanoseconds, so a run may differ by a microsecond. The last lines say of how
+compared only by the count. perf's stamps have nanoseconds, so a run may differ by a microsecond. The last lines say for how
 many tasks the numbers are the same."""
 
 import collections
@@ -42,19 +42,19 @@ def told_by(*words):
 
 
 def by_perf(path):
-    """What perf tells of each task: its name, how many waits, and how many microseconds the greatest was."""
+    """Return what perf reports for each task: its name, how many waits it had, and the greatest in microseconds."""
     rows = map(ROW.fullmatch, told_by("perf", "sched", "latency", "-p", "-i", path).decode().split("\n"))
     return {int(row[2]): (row[1], int(row[3]), round(float(row[4]) * 1000)) for row in rows if row}
 
 
 def as_perf_counts(text):
-    """The text with the waits that perf counts."""
+    """Return the text, changed so that it has the waits that perf counts."""
     lines = [line for line in text.split(b"\n") if b": sched_waking:" not in line]
     return b"\n".join(lines).replace(b": sched_wakeup:", b": sched_waking:").replace(b" prev_state=R+ ", b" prev_state=P ")
 
 
 def unheard(text):
-    """The tasks that are first heard of as they run."""
+    """Return the tasks that are first heard of as they run."""
     heard, found = set(), set()
     for event in plain_waits.events_of(text):
         found |= {event.pid} - heard if event.event == "sched_switch" else set()
@@ -63,7 +63,7 @@ def unheard(text):
 
 
 def by_us(text):
-    """The same of the package: how many waits, and how many microseconds the greatest was."""
+    """Return what the package reports for each task: how many waits it had, and the greatest in microseconds."""
     waits = histdesk.waits(text)
     rows, late = {}, unheard(text)
     for row in waits.counts("task").by("pid").rows():
@@ -72,13 +72,13 @@ def by_us(text):
 
 
 def runs_by_perf(path):
-    """What perf tells of each task: its name, how often it was switched from, and how many microseconds it ran."""
+    """Return what perf reports for each task: its name, how often it was switched from, and how many microseconds it ran."""
     rows = map(RUN.fullmatch, told_by("perf", "sched", "timehist", "-s", "-i", path).decode().split("\n"))
     return {int(row[2]): (row[1].strip(), int(row[3]), round(float(row[4]) * 1000)) for row in rows if row}
 
 
 def left(text):
-    """How often each task was switched from, and the tasks that a CPU left without having gone to them."""
+    """Return how often each task was switched from, and the tasks that a CPU left without having switched to them."""
     running, counts, unknown = {}, collections.Counter(), set()
     for event in plain_waits.events_of(text):
         if event.event == "sched_switch":
@@ -90,7 +90,7 @@ def left(text):
 
 
 def hold_runs(path, text):
-    """Compares how often each task was switched from, and how long it ran."""
+    """Compare how often each task was switched from, and how long it ran."""
     theirs, (counts, unknown) = runs_by_perf(path), left(text)
     ours = {row.pid: row.run_time for row in histdesk.summary(text).tasks}
     same = 0

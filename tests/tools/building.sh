@@ -1,6 +1,6 @@
 #!/usr/bin/env bash
-# building.sh: what build/build proves, says and leaves, in a repository of five crates, with programs that stand for the kit's.
-# It prints what went wrong, and a last line with the counts.
+# building.sh: tests what build/build proves, says and leaves, in a repository of five crates, with programs that stand in for
+# the kit's. It prints what went wrong, and a last line with the counts.
 # shellcheck source-path=SCRIPTDIR disable=SC2016,SC2154,SC2317 # the programs' own $; what counts.sh assigns; what others call
 set -uo pipefail
 
@@ -16,8 +16,8 @@ printf '%s\n' 'ft_low:' 'ft_desk: ft_low' 'histdesk: ft_desk' 'histwatch: ft_des
 echo one >"$folder/KIT-ID"
 export STAND_IN=$folder PATH=$folder/bin:$PATH
 
-# What stands for the kit: the prover writes down which crates it is given and the processes that it is, and makes what it is
-# asked for. Where the file `slow` is, it doesn't end; of the crate that `faulty` names it makes nothing.
+# What stands in for the kit: the prover writes down which crates it is given, and makes what it is asked for. If the file
+# `slow` is there, it writes down its processes too and doesn't end; for the crate that `faulty` names it makes nothing.
 script rt 'echo stand-in'
 script rattle 'name=$3; echo "$name" >>"$STAND_IN/proved"' \
     'if [[ -e $STAND_IN/slow ]]; then sleep 1000 & echo "$$ $!" >>"$STAND_IN/processes"; wait; fi' \
@@ -28,8 +28,8 @@ cp -- "$folder/bin/rattle-link" "$folder/toolchain/bin/ld.lld"
 script llvm-ar 'touch -- "$2"'
 mv -- "$folder/bin/llvm-ar" "$folder/toolchain/bin"
 
-# builds WHAT STATUS ERROR CRATE..: a build's status and what it says, and that it proved just these. It builds all, or what is
-# in `asked`.
+# builds WHAT STATUS ERROR CRATE..: checks a build's status and what it says, and that it proved exactly these crates. It builds
+# all, or what is in `asked`.
 asked=()
 builds() {
     : >"$folder/proved"
@@ -38,7 +38,7 @@ builds() {
     prints "$1, proved" "$(printf '%s\n' "${@:4}")"
 }
 
-# Whether none of the prover's processes runs any more, now or some seconds later.
+# Succeeds if none of the prover's processes runs any more, now or some seconds later.
 are_ended() {
     local processes
     processes=$(tr -s ' \n' ',' <"$folder/processes")
@@ -49,7 +49,7 @@ are_ended() {
     return 1
 }
 
-# eventually WHAT COMMAND..: the command succeeds now or some seconds later.
+# eventually WHAT COMMAND..: checks that the command succeeds, now or some seconds later.
 eventually() {
     for ((try = 0; try < 200; try++)); do
         if "${@:2}"; then
@@ -65,21 +65,22 @@ eventually() {
 begin() {
     : >"$folder/processes"
     set -m
-    # Whoever runs this may have it ignore some.
+    # Whoever runs this script may have it ignore some signals.
     env --default-signal "$root/build/build" 2>/dev/null &
     build=$!
     set +m
     eventually "a build begins" test -s "$folder/processes"
 }
 
-# are STATE: whether the build and the prover's processes are in a state that ps shows.
+# are STATE: succeeds if ps shows the build and the prover's processes in this state.
 are() {
     local processes
     processes=$build,$(tr -s ' \n' ',' <"$folder/processes")
     [[ $(ps -o stat= -p "${processes%,}" | cut -c 1 | sort -u) == "$1" ]]
 }
 
-# ends SIGNAL: a build that gets it ends by it, with all that it started, and leaves no folder of its own.
+# ends SIGNAL: checks that a build that gets the signal is ended by it, with all that it started, and leaves no folder of its
+# own.
 ends() {
     local status
     begin
@@ -97,7 +98,7 @@ building='build: building histdesk, histwatch and the library'
 all=(ft_c ft_desk ft_low histdesk histwatch)
 above=(ft_c ft_desk histdesk histwatch)
 
-# A program needs nothing but the crates below it, and the rest is built when it is asked for.
+# A program needs only the crates below it, and the rest is built when it is asked for.
 asked=(histdesk)
 builds first 0 "build: building histdesk, all 3 crates, which takes about [1-9]* minutes; see $left/log"$'\n*' ft_desk ft_low histdesk
 head -n 2 -- "$folder/proved" >"$folder/out"
@@ -106,7 +107,7 @@ builds nothing 0 ""
 asked=()
 builds "the rest" 0 "$building, 2 of 5 crates; see *" ft_c histwatch
 builds "nothing is left" 0 ""
-# What is compiled of C, if a compiler and the headers are there; a fault in it keeps nothing else from being built.
+# What is compiled from C, if a compiler and the headers are there: a fault in it keeps nothing else from being built.
 compiled() {
     gives "$1" 0 "" ls -- "$root/helpers/out/$1"
     echo int >>"$root/helpers/$2"
@@ -148,7 +149,7 @@ ends TERM
 ends INT
 ends HUP
 
-# Ctrl-Z holds all.
+# Ctrl-Z stops the build with all its processes.
 begin
 kill -s TSTP "$build"
 eventually "a build is held" are T
@@ -170,7 +171,7 @@ else
 fi
 has "a second build" "$folder/second" 'build: waits for another build to end' 'build: building histdesk, all 3 crates, .*'
 eventually "it is removed" test -z "$(find "$left" -name 'build.*')"
-# The longest chain goes first.
+# The longest chain of crates is built first.
 : >"$folder/proved"
 touch -- "$root/crates.txt"
 gives "one processor" 0 "*" taskset -c "$(taskset -cp $$ | sed 's/.*: \([0-9]*\).*/\1/')" "$root/build/build"
@@ -180,7 +181,7 @@ rm -- "$folder/bin/rt"
 touch -- "$root/crates.txt"
 PATH=/usr/bin:/bin gives "no kit" 2 "build: needs the Rattle kit's rt on the PATH to build" "$root/build/build"
 
-# What the tests need: a folder of few programs stands for a machine, and a script for its apt-get, which has no cpio.
+# What the tests need: a folder with few programs stands in for a machine, and a script for its apt-get, which has no cpio.
 mkdir -- "$folder/few"
 ln -s -- "$(type -P bash)" "$(type -P timeout)" "$folder/few"
 script apt-get 'case $* in' '*" -s install cpio") exit 1 ;;' '*" install q"*)' \

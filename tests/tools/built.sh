@@ -1,5 +1,5 @@
 # shellcheck shell=bash disable=SC2034 # what its readers use
-# What install.sh and packages.sh test, read by them with their arguments, HISTDESK HISTWATCH LIBRARY: build/install and
+# What install.sh and packages.sh test. They read this with their arguments, HISTDESK HISTWATCH LIBRARY: build/install and
 # build/package take these programs and this library from BUILT_*.
 
 tests=$(dirname -- "$(dirname -- "$(realpath -- "${BASH_SOURCE[0]}")")")

@@ -7,7 +7,7 @@ passed, failed = 0, 0
 
 
 def check(is_good: Any, what: str) -> None:
-    """Counts a thing that has to hold; what it is, if it doesn't."""
+    """Count a thing that has to hold, and print what it is if it doesn't."""
     global passed, failed
     if is_good:
         passed += 1
@@ -17,6 +17,6 @@ def check(is_good: Any, what: str) -> None:
 
 
 def finish() -> NoReturn:
-    """Prints how many of how many things hold, and ends the program."""
+    """Print how many of how many things hold, and end the program."""
     print(f"{passed} of {passed + failed} things hold")
     sys.exit(failed > 0)

@@ -1,7 +1,8 @@
 # shellcheck shell=bash disable=SC2154 # what counts.sh assigns
-# What the scripts of this folder test with, read by them after counts.sh: checks, programs that stand for others. HISTDESK is the desk.
+# What the scripts of this folder test with: checks, and programs that stand in for others. They read this after counts.sh.
+# HISTDESK is the desk.
 
-# gives WHAT STATUS ERROR COMMAND..: the command's status, and a pattern of all that it says on standard error.
+# gives WHAT STATUS ERROR COMMAND..: checks the command's status, and that a pattern matches all that it says on standard error.
 gives() {
     local what=$1 want=$2 error=$3 status errors
     shift 3
@@ -16,7 +17,7 @@ gives() {
     fi
 }
 
-# prints WHAT TEXT: the last command's output is that text and an end of line, or nothing.
+# prints WHAT TEXT: checks that the last command printed that text and an end of line, or nothing if the text is empty.
 prints() {
     if [[ $(<"$folder/out") == "$2" ]]; then
         pass
@@ -25,7 +26,7 @@ prints() {
     fi
 }
 
-# has WHAT FILE PATTERN..: among the lines of the file is one of each.
+# has WHAT FILE PATTERN..: checks that each pattern matches a line of the file.
 has() {
     local pattern
     for pattern in "${@:3}"; do
@@ -37,14 +38,14 @@ has() {
     done
 }
 
-# script NAME LINE..: a program of that name in bash.
+# script NAME LINE..: makes a program of that name from these lines of bash.
 script() {
     printf '%s\n' '#!/usr/bin/env bash' "${@:2}" >"$folder/bin/$1"
     chmod +x "$folder/bin/$1"
 }
 
-# loads WHAT STATUS ERROR TEXT COMMAND..: the command's status and standard error; and the desk, which is given its
-# output, lists the lanes of CPU 0 to 3 as that text.
+# loads WHAT STATUS ERROR TEXT COMMAND..: checks the command's status and standard error, and that the desk, given its output,
+# lists the lanes of CPUs 0 to 3 as that text.
 loads() {
     gives "${@:1:3}" "${@:5}"
     mv -- "$folder/out" "$folder/trace"

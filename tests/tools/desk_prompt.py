@@ -1,12 +1,12 @@
 #!/usr/bin/env python3
-"""Holds that tools/desk answers as the program does, from a pipe and on a terminal, and is a prompt for people.
+"""Checks that tools/desk answers as the program does, from a pipe and on a terminal, and is a prompt for people.
 
     desk_prompt.py DESK ROW... > WHAT WENT WRONG
 
-From a pipe, each ROW's script (a folder as those of tests/rows) gives the row's whole output and its status, and on standard
-error as many explanations as lines are refused. On a pseudo-terminal, the rows whose scripts can be typed do so too, line by
-line. What the prompt does beside that, each function below says; what it should print is written by hand. The last line says
-how many things hold. The library is found as the package finds it.
+Each ROW is a folder like those of tests/rows. From a pipe, its script gives the row's whole output and its status, and on
+standard error as many explanations as lines are refused. On a pseudo-terminal, the scripts that can be typed give the row's
+whole output too, line by line. Each function below says what else the prompt does; what it should print is written by hand.
+The last line says how many things hold. The library is found as the package finds it.
 """
 
 import fcntl
@@ -31,9 +31,9 @@ DESK, ROWS = [sys.executable, os.path.realpath(sys.argv[1])], [os.path.realpath(
 EXAMPLES = os.path.join(HERE, "..", "..", "examples")
 WAKEUPS = os.path.join(EXAMPLES, "wakeups.trace")
 PROMPT = b"desk> "
-# A run that takes more seconds is ended, and fails.
+# A run that takes more seconds than this is ended, and fails.
 LIMIT = 60
-# Scripts of more lines are typed no more, nor those that hold other characters than one types.
+# Scripts of more lines than this are not typed, nor are those with characters that nobody types.
 MOST_TYPED = 40
 SAVER = "attach sched_waking hist:keys=pid:ts0=common_timestamp.usecs"
 READER = "attach sched_switch hist:keys=next_pid:vals=$lat:lat=common_timestamp.usecs-$ts0"
@@ -44,7 +44,7 @@ a-1 [000] 3.000000: sched_switch: prev_comm=a prev_pid=1 prev_prio=120 prev_stat
 """
 
 
-# A line up to the word that has begun, that word, and what it may become: with two traces, CPUs 0 and 3, and trigger 1 that
+# A line up to the word that has begun, that word, and what it may become, with two traces, CPUs 0 and 3, and trigger 1, which
 # saves ts0.
 COMPLETED = [
     ("", "hi", ["hist "]),
@@ -80,7 +80,7 @@ COMPLETED = [
 
 
 class Wrong(Exception):
-    """Something doesn't hold: what."""
+    """What doesn't hold."""
 
 
 def same(what, got, expected):
@@ -97,7 +97,7 @@ def has(what, got, expected):
 
 
 def run_from_pipe(script, *words, folder=None):
-    """What desk prints of a script that it is fed, what it says beside that, and its status."""
+    """Return what desk prints for a script from a pipe, what it says on standard error, and its status."""
     data = script if isinstance(script, bytes) else "".join(f"{line}\n" for line in script).encode()
     ran = subprocess.run([*DESK, *words], input=data, capture_output=True, timeout=LIMIT, cwd=folder)
     return ran.stdout, ran.stderr.decode("utf-8", "surrogateescape"), ran.returncode
@@ -126,7 +126,7 @@ def row_from_a_pipe(row, folder):
 
 
 class Terminal:
-    """A desk on a pseudo-terminal, to which lines are typed."""
+    """A desk on a pseudo-terminal, at which lines are typed."""
 
     def __init__(self, *words, rows=1000, folder=None, **variables):
         self.master, slave = pty.openpty()
@@ -142,7 +142,7 @@ class Terminal:
         self.screen()
 
     def screen(self, until=PROMPT, again=b""):
-        """What the terminal shows up to the next prompt; while it shows nothing, keys are typed again."""
+        """Return what the terminal shows up to the next prompt; while it shows nothing, type the keys of `again`."""
         text, end = b"", time.monotonic() + LIMIT
         while not text.endswith(until):
             if not select.select([self.master], [], [], 1)[0]:
@@ -157,17 +157,18 @@ class Terminal:
         return text.replace(b"\r\n", b"\n")
 
     def types(self, text):
-        """Keys, without a look at what they do."""
+        """Type keys, without a look at what they do."""
         os.write(self.master, text if isinstance(text, bytes) else text.encode())
 
     def asks(self, line):
-        """What a line prints on the terminal."""
+        """Type a line, and return what it prints on the terminal."""
         self.types(line + ("\n" if isinstance(line, str) else b"\n"))
         # The line is shown as it is typed.
         return self.screen().partition(b"\n")[2].removesuffix(PROMPT)
 
     def interrupted(self):
-        """Ctrl-C, and what the terminal shows after it. Of one that comes just before it waits, Python learns by the next."""
+        """Type Ctrl-C, and return what the terminal shows after it. If it comes just before Python waits for input, Python
+        notices it only when the next one comes."""
         self.types(b"\x03")
         return self.screen(again=b"\x03")
 
@@ -179,7 +180,7 @@ class Terminal:
         return text.decode("utf-8", "surrogateescape")
 
     def ends(self, key=b"\x04"):
-        """Its status, after Ctrl-D."""
+        """Type a key, which is Ctrl-D if none is given, and return the status with which the desk ends."""
         self.types(key)
         status = self.process.wait(LIMIT)
         os.close(self.master)
@@ -188,7 +189,7 @@ class Terminal:
 
 
 def lines_to_type(row):
-    """The lines of a row's script, or None if nobody types them."""
+    """Return the lines of a row's script, or None if nobody types them."""
     lines = content(row, "script").split(b"\n")
     good = all(re.fullmatch(rb"[ -~]{0,400}", line) for line in lines) and re.fullmatch(rb"[ -~\n]*", content(row, "expected"))
     return lines[: -1 if not lines[-1] else None] if good and len(lines) <= MOST_TYPED else None
@@ -231,7 +232,7 @@ def reports_losses(folder):
 
 
 def explains_refusals(folder):
-    """Each refusal is explained, with a caret under the place, by what is typed and not by numbers of lines."""
+    """Each refusal is explained, with a caret under the place; it names what was typed, and no numbers of lines."""
     desk = Terminal(WAKEUPS, folder=folder)
     desk.remarks()
     same("refused", desk.asks("attach sched_waking hist:keys=comm,pids"), b"refused 8: fault 3\n")
@@ -317,7 +318,7 @@ def takes_a_part(folder):
 
 
 def answers_waits(folder):
-    """`waits` and `why` answer of what is held now: a task waited two seconds, and without its waking none did."""
+    """`waits` and `why` answer for what is held now: a task waited two seconds, and without its waking no task did."""
     with open(os.path.join(folder, "held.trace"), "w") as file:
         file.write(LOST.replace("CPU:0 [LOST 7 EVENTS]\n", ""))
     script = ["load @1", "waits", "why 0:2", "strike 0:1", "waits", "why 0:99", "cpus"]
@@ -361,7 +362,7 @@ def completes(folder):
 
 
 def opened_by_both(fifo):
-    """The end of a pipe to which is written, once somebody reads it."""
+    """Return the end of a pipe to which one writes, once somebody reads the pipe."""
     end = time.monotonic() + LIMIT
     while True:
         try:
@@ -373,7 +374,7 @@ def opened_by_both(fifo):
 
 
 def knows_completions(_):
-    """What Tab may put after the beginnings of words."""
+    """Tab completes the beginnings of words as COMPLETED says."""
     sys.path.insert(0, os.path.join(os.path.dirname(DESK[1]), os.pardir, "python"))
     from histdesk.cli.completion import Names, completions
 
@@ -384,7 +385,7 @@ def knows_completions(_):
 
 
 def goes_on(folder):
-    """Ctrl-C drops the line that is typed, and ends a load that waits for its file, not the desk."""
+    """Ctrl-C drops the line that is being typed, and ends a load that waits for its file; it doesn't end the desk."""
     fifo = os.path.join(folder, "fifo")
     os.mkfifo(fifo)
     desk = Terminal(folder=folder)
@@ -404,7 +405,7 @@ def goes_on(folder):
 
 
 def pages_long_answers(folder):
-    """A table longer than the screen goes to PAGER; if that is no program, the terminal shows both ends of it."""
+    """A table longer than the screen goes to PAGER; if that is no program, the terminal shows both ends of the table."""
     inserts = [f"insert a-1 [000] 1.000000: sched_waking: comm=x pid={pid} prio=1 target_cpu=000" for pid in range(100)]
     pager = os.path.join(folder, "pager")
     with open(pager, "w") as file:
@@ -426,7 +427,7 @@ def pages_long_answers(folder):
 
 
 def hides_what_steers(folder):
-    """A task's name doesn't steer the terminal."""
+    """A task's name can't control the terminal."""
     with open(os.path.join(folder, "steers.trace"), "wb") as file:
         file.write(b"a\x1b[2J\xff-1 [000] 1.000000: sched_waking: comm=x\x07 pid=2 prio=1 target_cpu=000\n")
     desk = Terminal(folder=folder)
@@ -437,7 +438,8 @@ def hides_what_steers(folder):
 
 
 def ends_as_others(folder):
-    """A closed pipe ends it quietly by the signal, a full disk by a line, and a trace that isn't there before anything."""
+    """The desk ends as other programs do: quietly by the signal if its pipe is closed, with a line if the disk is full, and
+    before it does anything if a trace isn't there."""
     script = "\n".join(["load @1"] + ["list 0"] * 20000)
     with open(os.path.join(folder, "many"), "w") as file:
         file.write(script)
@@ -461,7 +463,7 @@ OTHERS = [
 
 
 def holds(name, test, *words):
-    """Whether a test holds; says where it doesn't."""
+    """Return whether a test holds, and print what doesn't."""
     with tempfile.TemporaryDirectory() as folder:
         try:
             test(*words, folder)
@@ -472,7 +474,7 @@ def holds(name, test, *words):
 
 
 def main():
-    # Who runs this in the background may have interrupts ignored, and the desk would too.
+    # Whoever runs this in the background may have it ignore interrupts, and the desk would ignore them too.
     signal.signal(signal.SIGINT, signal.default_int_handler)
     tests = [(f"{os.path.basename(row)} from a pipe", row_from_a_pipe, row) for row in ROWS]
     typed = [row for row in ROWS if lines_to_type(row) is not None]

@@ -1,13 +1,13 @@
 #!/usr/bin/env python3
-"""Holds that `explain` tells each refusal of the rows at its place.
+"""Checks that `explain` explains each refusal of the rows at its place.
 
     explain_rows.py [--watched] EXPLAIN ROW... > WHAT WENT WRONG
 
-The plain model, asked command by command, says which line of the script each output belongs to. After each refused
-line of it, and nowhere else, stands an explanation: with that line's number and, if the refusal has a place, a caret
-under that byte of the command; of a refused trace with its line. With --watched the program is histwatch, and after
-each accepted insert and strike stand rows that it changed and how many they are. The last line says how many rows hold.
-HISTDESK names the program, as for explain.
+The plain model, asked command by command, says which line of the script each output belongs to. An explanation stands
+after each refused line of it, and nowhere else. It has that line's number and, if the refusal has a place, a caret
+under that byte of the command; for a refused trace it has the trace's line. With --watched the program is histwatch, and
+each accepted insert and strike is followed by the rows that it changed and by how many they are. The last line says how
+many rows hold. HISTDESK names the program, as for explain.
 """
 
 import os
@@ -18,13 +18,13 @@ import sys
 sys.dont_write_bytecode = True
 words = sys.argv[1:]
 is_watched = words[:1] == ["--watched"]
-# The model is a program, which runs as it is taken in: here with no commands.
+# The model is a program, which runs when it is imported: here with no commands.
 sys.argv[1:] = [os.devnull]
 sys.path.insert(0, os.path.join(os.path.dirname(os.path.realpath(__file__)), "..", "model"))
 import model
 
 
-# So many columns have the lines, since they aren't printed on a terminal.
+# How many columns the lines have at most, since they aren't printed on a terminal.
 WIDTH = 80
 
 
@@ -33,7 +33,7 @@ def escaped(text):
 
 
 def placed_text(line, refused):
-    """The text in which a refusal's place counts, which is always the end of the command."""
+    """Return the text in which a refusal's place counts, which is always the end of the command."""
     text = line.strip(" ")
     for _ in range(2 if text.startswith("attach") else 3):
         text = model.split(text)[1]
@@ -43,7 +43,7 @@ def placed_text(line, refused):
 
 
 def answers(script, traces):
-    """For each command that prints something: its line number, the line and what it prints."""
+    """Yield the line number, the line and the output of each command that prints something."""
     desk = model.Desk()
     for number, line in enumerate(model.lines_of(script), 1):
         try:
@@ -55,7 +55,8 @@ def answers(script, traces):
 
 
 def shows(line, front, text):
-    """Whether a line shows a text after `front`: whole, and perhaps explained, or if it is long a part of it between dots."""
+    """Return whether a line shows a text after `front`: whole, perhaps with an explanation after it, or, if the text is long,
+    a part of it between dots."""
     if not line.startswith(front) or len(line) > WIDTH:
         return False
     line = line[len(front) :]
@@ -65,14 +66,15 @@ def shows(line, front, text):
 
 
 def is_tail(shown, tail, command):
-    """Whether what a line shows from a caret on is the end of a command, which may be cut, or be explained after it."""
+    """Return whether what a line shows from a caret on is the end of a command, which may be cut off, or have an explanation
+    after it."""
     if command is not None:
         return shown.startswith(tail + ": ")
     return shown == tail or shown.endswith("..") and tail.startswith(shown.removesuffix(".."))
 
 
 def behind_rows(told, at):
-    """Where the rows that changed end, with the line after them that says how many they are; None if it does not."""
+    """Return where the rows that changed end, with the line after them that says how many they are; None if it doesn't."""
     start = at
     while told[at : at + 1] and re.match("[-+] [0-9]+ { ", told[at]):
         at += 1
@@ -82,7 +84,7 @@ def behind_rows(told, at):
 
 
 def first_wrong(row, told):
-    """What is wrong first in what explain told of a row, or None."""
+    """Return the first thing that is wrong in what explain printed for a row, or None."""
     traces = [os.path.join(row, f"trace{number}") for number in range(1, 10)]
     lines_of_traces = [model.lines_of(path) for path in traces if os.path.exists(path)]
     at = 0

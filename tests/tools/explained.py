@@ -1,5 +1,5 @@
 #!/usr/bin/env python3
-"""Holds that `explain` tells each refusal and each fault in the library's words, with what the text at hand gives it.
+"""Checks that `explain` explains each refusal and each fault in the library's words, with a hint from the text at hand.
 
     explained.py EXPLAIN FOLDER > WHAT WENT WRONG
 
@@ -22,7 +22,7 @@ from histdesk import refusal_words
 WAKE, TURN, MADE = "attach sched_waking hist:", "attach sched_switch hist:", "attach wakeup_latency hist:"
 FIRST = ["load @1", "# one saver, one reader, one without", WAKE + "keys=pid:ts0=common_timestamp.usecs", ""]
 FIRST += [TURN + "keys=next_pid:lat=common_timestamp.usecs-$ts0", "   ", WAKE + "keys=comm"]
-# After these histwatch prints rows.
+# After each of these, histwatch prints rows.
 FIRST += ["insert a-1 [003] 1.000000: sched_waking: comm=x pid=7 prio=1 target_cpu=000", "strike 3:1"]
 TRACES = {"good.trace": "a-1 [001] 1.000000:\n", "bad.trace": "# tracer: nop\na-1 [001] 1.000000:\nb-2 [001] 1.00\n"}
 # How the recordings of perf and of trace-cmd begin, and what gzip packs.
@@ -194,9 +194,9 @@ TRIGGERS = [
 ]
 
 
-# So many columns have the lines, since they aren't printed on a terminal.
+# How many columns the lines have at most, since they aren't printed on a terminal.
 WIDTH = 80
-# What no command here is refused for: out of memory, a full desk, a 65th trigger.
+# Refusals that no command here gets: out of memory, a full desk, a 65th trigger.
 UNMET = {"1", "7", "15", "8: fault 1", "8: fault 11 filter 1", "9: filter 1"}
 
 
@@ -210,18 +210,19 @@ def all_rows():
 
 
 def words_of(refusal):
-    """The words of a refusal; only those of its fault, if that is a text's."""
+    """Return the words of a refusal; of a refused line, trigger or filter, only those of its fault."""
     words = refusal_words(f"refused {refusal}")
     return words.partition(": ")[2] if re.match("[389]:", refusal) else words
 
 
 def kind_of(refusal):
-    """A refusal without its line, CPU, trigger and place."""
+    """Return a refusal without the numbers of its line, CPU, trigger and place."""
     return re.sub("(line|cpu|trigger|at) [0-9]+", r"\1", refusal)
 
 
 def untold(rows):
-    """The kinds of refusals that the library has words for and no row has, or that a row has and the library doesn't tell."""
+    """Return the kinds of refusals that the library has words for and no row has, or that a row has and the library has no
+    words for."""
     faults = ["line 1 fault", "fault", "filter", "fault 11 filter"]
     numbered = [f": {fault} {number}{at}" for fault in faults for number in range(20) for at in ("", " at 0")]
     known = set()
@@ -240,12 +241,12 @@ def escaped(text):
 
 
 def is_part(line, text):
-    """Whether a line shows a text, or a part of it between dots."""
+    """Return whether a line shows a text, or a part of it between dots."""
     return line == text or len(text) > WIDTH - 20 and line.removeprefix("..").removesuffix("..") in text
 
 
 def wrong_with(number, row, lines):
-    """What is wrong with the lines that explain a row, or None."""
+    """Return what is wrong with the lines that explain a row, or None."""
     command, refusal, hint, rest = row
     if lines[:1] != [f"refused {refusal}"]:
         return f"{lines[:1]}"

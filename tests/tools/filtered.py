@@ -4,8 +4,8 @@
     filtered.py TOOLS
 
 TOOLS is the folder of the tools; helpers/perf_filter.c is compiled here. The events have short structs, as those of an older
-perf, raw bytes that end early or are of another kind, numbers at their limits, odd names, and tasks that are gone. What isn't
-here is not tried, and a line says so. The last line says how many of how many things hold."""
+perf, raw bytes that end early or are of another kind, numbers at their limits, odd names, and tasks that are gone. What this
+machine lacks is not tried, and a line says so. The last line says how many of how many things hold."""
 
 import ast
 import ctypes
@@ -29,7 +29,7 @@ from histdesk.convert import blocks as block_format
 
 WORDS = [b"sched_waking:7:36:0:8,24,28,32,-1", b"sched_switch:9:64:8:8,24,28,32,40,56,60", b"states:255:256:1=S,2=D"]
 WAKING, SWITCH = b"sched:sched_waking", b"sched:sched_switch"
-# perf prints so of an event that is left to it.
+# What perf prints for an event that is left to it.
 PRINTED = b"perf's own line\n"
 
 
@@ -46,7 +46,7 @@ class Sample(ctypes.Structure):
 
 
 class Location(ctypes.Structure):
-    """perf's struct of where an event was, of which the filter wants the task's name."""
+    """perf's struct of where an event was, from which the filter takes the task's name."""
 
     _fields_ = [("size", ctypes.c_uint32), ("symoff", ctypes.c_uint32), ("more", ctypes.c_uint64 * 5)]
     _fields_ += [("bits", ctypes.c_uint32), ("buildid_size", ctypes.c_uint32), ("buildid", ctypes.c_char_p)]
@@ -65,7 +65,7 @@ Event = Dict[str, Any]
 
 
 def event(raw: bytes, name: bytes = WAKING, **more: Any) -> Event:
-    """An event; `more` says how it differs from a good one, `task` and `place` what perf tells of its task."""
+    """Return an event; `more` says how it differs from a good one, `task` and `place` what perf tells of its task."""
     return {
         "raw": raw,
         "event": name,
@@ -79,7 +79,7 @@ def event(raw: bytes, name: bytes = WAKING, **more: Any) -> Event:
 
 
 def run_child(path: str, words: List[bytes], events: List[Event]) -> None:
-    """Calls the filter as perf does; each answer is written to standard error."""
+    """Call the filter as perf does, and write each answer to standard error."""
     library = ctypes.CDLL(path)
     functions = (ctypes.c_void_p * 128).in_dll(library, "perf_dlfilter_fns")
     library_c = ctypes.CDLL(None)
@@ -110,7 +110,7 @@ def run_child(path: str, words: List[bytes], events: List[Event]) -> None:
 
 
 def filtered(path: str, words: List[bytes], events: List[Event]) -> Tuple[List[int], List[Tuple[bytes, bytes]]]:
-    """What the filter answers to its start, to each event and to its end; and the blocks that it writes."""
+    """Return what the filter answers at its start, for each event and at its end, and the blocks that it writes."""
     ran = subprocess.run(
         [sys.executable, __file__, TOOLS, path], input=repr((words, events)).encode(), capture_output=True, timeout=100
     )
@@ -128,7 +128,7 @@ def line(fields: bytes, task: bytes = b"t-3", cpu: int = 2, name: bytes = b"sche
 
 WOKEN = b"comm=w pid=7 prio=120 target_cpu=001"
 LEFT = b"prev_comm=p prev_pid=5 prev_prio=120 prev_state=%s ==> next_comm=n next_pid=6 next_prio=100"
-# Each event, and the line that is made of it; none if it is left to perf.
+# Events, each with the line that the filter makes of it.
 GOOD = [
     (event(waking()), line(WOKEN)),
     (event(switch(), SWITCH), line(LEFT % b"S", name=b"sched_switch")),
@@ -170,7 +170,7 @@ OTHER = [
 
 
 def check_events(path: str) -> None:
-    """Good events are turned and compared, others are left to perf."""
+    """Check that good events are converted and compared, and that others are left to perf."""
     for one, wanted in GOOD:
         answers, blocks = filtered(path, WORDS, [one])
         found = [text for what, text in blocks if what == b"A"]
@@ -184,8 +184,8 @@ def check_events(path: str) -> None:
 
 
 def check_stream(path: str) -> None:
-    """The first events are compared, then one of many; what is left to perf stands in its place; a task that is gone is that to
-    which its CPU has switched; and if most events are left to perf, all are for a while."""
+    """Check that the first events are compared, and then one of many; that what is left to perf stands in its place; that a
+    task that is gone is the one to which its CPU has switched; and that all events are left to perf for a while if most are."""
     many = [event(waking())] * 4200
     answers, blocks = filtered(path, WORDS, many)
     compared = [at for at, answer in enumerate(answers[1:-1]) if answer == 0]
@@ -202,7 +202,7 @@ def check_stream(path: str) -> None:
     check(sum(text.count(PRINTED) for what, text in blocks if what == b"T") == answers[1:-1].count(0), "perf's lines are lost")
 
 
-# The filter refuses such words.
+# Arguments that the filter refuses.
 BAD = [b"", b"x", b"other:1", b"states:1", b"states:1:2:3", b"states:1:2:1=toolongname", b"states:1:2:" + b"1=S," * 30]
 BAD += [b"sched_waking:7", b"sched_waking:7:36:0", b"sched_waking:7:36:0:8,24,28", b"sched_waking:7:36:0:8,24,28,32,-1,5"]
 BAD += [

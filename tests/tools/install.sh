@@ -1,13 +1,13 @@
 #!/usr/bin/env bash
 # install.sh HISTDESK HISTWATCH LIBRARY: puts these programs, and this libhistdesk.so.0 with the libhistdesk.a beside it,
-# below empty prefixes by build/install and build/package, and uses what stands there as one does who has neither the
+# below empty prefixes by build/install and build/package, and uses what stands there like somebody who has neither the
 # repository nor the Rattle kit. It prints what went wrong, and a last line with the counts.
 # shellcheck disable=SC2154 # what counts.sh assigns
 set -uo pipefail
 
 . "$(dirname -- "$(realpath -- "${BASH_SOURCE[0]}")")/built.sh" "$@"
 
-# below PREFIX: what is used next is installed there. "${alone[@]}" COMMAND.. has this, and what the system has.
+# below PREFIX: what is used next is installed there. "${alone[@]}" COMMAND.. runs with only this and what the system has.
 below() {
     prefix=$1
     alone=(env -i "PATH=$prefix/bin:/usr/bin:/bin" "PYTHONPATH=$prefix/lib/python3/dist-packages"
@@ -24,7 +24,7 @@ with open("two-wakings.trace", "rb") as trace:
     print(desk.load(trace), desk.attach("sched_waking", "hist:keys=pid").totals())
 END_OF_PYTHON
 
-# The programs and the tools, in a folder with nothing but examples.
+# The programs and the tools, in a folder with only examples.
 used_programs() {
     cp -- "$examples"/*.{script,trace} "$work"
     printf 'hits 1\n' >"$work/bad.script"
@@ -72,7 +72,7 @@ woken,10,263,26.3,7,12,204,204,6012001581,0,11,kworker/0:2,7105,0"
     prints "$1, export" $'prio,hitcount\n19,3\n120,8'
 }
 
-# The library: compiled by pkg-config's words, with the shared library and with the static one.
+# The library: programs are compiled with the flags of pkg-config, with the shared library and with the static one.
 used_library() {
     local flags
     flags=$("${alone[@]}" pkg-config --cflags --libs histdesk)
@@ -92,7 +92,7 @@ used_library() {
     prints "$1, Python" "2 Totals(hits=2, entries=1, dropped=0)"
 }
 
-# The man pages: of each program and of the library, without a warning, and their examples print what they show.
+# The man pages: they are read without a warning, and each program has one.
 used_pages() {
     local page program
     for page in "$prefix"/share/man/man?/*; do
@@ -103,7 +103,7 @@ used_pages() {
     done
 }
 
-# The documents: no link of them is broken, and what examples and header are linked for is there.
+# The documents: none of their links is broken, all files of docs are there, and LIBRARY.md links to an example and the header.
 used_documents() {
     local doc=$prefix/share/doc/histdesk page
     holds "$tests/documents/pages.py" --links "$doc"/*.md "$doc"/*/*.md
@@ -113,7 +113,7 @@ used_documents() {
     has "$1, links" "$doc/LIBRARY.md" '.*](examples/c/waits\.c).*' '.*](\.\./\.\./\.\./include/histdesk\.h).*'
 }
 
-# used WHAT: all that stands below $prefix.
+# used WHAT: uses all that stands below $prefix.
 used() {
     work=$(mktemp -d -- "$folder/work.XXXXXX")
     cd -- "$work" || exit
@@ -128,7 +128,7 @@ used() {
         "$(git -C "$root" rev-parse HEAD)"
 }
 
-# installed WHAT WORD..: build/install with these words ends well, and says nothing.
+# installed WHAT WORD..: checks that build/install with these arguments succeeds, and prints nothing.
 installed() {
     gives "$1" 0 "" "$build/install" "${@:2}"
     prints "$1" ""
@@ -150,7 +150,7 @@ installed install "$prefix"
 used install
 PATH=$prefix/bin:$PATH holds "$tests/documents/man_examples.py" "$examples" "$root"/man/*.[17]
 gives "pages without warnings" 0 "" mandoc -Tlint -W warning "$root"/man/*.[1-8]
-# Once more, in place of what stands there; then what another has put there stays.
+# It is installed again, over what stands there; then uninstalling leaves what somebody else has put there.
 echo mine >"$prefix/bin/other"
 rm -- "$prefix/bin/histwatch"
 installed "install again" "$prefix"
@@ -159,7 +159,7 @@ installed uninstall --uninstall "$prefix"
 same uninstall "$(cd -- "$prefix" && find . | sort | tr '\n' ' ')" '. ./bin ./bin/other '
 rm -r -- "$prefix"
 
-# The whole may be moved, and a program's script hands large pages on.
+# The whole prefix may be moved, and the script of a program adds large pages to the tunables that it passes on.
 installed "to be moved" "$folder/before"
 below "$folder/moved"
 mv -- "$folder/before" "$prefix"
@@ -182,7 +182,7 @@ below "$folder/root/usr"
 used DESTDIR
 DESTDIR=$folder/root installed "DESTDIR --uninstall" --uninstall /usr
 same "DESTDIR --uninstall" "$(find "$folder/root/usr")" "$folder/root/usr"
-# Where the system's Python looks below /usr/local.
+# Below /usr/local, the package is where the system's Python looks.
 DESTDIR=$folder/root installed "below /usr/local" /usr/local
 package=$(find "$folder/root/usr/local" -path '*/histdesk/__init__.py')
 package=${package#"$folder/root"}
@@ -202,7 +202,7 @@ gives tar 0 "" tar -C "$folder" -xf "$folder/packages/histdesk-$version-linux-x8
 below "$folder/histdesk-$version-linux-x86_64"
 used tarball
 
-# ---- Words and files that are wrong.
+# ---- Arguments and files that are wrong.
 
 gives "install --help" 0 "" "$build/install" --help
 gives "install's words" 2 "install: no such option: --what; --help says more" "$build/install" --what

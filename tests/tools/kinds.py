@@ -1,11 +1,11 @@
 #!/usr/bin/env python3
-"""Shows that the launchers (tools/words) and the Python package (histdesk._file_kind) tell kinds of files apart alike.
+"""Checks that the launchers (tools/words) and the Python package (histdesk._file_kind) tell kinds of files apart alike.
 
     kinds.py > WHAT WENT WRONG
 
-Of each file, both decide what it is if it is no text (packed, or a recording), whether perf or trace-cmd printed it, and
-whether it looks like a trace: files that are made here, with the first bytes that the package knows, and all scripts and traces
-of the examples and of tests/rows. The last line says how many things hold. It needs the library.
+For each file, both decide what it is if it is no text (packed, or a recording), whether perf or trace-cmd printed it, and
+whether it looks like a trace. The files are made here, with the first bytes that the package knows, or are the scripts and
+traces of the examples and of tests/rows. The last line says how many things hold. It needs the library.
 """
 
 import os
@@ -39,7 +39,7 @@ WAKING = "sched_waking: comm=b pid=2 prio=120 target_cpu=000"
 OF_PERF = f"    a b    18 [000]  3752.816376632:     sched:{WAKING}\n"
 OF_TRACE_CMD = f"  a-1     [000]     1.000000000: {WAKING}\n"
 OF_KERNEL = f"   a-1       [000] d..2.     1.000000: {SWITCH}\n"
-# Texts by the kind that they should have: what printed them, or whether they look like a trace.
+# Texts, each with the kind that it should have: what printed it, or whether it looks like a trace.
 TEXTS: Dict[str, Tuple[str, str]] = {
     "perf": ("perf script", OF_PERF),
     "perf-comments": ("perf script", f"# a comment\n\n#\n{OF_PERF}"),

@@ -1,6 +1,6 @@
 #!/usr/bin/env bash
-# launchers.sh HISTDESK [HISTWATCH]: what the launchers say beside these programs, in a folder that stands for the repository,
-# if nothing has to be built. It prints what went wrong, and a last line with the counts.
+# launchers.sh HISTDESK [HISTWATCH]: tests what the launchers say beside these programs, in a folder that stands in for the
+# repository, if nothing has to be built. It prints what went wrong, and a last line with the counts.
 # shellcheck disable=SC2154 # what counts.sh assigns
 set -uo pipefail
 
@@ -16,7 +16,7 @@ launcher=$root/histdesk
 mkdir -p -- "$root"/{build,tools} "$root"/crates/{histdesk,histwatch}/out "$folder/work"
 cp -- "$tests/../histdesk" "$tests/../histwatch" "$root"
 cp -- "$tests/../tools/words" "$root/tools"
-# Writes down what is to be built, and fails if the file `faulty` is there.
+# This build/build writes down what is to be built, and fails if the file `faulty` is there.
 printf '%s\n' '#!/bin/sh' "echo \"\$*\" >'$folder/built'" "[ ! -e '$folder/faulty' ] || exit 2" >"$root/build/build"
 chmod +x -- "$root/build/build"
 ln -s -- "$program" "$root/crates/histdesk/out/histdesk"
@@ -26,18 +26,18 @@ cp -- "$examples"/wakeups.{script,trace} .
 printf 'load @1\n' >load
 : >empty
 
-# tells WHAT STATUS LINES TEXT WORD..: the launcher's status, all that it says on standard error, and its output.
+# tells WHAT STATUS LINES TEXT WORD..: checks the launcher's status, all that it says on standard error, and its output.
 tells() {
     gives "$1" "$2" "$3" "$launcher" "${@:5}" </dev/null
     prints "$1, output" "$4"
 }
 
-# on_terminal COMMAND: what a terminal shows of it.
+# on_terminal COMMAND: runs the command on a terminal; the file `out` gets what the terminal shows.
 on_terminal() {
     command script -qec "bash -c '$1'" /dev/null </dev/null | tr -d '\r' >"$folder/out"
 }
 
-# ---- words that the program refuses, before anything is built
+# ---- arguments that the program refuses, before anything is built
 
 for word in --help -h; do
     gives "$word" 2 $'histdesk: bad words\n\nhistdesk \\[SCRIPT \\[TRACE\\]...\\]: *Exit status: 0 *explain takes *desk is *Kit: *' \
@@ -56,7 +56,7 @@ if [[ -e $folder/built ]]; then
 fi
 tells "after --" 2 $'histdesk: cannot read -x\nhistdesk: -x: there is no such file' "" -- load -x
 
-# ---- words that it takes
+# ---- arguments that it takes
 
 tells nothing 0 "" "$(<"$examples/wakeups.expected")" wakeups.script wakeups.trace
 gives "only histdesk is built" 0 "" cat -- "$folder/built"
@@ -135,7 +135,8 @@ prints "on a terminal" "histdesk: wakeups.trace looks like a trace, and the scri
 on_terminal "$launcher"
 prints "typed on a terminal" "histdesk: reads commands from the terminal until Ctrl-D; $root/tools/desk has a prompt, with help"
 
-# ---- a pipe that nobody reads any more: on a terminal it ends by the signal, as others do, and elsewhere as the program does
+# ---- a pipe that nobody reads any more: on a terminal the signal ends the launcher, as it ends other programs, and elsewhere
+# the launcher ends as the program does
 
 { cat load && yes 'list 0' | head -n 20000; } >many
 on_terminal "$launcher many wakeups.trace | head -n 1; echo \${PIPESTATUS[0]}"

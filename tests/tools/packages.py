@@ -1,12 +1,12 @@
 #!/usr/bin/env python3
-"""Holds that the licences of a Debian package and a wheel have the form that they should have.
+"""Checks that the licences of a Debian package and a wheel have the form that they should have.
 
     packages.py COPYRIGHT WHEEL > WHAT WENT WRONG
 
-COPYRIGHT, Debian's file of that name, has paragraphs of fields; each licence of files has a paragraph with its text, and that
-of the programs names each library of the Rattle kit that crates.txt does. WHEEL lists each of its files, with its digest and
-its size; all are of one time, each command leads to a tool that is there, and the name has the wheel's tag. The last line says
-how many things hold.
+COPYRIGHT, Debian's file of that name, has paragraphs of fields; each licence of files has a paragraph with its text, and the
+text of the Rattle kit's licence names each library of the kit that crates.txt names. WHEEL lists each of its files, with its
+digest and its size; all files have the same time, each command leads to a tool that is there, and the name has the wheel's
+tag. The last line says how many things hold.
 """
 
 import base64
@@ -20,12 +20,12 @@ from typing import Dict, Iterator, List, Tuple
 
 ROOT = os.path.realpath(os.path.join(os.path.dirname(os.path.realpath(__file__)), "..", ".."))
 FORMAT = "https://www.debian.org/doc/packaging-manuals/copyright-format/1.0/"
-# What is wrong, if it isn't so, and whether it is so.
+# What is wrong if a thing isn't so, and whether it is so.
 Things = Iterator[Tuple[str, bool]]
 
 
 def text_of(path: str) -> str:
-    """The text of a file.
+    """Return the text of a file.
 
     Parameters
     ----------
@@ -37,7 +37,7 @@ def text_of(path: str) -> str:
 
 
 def kit_libraries() -> List[str]:
-    """The names of the Rattle kit's libraries on which crates of the repository stand."""
+    """Return the names of the Rattle kit's libraries on which crates of the repository stand."""
     lines = [line.split(":") for line in text_of(os.path.join(ROOT, "crates.txt")).splitlines() if line[0] != "#"]
     own = {line[0].split()[0] for line in lines}
     return sorted({name for line in lines for name in line[1].split()} - own)
@@ -47,7 +47,7 @@ def kit_libraries() -> List[str]:
 
 
 def paragraphs(text: str) -> List[Dict[str, str]]:
-    """The fields of each paragraph of a file of fields.
+    """Return the fields of each paragraph of a file of fields.
 
     Parameters
     ----------
@@ -59,7 +59,7 @@ def paragraphs(text: str) -> List[Dict[str, str]]:
 
 
 def copyright_things(path: str) -> Things:
-    """What holds of Debian's file.
+    """Yield what has to hold of Debian's file.
 
     Parameters
     ----------
@@ -85,7 +85,7 @@ def copyright_things(path: str) -> Things:
 
 
 def record_things(archive: zipfile.ZipFile, rows: List[List[str]]) -> Things:
-    """What holds of a wheel's list of files.
+    """Yield what has to hold of a wheel's list of files.
 
     Parameters
     ----------
@@ -104,7 +104,7 @@ def record_things(archive: zipfile.ZipFile, rows: List[List[str]]) -> Things:
 
 
 def wheel_things(path: str) -> Things:
-    """What holds of a wheel.
+    """Yield what has to hold of a wheel.
 
     Parameters
     ----------
@@ -129,7 +129,7 @@ def wheel_things(path: str) -> Things:
 
 
 def main() -> int:
-    """Prints what went wrong."""
+    """Print what went wrong, and return the exit status."""
     things = [*copyright_things(sys.argv[1]), *wheel_things(sys.argv[2])]
     wrong = [message for message, is_so in things if not is_so]
     print("\n".join([*wrong, f"{len(things) - len(wrong)} of {len(things)} things hold"]))

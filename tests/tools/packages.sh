@@ -1,9 +1,10 @@
 #!/usr/bin/env bash
 # packages.sh HISTDESK HISTWATCH LIBRARY: has build/package make a Debian package, a tarball and a wheel of these programs and
-# of this libhistdesk.so.0 with the libhistdesk.a beside it, twice. They are the same bytes, name one version, which is that of
-# python/histdesk/_version.py, and have the licences. The tarball has a README, whose commands work after its env.sh. The wheel
-# is installed into an empty environment of Python and used there, without the repository and the Rattle kit; install.sh uses
-# what is in the other two. It prints what went wrong, what was not tried and why, and a last line with the counts.
+# of this libhistdesk.so.0 with the libhistdesk.a beside it, twice. Both times they are the same bytes; they name one version,
+# that of python/histdesk/_version.py, and have the licences. The tarball has a README, whose commands work after its env.sh.
+# The wheel is installed into an empty environment of Python and used there, without the repository and the Rattle kit;
+# install.sh uses what is in the other two. It prints what went wrong, what was not tried and why, and a last line with the
+# counts.
 # shellcheck disable=SC2154 # what counts.sh assigns
 set -uo pipefail
 
@@ -15,7 +16,7 @@ same_file() {
     gives "$1" 0 "" cmp -- "$2" "$3"
 }
 
-# ---- What is made, and twice the same.
+# ---- What is made, which is the same both times.
 
 version=$(sed -n 's/^__version__ = "\(.*\)"$/\1/p' "$root/python/histdesk/_version.py")
 gives package 0 "" "$build/package" "$folder/packages"
@@ -54,14 +55,15 @@ has "the version of python/" "$root/python/pyproject.toml" 'version = { attr = "
 has "the wheel's version" "$folder/wheel/histdesk-$version.dist-info/METADATA" "Version: ${version//./\\.}" 'Name: histdesk'
 same CHANGELOG.md "$(head -n 12 "$root/CHANGELOG.md" | grep -oFw -m 1 -- "$version")" "$version"
 
-# ---- The tarball: env.sh sets what its README says, in bash from any folder, and in a POSIX shell in its own.
+# ---- The tarball: env.sh sets what its README says, in bash from any folder, and in a POSIX shell from its own.
 
 has README "$tree/README" "histdesk $version for Linux on x86-64" '.*glibc [0-9.]* or later\..*' '    \. \./env\.sh'
 same "names that README leaves open" "$(grep -cw 'VERSION\|GLIBC' "$tree/README")" 0
 while read -r name _; do
     same "README's $name" "$(compgen -G "$tree/${name%,}" | wc -l)" 1
 done < <(sed -n '/^    bin /,$p' "$tree/README")
-# in_tarball WHAT FOLDER SHELL COMMAND: the command after env.sh, in an environment that has nothing else.
+# in_tarball WHAT FOLDER SHELL COMMAND: checks that the command, which begins with env.sh, succeeds in an environment that has
+# nothing else.
 in_tarball() {
     gives "$1" 0 "" env -i -C "$2" PATH=/usr/bin:/bin "HOME=$folder" "$3" -c "$4" </dev/null
 }
@@ -102,7 +104,8 @@ same "the wheel's glibc" "${tag%%_*}" "$((most > 5 ? most : 5))"
 
 # ---- The wheel in use, by a Python that can make an environment and has numpy.
 
-# answers WHAT TEXT WORD..: the command, in the environment and in a folder with examples, ends well and prints that.
+# answers WHAT TEXT WORD..: checks that the command, in the environment and in a folder with examples, succeeds and prints that
+# text.
 answers() {
     gives "$1" 0 "" "${alone[@]}" "${@:3}"
     prints "$1" "$2"
@@ -148,7 +151,7 @@ echo '    migration/0    18 [000]  3752.816376632:     sched:sched_waking: comm=
     gives "a recording" 2 "from-perf: *" "${alone[@]}" histdesk-waits perf.data
 }
 
-# pip puts the wheel into the environment, which is used, and takes it away.
+# pip installs the wheel into the environment; it is used there, and pip uninstalls it.
 used() {
     mkdir -- "$folder/work"
     cp -- "$examples"/{wakeups,latencies}.script "$examples/wakeups.trace" "$folder/work"
@@ -177,7 +180,7 @@ else
     skip "the wheel, since no Python has both ensurepip and numpy"
 fi
 
-# ---- Words that are wrong.
+# ---- Arguments that are wrong.
 
 gives "wheel --help" 0 "" "$root/build/wheel" --help
 gives "wheel's arguments" 2 "wheel: expects TREE, GLIBC and FOLDER; --help says more" "$root/build/wheel" "$tree" 3 "$folder"

@@ -1,13 +1,13 @@
 #!/usr/bin/env python3
-"""Holds what from-perf and from-trace-cmd turn quickly against what they turn the slow way.
+"""Compares what from-perf and from-trace-cmd convert the quick way with what they convert the slow way.
 
     quickly.py TOOLS
 
-TOOLS is the folder of the scripts, of which it takes a copy and compiles what build/build compiles. As root, it records this
-machine by perf and trace-cmd: with lost events, packed, with call chains, a single task, other events, odd names, and tasks
-that are renamed and end. Each recording gives the same bytes, the same words and the same status both ways. Words that tell
-the filter something wrong are noticed; what is written first is not written twice. What isn't here is not tried, and a line
-says so. The last line says how many of how many things hold."""
+TOOLS is the folder of the scripts. It takes a copy of them, and compiles for the copy what build/build compiles. As root, it
+records this machine by perf and trace-cmd: with lost events, packed, with call chains, a single task, other events, odd names,
+and tasks that are renamed and end. Each recording gives the same bytes, the same words and the same status both ways.
+Arguments that tell the filter something wrong are noticed; what is written first is not written twice. What this machine lacks
+is not tried, and a line says so. The last line says how many of how many things hold."""
 
 import io
 import os
@@ -49,7 +49,7 @@ COMMON = field("unsigned short common_type", 0, 2) + field("int common_pid", 4, 
 
 
 def switch_format(state_size: int = 8, mask: str = "((0x1 | 0x2) << 1)", states: str = STATES) -> str:
-    """The format of a switch, as a kernel has it."""
+    """Return the format of a switch, as a kernel has it."""
     at = 32 + state_size
     fields = field("char prev_comm[16]", 8, 16) + field("pid_t prev_pid", 24, 4) + field("int prev_prio", 28, 4)
     fields += field("long prev_state", 32, state_size) + field("char next_comm[16]", at, 16)
@@ -63,14 +63,14 @@ def switch_format(state_size: int = 8, mask: str = "((0x1 | 0x2) << 1)", states:
 
 
 def waking_format(has_success: bool) -> str:
-    """The format of a waking; older kernels tell of success."""
+    """Return the format of a waking; that of older kernels tells of success."""
     fields = field("char comm[16]", 8, 16) + field("pid_t pid", 24, 4) + field("int prio", 28, 4) + field("int success", 32, 4)
     text = perf_formats.WAKING_TEXTS[has_success]
     return f"name: sched_waking\nID: 301\nformat:\n{COMMON}\n{fields}{field('int target_cpu', 36, 4)}\nprint fmt: {text}\n"
 
 
 def tracing_data(*texts: str) -> bytes:
-    """A header of formats, as perf writes it."""
+    """Return a header of formats, as perf writes it."""
 
     def sized(text: bytes) -> bytes:
         return len(text).to_bytes(8, "little") + text
@@ -94,7 +94,7 @@ def is_unknown(*texts: str) -> bool:
 
 
 def check_formats() -> None:
-    """The formats of kernels old and new, and what is refused."""
+    """Check what is made of the formats of old and new kernels, and what is refused."""
     told = words(switch_format(), waking_format(False))
     wanted = ["sched_waking:301:40:0:8,24,28,36,-1", "sched_switch:300:64:8:8,24,28,32,40,56,60", "states:6:256:1=S,2=D,128=I"]
     check(told == wanted, f"the words are {told}")
@@ -121,7 +121,7 @@ def check_formats() -> None:
 
 
 def check_headers(folder: str) -> None:
-    """Recordings whose header leads elsewhere."""
+    """Check that recordings whose header leads elsewhere have no formats."""
     draw, path = random.Random(1), os.path.join(folder, "hostile.data")
     head = [b"PERFILE2", (104).to_bytes(8, "little")] + [bytes(8)] * 11
     told = 0
@@ -146,7 +146,7 @@ def block(what: bytes, text: bytes = b"", lines: int = 0) -> bytes:
 
 
 def check_blocks() -> None:
-    """Blocks are whole, and there is a last one."""
+    """Check that blocks are taken only if they are whole and there is a last one, and what a sink takes that begins again."""
     good = block(b"L", b"one\n", 1) + block(b"T", b"two\n") + block(b"E")
     found = list(blocks.blocks(io.BytesIO(good + b"three\n"), None))
     check(
@@ -184,7 +184,7 @@ def check_blocks() -> None:
 
 
 class Turned(NamedTuple):
-    """What a tool prints, says, and answers."""
+    """What a tool writes on standard output and on standard error, and its status."""
 
     trace: bytes
     said: bytes
@@ -192,7 +192,8 @@ class Turned(NamedTuple):
 
 
 def turned(tools: str, path: str, programs: str = "") -> Turned:
-    """What the converter in that folder makes of a recording; by the programs in the folder `programs`, if one is named."""
+    """Return what the converter in that folder makes of a recording, with the programs in the folder `programs`, if one is
+    named."""
     environ = {**os.environ, "PATH": f"{programs}:{os.environ['PATH']}" if programs else os.environ["PATH"]}
     words = [sys.executable, os.path.join(tools, converter(path)), path]
     ran = subprocess.run(words, capture_output=True, timeout=LIMIT, env=environ)
@@ -200,7 +201,7 @@ def turned(tools: str, path: str, programs: str = "") -> Turned:
 
 
 def converter(path: str) -> str:
-    """The script that turns a recording of that path."""
+    """Return the name of the script that converts a recording of that path."""
     return "from-perf" if path.endswith(".data") else "from-trace-cmd"
 
 
@@ -254,7 +255,7 @@ RECORDINGS: Dict[str, List[str]] = {
 
 
 def record(folder: str) -> Dict[str, str]:
-    """The recordings that perf makes here, by what they are of."""
+    """Make the recordings that perf can make here, and return their paths by name."""
     made = {}
     for name in RECORDINGS:
         path = os.path.join(folder, name.replace(" ", "-") + ".data")
@@ -273,7 +274,7 @@ def record_again(name: str, path: str) -> "subprocess.CompletedProcess[bytes]":
 
 
 def program(folder: str, name: str, text: str) -> str:
-    """A folder with a program of that name."""
+    """Make a folder with a program of that name, and return the folder."""
     os.makedirs(folder, exist_ok=True)
     path = os.path.join(folder, name)
     with open(path, "w", encoding="ascii") as file:
@@ -283,7 +284,8 @@ def program(folder: str, name: str, text: str) -> str:
 
 
 def copied(folder: str, name: str, tools: str = TOOLS, more: str = "") -> str:
-    """The tools once more, with what is compiled for them if these have it, and with more at the end of perf_formats.py."""
+    """Return a copy of the tools, with what is compiled for them if these have it, and with `more` at the end of
+    perf_formats.py."""
     copy = os.path.join(folder, name, "tools")
     ignored = shutil.ignore_patterns("__pycache__", *(["out"] if tools == TOOLS else []))
     shutil.copytree(tools, copy, ignore=ignored)
@@ -296,12 +298,12 @@ def copied(folder: str, name: str, tools: str = TOOLS, more: str = "") -> str:
 
 
 def compiled(tools: str) -> str:
-    """The folder of what is compiled for these tools."""
+    """Return the folder of what is compiled for these tools."""
     return os.path.join(os.path.dirname(tools), "helpers", "out")
 
 
 def built(folder: str) -> str:
-    """The tools once more, with what is compiled for them."""
+    """Return a copy of the tools, with what is compiled for them."""
     tools = copied(folder, "quick")
     words = [os.path.join(ROOT, "build", "helpers"), os.path.dirname(compiled(tools))]
     ran = subprocess.run(words, capture_output=True, timeout=LIMIT)
@@ -310,12 +312,12 @@ def built(folder: str) -> str:
 
 
 def check_recordings(folder: str, made: Dict[str, str], slow: str, quick: str) -> None:
-    """Both ways give the same, and the quick one is taken."""
+    """Check that both ways give the same, and that the quick one is taken."""
     calls = os.path.join(folder, "calls")
     watch = f'#!/bin/bash\necho "$*" >>{calls}\nexec {shutil.which("perf")} "$@"\n'
     watched = program(os.path.join(folder, "watched"), "perf", watch)
     for name, path in made.items():
-        # What happens on the machine may leave an event whose task only the slow way knows: then it is recorded once more.
+        # What happens on the machine may leave an event whose task only the slow way knows: then the recording is made again.
         for is_last in (False, True):
             wanted, found = turned(slow, path), turned(quick, path, watched)
             with open(calls, encoding="ascii") as file:
@@ -332,7 +334,7 @@ def check_recordings(folder: str, made: Dict[str, str], slow: str, quick: str) -
 
 # ---- recordings of trace-cmd
 
-# A kernel may lack files that trace-cmd writes to: plain ones stand for them, in a mount namespace of its own.
+# A kernel may lack files that trace-cmd writes to: plain ones stand in for them, in a mount namespace of its own.
 STAND_INS = """
 cd -- "$0"
 echo 1 >one
@@ -347,7 +349,7 @@ EVENTS = [word for name in _schema.TRACED_EVENTS for word in ("-e", name)]
 OTHER_EVENTS = ["-e", "irq", "-e", "timer_start", "-e", "sched_migrate_task"]
 # The name of a buffer, which is an instance of tracefs while it is recorded, and stays if that fails.
 INSTANCE = "histdesk-quickly"
-# What each is of, and whether it is turned quickly.
+# What each recording is of, and whether it is converted the quick way.
 BY_TRACE_CMD: Dict[str, Tuple[List[str], bool]] = {
     "plain": (["-b", "8192", *EVENTS, *pipes(20000)], True),
     "lost": (["-b", "8", *EVENTS, "perf", "bench", "sched", "messaging", "-l", "100"], True),
@@ -360,7 +362,8 @@ BY_TRACE_CMD: Dict[str, Tuple[List[str], bool]] = {
 
 
 def record_by_trace_cmd(folder: str) -> Dict[str, str]:
-    """The recordings that trace-cmd makes here, which uses the machine's own tracing: its settings are as before then."""
+    """Make the recordings that trace-cmd can make here, and return their paths by name. trace-cmd uses the machine's own
+    tracing, whose settings are put back after that."""
     made, settings = {}, {}
     for name in ("tracing_on", "buffer_size_kb"):
         with open(f"/sys/kernel/tracing/{name}", encoding="ascii") as file:
@@ -382,7 +385,7 @@ def record_by_trace_cmd(folder: str) -> Dict[str, str]:
 
 
 def check_trace_cmd(folder: str, made: Dict[str, str], slow: str, quick: str) -> None:
-    """Both ways give the same, and the quick one is taken if it is to be."""
+    """Check that both ways give the same, and that the quick one is taken exactly if it should be."""
     ended = os.path.join(folder, "ended")
     real = os.path.join(compiled(quick), "trace_cmd_lines")
     watched = copied(folder, "watched-trace-cmd", quick)
@@ -400,7 +403,7 @@ def check_trace_cmd(folder: str, made: Dict[str, str], slow: str, quick: str) ->
 
 
 def check_false(folder: str, path: str, slow: str, quick: str) -> None:
-    """Programs that stand for trace_cmd_lines, and one for a trace-cmd of other columns."""
+    """Check programs that stand in for trace_cmd_lines, and one that stands in for a trace-cmd with other columns."""
     wanted = turned(slow, path)
     lines = wanted.trace.split(b"\n")
     first = b"\n".join(lines[1:2000]) + b"\n"
@@ -424,7 +427,7 @@ def check_false(folder: str, path: str, slow: str, quick: str) -> None:
 
 # ---- what is wrong on purpose
 
-# Each changes what the filter is told. The last one is right in all but a text of a state.
+# Each changes what the filter is told, or fails before it is told anything.
 PLANTED = {
     "a field elsewhere": 'old = event_argument\ndef event_argument(*a): return old(*a).replace(":8,24,28,", ":8,28,24,")\n',
     "a field outside": 'old = event_argument\ndef event_argument(*a): return old(*a).replace(":8,24,", ":8,4000,")\n',
@@ -439,7 +442,7 @@ PLANTED = {
 
 
 def check_planted(folder: str, path: str, slow: str, quick: str) -> None:
-    """What the filter is told wrongly is noticed."""
+    """Check that it is noticed if the filter is told something wrong."""
     wanted = turned(slow, path)
     for name, more in PLANTED.items():
         found = turned(copied(folder, f"planted {name}", quick, more), path)
@@ -450,14 +453,15 @@ def check_planted(folder: str, path: str, slow: str, quick: str) -> None:
 
 
 def check_stand_ins(folder: str, path: str, slow: str, quick: str) -> None:
-    """A perf without filters, one that prints a text all the same, one that fails late, and one that writes what isn't so."""
+    """Check a perf without filters, one that prints a text all the same, one that fails late, and one that writes what isn't
+    so."""
     wanted, real = turned(slow, path), shutil.which("perf")
     lines = wanted.trace.split(b"\n")
     first = b"\n".join(lines[:100]) + b"\n"
     with open(os.path.join(folder, "late"), "wb") as file:
         file.write(block(b"L", first, 100) + block(b"L", b"".join(line + b"\n" for line in lines[100:9000]), 8900) + b"torn")
     with open(os.path.join(folder, "false"), "wb") as file:
-        # So many that some are written before what is false is seen.
+        # There are so many blocks that some are written before it is noticed that they are false.
         false = block(b"L", first.replace(b"pid=", b"pid=1"), 100) * (2 * blocks.WAITING // len(first))
         file.write(false + block(b"A", b"a line\n", 1) + block(b"E"))
     front = f'#!/bin/bash\nif [[ $* != *--dlfilter* ]]; then exec {real} "$@"; fi\n'
@@ -475,7 +479,7 @@ def check_stand_ins(folder: str, path: str, slow: str, quick: str) -> None:
 
 
 def check_closed(path: str, tools: str) -> None:
-    """Where nobody reads on, it ends, and says nothing."""
+    """Check that a converter ends, and says nothing, if nobody reads its output any more."""
     tool = subprocess.Popen([os.path.join(tools, converter(path)), path], stdout=subprocess.PIPE, stderr=subprocess.PIPE)
     tool.stdout.read(1)
     tool.stdout.close()

@@ -1,8 +1,8 @@
 #!/usr/bin/env bash
 # recorded.sh TOOLS: records the machine that runs it by TOOLS/record, with a buffer that is too small on purpose, while a
-# workload runs, and holds what that tells of losses against the text: record, the package, and no doubtful wait among the
-# greatest ones. It needs root, tracefs and python3, and for the package the library; what isn't there is not tried, and a
-# line says so. It takes some seconds. It prints what went wrong, and a last line with the counts.
+# workload runs. It compares what record and the package report of losses with the text, and checks that no doubtful wait is
+# among the greatest ones. It needs root, tracefs and python3, and for the package the library; what is missing is not tried,
+# and a line says so. It takes some seconds. It prints what went wrong, and a last line with the counts.
 # shellcheck disable=SC2154,SC2317 # what counts.sh assigns; what `is` calls
 set -uo pipefail
 
@@ -11,7 +11,7 @@ tools=$(realpath -- "$1")
 tracefs=/sys/kernel/tracing
 . "$tests/counts.sh"
 
-# is WHAT COMMAND..: the command succeeds.
+# is WHAT COMMAND..: checks that the command succeeds.
 is() {
     if "${@:2}" >"$folder/said" 2>&1; then
         pass
@@ -39,12 +39,13 @@ for _ in range(5000):
         os.write(to_back, b"x")
 ')
 
-# lost_of CPU: how many events of a CPU record said to be lost; 0 if it said nothing of it.
+# lost_of CPU: prints how many events of the CPU are lost, as record said; 0 if it said nothing of the CPU.
 lost_of() {
     sed -nE "s/^record: CPU $1 lost ([0-9]+) of .*/\1/p" "$folder/err" | grep . || echo 0
 }
 
-# Of each CPU record said what the lines of the text tell, and their sum is that of the kernel's header.
+# For each CPU, record reported at least as many lost events as a line of the text says, and the sum of these lines is that of
+# the kernel's header.
 reports_of_each() {
     local cpu count sum=0
     while read -r cpu count; do
@@ -65,7 +66,7 @@ is "losses are reported alike: $(<"$folder/err")" reports_of_each
 advised=$(sed -nE 's/^record: --buffer ([0-9]+) would have held them$/\1/p' "$folder/err")
 is "a buffer is advised: $(<"$folder/err")" test -n "$advised"
 is "no instance stays" test -z "$(ls -d "$tracefs"/instances/histdesk.* 2>/dev/null)"
-# Of no other workload it is known how many events it makes, so much more than the advice is tried.
+# How many events another run of the workload makes isn't known, so a much larger buffer than the advised one is tried.
 "$tools/record" --buffer "$((16 * ${advised:-0}))" -o "$folder/whole" -- "${workload[@]}" 2>"$folder/err"
 is "the advised buffer holds them, sixteen times: $(<"$folder/err")" grep -q '^record: [0-9]* events, 0 lost$' "$folder/err"
 is "nothing is said to be overwritten" test -z "$(grep ' overwritten$' "$folder/whole")"
@@ -74,7 +75,7 @@ python=/usr/bin/python3
 [[ -x $python ]] || python=python3
 export PYTHONPATH=$tests/../python PYTHONDONTWRITEBYTECODE=1
 "$python" -c 'import histdesk' 2>"$folder/said" || not_tried "the package: $(tail -n 1 "$folder/said")"
-# Of each CPU that has overwritten some, except for the one that begins first, there is a hole before its first event.
+# Each CPU that has overwritten events, except for the one that begins first, has a hole before its first event.
 cat >"$folder/holes.py" <<'END'
 import re
 import sys
@@ -100,7 +101,7 @@ is "holes are where the text has them" "$python" "$folder/holes.py" "$folder/tra
 is "no holes are where nothing was lost" "$python" "$folder/holes.py" "$folder/whole"
 "$python" -c 'import histdesk; histdesk.waits' 2>/dev/null || not_tried "waits: the package has none"
 "$python" -c 'import numpy' 2>/dev/null || not_tried "waits: numpy is missing"
-# A wait is doubtful if it spans a hole, only by stamps; and no row's greatest wait is one of these.
+# A wait is doubtful exactly if it spans a hole, judged only by stamps; and no row's greatest wait is a doubtful one.
 cat >"$folder/doubts.py" <<'END'
 import sys
 import warnings

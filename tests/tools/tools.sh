@@ -1,8 +1,8 @@
 #!/usr/bin/env bash
 # tools.sh [HISTDESK [HISTWATCH]]: runs the scripts of tools/ as a user would: explain over the rows and over a table of
-# refusals and faults, by HISTWATCH too if it is given, desk over the rows and on a terminal, the others on short texts
-# and on a folder that stands for tracefs. Without a word, it runs the launcher. It prints what went wrong, and a last line
-# with the counts.
+# refusals and faults, with HISTWATCH too if it is given, desk over the rows and on a terminal, the others on short texts
+# and on a folder that stands in for tracefs. Without arguments, it runs the launcher. It prints what went wrong, and a last
+# line with the counts.
 # shellcheck disable=SC2154 # what counts.sh assigns
 set -uo pipefail
 
@@ -65,7 +65,7 @@ prints strict_typed "$text"
 cd -- "$OLDPWD" || exit
 gives strict_accepted 0 "" "$tools/explain" "$examples/wakeups.script" --strict "$examples/wakeups.trace"
 prints strict_accepted "$(<"$examples/wakeups.expected")"
-# A trace in the script's place is told, and not each of its lines; so is a recording.
+# A trace in the script's place is reported as such, and not each of its lines; so is a recording.
 lost='it looks like a trace, and the script stands before it: tools/explain SCRIPT'
 trace=$examples/wakeups.trace
 gives no_script 2 "explain: $trace is no script: $lost $trace" "$tools/explain" "$trace"
@@ -73,7 +73,7 @@ prints no_script ""
 gives no_typed_script 2 "explain: standard input is no script: $lost /dev/stdin" "$tools/explain" <"$trace"
 printf 'PERFILE2' >"$folder/recorded"
 gives recorded 2 "explain: $folder/recorded is no script: it is a recording of perf; *" "$tools/explain" "$folder/recorded"
-# A pipe that nobody reads any more ends it by the signal, as others.
+# If nobody reads its pipe any more, the signal ends it, as it ends other programs.
 { echo 'load @1' && yes 'list 0' | head -n 20000; } >"$folder/many"
 "$tools/explain" "$folder/many" "$examples/wakeups.trace" 2>"$folder/err" | head -n 1 >"$folder/out"
 echo "${PIPESTATUS[0]} $(<"$folder/err")" >>"$folder/out"
@@ -86,7 +86,7 @@ if [[ -n $histwatch ]]; then
     prints watched "$(<"$examples/changes.expected")"
 fi
 
-# Programs that stand for the desk, if it would take long or never print it.
+# Programs that stand in for the desk, for output that it would print only after long, or never.
 script full 'echo "refused 7"; echo "refused 15"; echo "refused 1"; echo "refused 99"' 'echo told >&2' 'exit 3'
 printf '%s\n' '# full' 'insert x' 'attach sched_switch hist:keys=next_pid' 'load @1' 'load @2' >"$folder/asked"
 HISTDESK=$folder/bin/full gives full 3 told "$tools/explain" "$folder/asked"
@@ -105,7 +105,7 @@ script other 'echo "removed 2"; echo "refused 10"'
 lost='explain: line 1 of the output is no answer to the command on line 2; nothing after it is explained'
 HISTDESK=$folder/bin/other gives other_output 0 "$lost" "$tools/explain" "$folder/asked"
 prints other_output $'removed 2\nrefused 10'
-# Programs that stand for histwatch. Rows that changed stand after an accepted insert or strike alone.
+# Programs that stand in for histwatch. Rows that changed stand only after an accepted insert or strike.
 printf '%s\n' 'insert a-1 [000] 1.000000:' 'strike 0:1' 'list 0' 'insert x' 'hist 9' >"$folder/asked"
 cat >"$folder/changed" <<'END'
 inserted 0:1
@@ -132,7 +132,7 @@ HISTDESK=$folder/bin/watch_refused gives changed_by_nothing 0 "$lost" "$tools/ex
 script killed 'kill -KILL $$'
 HISTDESK=$folder/bin/killed gives killed 137 "" "$tools/explain" "$folder/asked"
 HISTDESK=$folder/bin/none gives no_program 2 "explain: cannot run *" "$tools/explain" "$folder/asked"
-# Without the library nothing runs, but --help.
+# Without the library, only --help runs.
 lost="explain: * needs the library libhistdesk.so.0, *$folder/none: *"$'\n'"build/build makes it *"
 HISTDESK_LIBRARY=$folder/none gives no_library 2 "$lost" "$tools/explain" "$folder/asked"
 prints no_library ""
@@ -157,7 +157,7 @@ fi
 
 # ---- desk
 
-# By the system's Python, which may have numpy.
+# With the system's Python, which may have numpy.
 python=/usr/bin/python3
 [[ -x $python ]] || python=python3
 holds "$python" "$tests/tools/desk_prompt.py" "$tools/desk" "$tests"/rows/*
@@ -170,7 +170,7 @@ for tool in summary waits why diff view export desk; do
     HISTDESK_LIBRARY=$folder/none gives "$tool --help" 0 "" "$tools/$tool" --help
     has "$tool --help" "$folder/out" "usage: tools/$tool .*"
 done
-# A file of that name needs it.
+# A script called --help needs it.
 : >"$folder/--help"
 HISTDESK_LIBRARY=$folder/none gives "desk -- --help" 2 "desk: histdesk needs the library *" \
     env -C "$folder" "$python" "$tools/desk" -- --help <"$folder/--help"
@@ -312,7 +312,7 @@ refused 5: cpu 2
 refused 5: cpu 3'
 printf '%s\n' 'a 1 [000] 1.000000: x:' 'hello' >"$folder/bad"
 loads bad_perf 1 'from-perf: line 2: *: hello' "$kept" "$tools/from-perf" "$folder/bad"
-# perf's own line of lost events stands after them, with the stamp of the next one of its CPU.
+# perf's own line about lost events stands after them, with the stamp of the next event of its CPU.
 cat >"$folder/lost" <<'END'
                a     1 [000]     1.000000000: sched:sched_wakeup_new: comm=w pid=3 prio=120 target_cpu=001
             perf     1 [003]     1.000001000: PERF_RECORD_LOST lost 5948
@@ -323,7 +323,7 @@ gives lost_perf 0 'from-perf: 5948 events were lost at one place (CPU 3); lines 
 prints lost_perf 'a-1 [000] 1.000000: sched_wakeup_new: comm=w pid=3 prio=120 target_cpu=001
 CPU:3 [LOST 5948 EVENTS]
 a-1 [003] 1.000001: sched_wakeup_new: comm=w pid=3 prio=120 target_cpu=001'
-# Of a task that is gone perf has no name and no number; its last switch has both, and so has the last switch to it.
+# perf has no name and no number of a task that is gone; the task's last switch has both, and so has the last switch to it.
 switch='sched_switch: prev_comm=gone a prev_pid=529 prev_prio=115 prev_state=X ==> next_comm=c next_pid=3 next_prio=4'
 printf '%s\n' "             :-1    -1 [000]     8.000000499:     sched:$switch" >"$folder/gone"
 loads gone_task 0 "" "${kept/a-1 \[000\] 1.000000:/gone a-529 [000] 8.000000: $switch}" "$tools/from-perf" "$folder/gone"
@@ -339,7 +339,7 @@ has gone_waker "$folder/out" 'dying a-7 \[000\] 1\.000002: sched_waking: comm=c 
 printf '%s\n' 'a-1 [000] 1.000000: x:' 'b-2 [000] 1.000000: sched_switch: b:2 [120] S ==> c:3 [120]' >"$folder/bad"
 loads bad_trace_cmd 1 'from-trace-cmd: line 2: the fields of sched_switch *report it with -N: b-2 *' "$kept" \
     "$tools/from-trace-cmd" "$folder/bad"
-# Torn lines: five are shown, no byte of them raw.
+# Torn lines: five are shown, none of their bytes raw.
 for ((line = 0; line < 7; line++)); do
     printf 'a 1 [000] 1.000000: x:\na 1 [000] 2.000000: sched:%s\n' "${switch%c next_pid*}"$'\e'
 done >"$folder/bad"
@@ -422,7 +422,7 @@ gives sole_top 0 "$lost" "$tools/from-trace-cmd" --buffer / "$folder/trace-cmd"
 gives no_word 2 'from-trace-cmd: argument --buffer: expected one argument; *' "$tools/from-trace-cmd" --buffer
 gives no_option 2 'from-perf: unrecognized arguments: --buffer; *' "$tools/from-perf" --buffer one
 
-# Files that neither of them turns, in one line.
+# Files that neither of them converts, which one line says.
 gzip -c "$folder/perf" >"$folder/packed.gz"
 gives packed 1 'from-perf: */packed.gz is packed by gzip: unpack it first, by gzip -d' "$tools/from-perf" "$folder/packed.gz"
 : >"$folder/empty"
@@ -438,7 +438,7 @@ gives other_text 1 'from-perf: */trace-cmd is no text of perf script, but of tra
 gives other_text_too 1 'from-trace-cmd: */perf is no text of trace-cmd report, but of perf script or like it; tools/from-perf *' \
     "$tools/from-trace-cmd" "$folder/perf"
 
-# Recordings, and programs that stand for perf and trace-cmd.
+# Recordings, and programs that stand in for perf and trace-cmd.
 printf 'PERFILE2 and more' >"$folder/perf.data"
 printf '\x17\x08\x44tracing6' >"$folder/trace.dat"
 gives other_recording 1 'from-perf: */trace.dat is a recording of trace-cmd, which tools/from-trace-cmd converts' \
@@ -464,7 +464,7 @@ done
 script perf 'echo "File perf.data not owned by current user or root (use -f to override)" >&2' 'exit 255'
 PATH=$folder/bin:$PATH gives not_own 1 "from-perf: */perf.data is of $(id -un), and perf reads * copy or chown it first" \
     "$tools/from-perf" "$folder/perf.data"
-# What perf says of losses is passed on, what it always says is not.
+# What perf says about losses is passed on; what it always says is not.
 script perf "cat '$folder/perf'" "printf '%s\n' \"'trace' not valid for hardware events. Ignoring.\" Warning: \
     'Processed 9 events and lost 2 chunks!' '' >&2"
 PATH=$folder/bin:$PATH gives warned 0 'from-perf: perf says: Processed 9 events and lost 2 chunks!' \
@@ -472,7 +472,7 @@ PATH=$folder/bin:$PATH gives warned 0 'from-perf: perf says: Processed 9 events 
 
 holds "$tests/tools/turned.py" "$tools"
 
-# ---- record: a folder stands for tracefs, and its instance is made and taken away by programs of these names.
+# ---- record: a folder stands in for tracefs, and programs called mkdir and rmdir make its instance and take it away.
 
 tracefs=$folder/tracefs
 model=$folder/instance
@@ -490,7 +490,8 @@ printf '%s\n' "$trace" >"$model/trace"
 script mkdir "cp -r -- '$model' \"\$2\""
 script rmdir "rm -rf -- '$folder/gone'" "mv -- \"\$2\" '$folder/gone'"
 
-# counts OVERRUN..: the counts of the two CPUs, of which the second one has lost 6 events otherwise if it has overwritten some.
+# counts OVERRUN COMMIT_OVERRUN DROPPED: writes the counts of two CPUs: how many events the first one has overwritten, and how
+# many the second one has lost in two other ways.
 counts() {
     printf '%s\n' 'entries: 3' "overrun: $1" 'commit overrun: 0' 'bytes: 99' 'dropped events: 0' 'read events: 9' \
         >"$model/per_cpu/cpu0/stats"
@@ -498,7 +499,7 @@ counts() {
         >"$model/per_cpu/cpu1/stats"
 }
 
-# records WHAT STATUS ERROR WORD..: record's status and standard error, and its instance is not there any more.
+# records WHAT STATUS ERROR WORD..: checks record's status and standard error, and that its instance is gone.
 records() {
     PATH=$folder/bin:$PATH gives "${@:1:3}" "$tools/record" --tracefs "$tracefs" "${@:4}"
     is_away "$1"
@@ -512,7 +513,7 @@ is_away() {
     fi
 }
 
-# settings WHAT BUFFER CPUS EVENTS: what the instance was set to; of the events, whether each of five is on.
+# settings WHAT BUFFER CPUS EVENTS: checks what the instance was set to; EVENTS says whether each of five events is on.
 settings() {
     local file text=
     for file in tracing_on trace_clock buffer_size_kb tracing_cpumask options/{latency-format,stacktrace,verbose,context-info} \
@@ -526,7 +527,7 @@ settings() {
     fi
 }
 
-# runs SIGNAL STATUS WORD..: a signal ends record while it records; its status.
+# runs SIGNAL STATUS WORD..: ends record by a signal while it records, and checks its status.
 runs() {
     local run try
     PATH=$folder/bin:$PATH timeout "$limit" env --default-signal=INT "$tools/record" --tracefs "$tracefs" "${@:3}" \
@@ -569,7 +570,7 @@ records command_apart 0 $'record: cat ended with status 0\nrecord: 7 events, 0 l
 prints command_apart said
 gives command_file 0 "" cat -- "$folder/chosen"
 prints command_file "$trace"
-# Without Python the text is passed as it is.
+# Without Python the text is passed on as it is.
 mkdir -- "$folder/few"
 for name in bash mkdir rmdir cat awk sort sed sleep dirname realpath cp rm mv; do
     ln -s -- "$(PATH=$folder/bin:$PATH type -P "$name")" "$folder/few/$name"

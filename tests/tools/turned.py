@@ -1,12 +1,12 @@
 #!/usr/bin/env python3
-"""Gives from-perf, from-trace-cmd and record's kernel_text texts whose truth is known, and what they print to the program.
+"""Gives texts whose truth is known to from-perf, from-trace-cmd and record's kernel_text, and what they print to the program.
 
     turned.py TOOLS [SEED]
 
-TOOLS is the folder of the scripts; the program is the one that HISTDESK names. Another SEED gives other texts. What they
-print has to be loaded, line for line, and what isn't printed has to be counted. The texts hold over 10,000 torn lines,
+TOOLS is the folder of the scripts; the program is the one that HISTDESK names. Another SEED gives other texts. What the
+scripts print has to be loaded, line for line, and what isn't printed has to be counted. The texts hold over 10,000 torn lines,
 names made to mislead, several buffers, and foreign bytes. The truth is the events that the texts were written from, and
-tests/model/model_line.py, which reads lines by the documents. The last line says how many of how many things hold."""
+tests/model/model_line.py, which reads lines as the documents say. The last line says how many of how many things hold."""
 
 import io
 import os
@@ -30,7 +30,7 @@ PYTHON = os.path.join(os.path.dirname(TOOLS), "python")
 sys.path.insert(0, PYTHON)
 PROGRAM = os.environ["HISTDESK"]
 TORN, ODD = 4000, 1500
-# What misleads where it stands in a name, a line or between two.
+# What misleads in a name, in a line or between two lines.
 BITS = ["-12 [003] ", "-1 [000] 1.0: ", "\n", "\n\n", " ", "#", " ==> next_comm=", "[", "] ", ":", " pid=7", " prio=1"]
 BITS += [" next_pid=5", " prev_state=R", "=", "-", "7", " 12 [0", "CPU:1 [LOST ", "one: ", "a", "xyz", "(  -9) ", "\t", "\r"]
 BITS += ["5 ", "\x1b[m", "\xe9\xff"]
@@ -39,7 +39,7 @@ EVENTS = ["sched_waking", "sched_wakeup", "sched_wakeup_new", "sched_switch", "i
 
 
 class Happened(NamedTuple):
-    """An event, as a text is written from it."""
+    """An event from which a text is written."""
 
     task: str
     pid: int
@@ -66,7 +66,7 @@ class Happened(NamedTuple):
 
 
 def some_events(draw: random.Random, count: int, name: Callable[[], str]) -> List[Happened]:
-    """Events in the order of time, with names that `name` makes."""
+    """Return events in the order of time, with names that `name` makes."""
     nanos, events = 3_000_000_000 * draw.randint(1, 99), []
     for _ in range(count):
         nanos += draw.choice([1, 499, 500, 501, 999, 999_999, 10_000_500])
@@ -81,18 +81,18 @@ def nanos(event: Happened) -> str:
 
 
 def perf_text(event: Happened) -> str:
-    """What `perf script` prints of an event."""
+    """Return what `perf script` prints for an event."""
     name = ("sched:" if event.name.startswith("sched_") else "irq:") + event.name
     return f"{event.task:>16} {event.pid:5} [{event.cpu:03}] {nanos(event):>15}: {name:>24}: {event.fields}"
 
 
 def report_text(event: Happened) -> str:
-    """What `trace-cmd report` prints of an event."""
+    """Return what `trace-cmd report` prints for an event."""
     return f"{event.task:>16}-{event.pid:<5} [{event.cpu:03}] {nanos(event):>16}: {event.name + ':':<21} {event.fields}"
 
 
 def kernel_text(event: Happened) -> str:
-    """What the kernel prints of an event."""
+    """Return what the kernel prints for an event."""
     stamp = "{:>5}.{:06}".format(*divmod(event.micros, 10**6))
     return f"{event.task:>16}-{event.pid:<7} [{event.cpu:03}] d..2. {stamp}: {event.name}: {event.fields}"
 
@@ -105,7 +105,7 @@ FORMS: Dict[str, Tuple[Callable[[Happened], str], List[str]]] = {
 
 
 def converted(words: List[str], text: bytes) -> Tuple[int, bytes, List[str]]:
-    """The status of a script that is given a text in a file, and what it says on both streams."""
+    """Return the status of a script that is given a text in a file, and what it writes on both streams."""
     with tempfile.NamedTemporaryFile() as file:
         file.write(text)
         file.flush()
@@ -117,7 +117,7 @@ def converted(words: List[str], text: bytes) -> Tuple[int, bytes, List[str]]:
 
 
 def loaded(trace: bytes) -> str:
-    """What the program prints as it loads a trace."""
+    """Return what the program prints as it loads a trace."""
     with tempfile.NamedTemporaryFile() as file:
         file.write(trace)
         file.flush()
@@ -126,20 +126,20 @@ def loaded(trace: bytes) -> str:
 
 
 def lines_of(trace: bytes) -> List[str]:
-    """The lines that are no comments and tell of no losses, one by one."""
+    """Return the lines of a trace, except blank ones, comments and those that report losses."""
     lines = trace.decode("latin-1").split("\n")
     return [line for line in lines if line.strip(" ") and not re.match(r"#|CPU:[0-9]+ \[LOST ([0-9]+ )?EVENTS\]\Z", line)]
 
 
 def left_out(said: List[str]) -> int:
-    """How many lines were left out, as standard error says."""
+    """Return how many lines were left out, as standard error says."""
     shown = sum(bool(re.fullmatch("[a-z-]+: line [0-9]+: .*", line)) for line in said)
     more = [int(found[1]) for found in map(re.compile(".*: ([0-9]+) more lines can't be converted.*").fullmatch, said) if found]
     return shown + sum(more)
 
 
 def meaning(line: str) -> Any:
-    """What a line means, by the documents."""
+    """Return what a line means, as the documents say."""
     try:
         return read_line(line)
     except LineFault as fault:
@@ -147,13 +147,13 @@ def meaning(line: str) -> Any:
 
 
 def is_name(read: str, true: str, is_task: bool = False) -> bool:
-    """Whether a name is the true one, except for bytes that are masked; blanks before a task's name are lost in every text."""
+    """Return whether a name is the true one, except for masked bytes; blanks before a task's name are lost in every text."""
     true = true.lstrip(" ") if is_task else true
     return len(read) == len(true) and all(one in (other, "?") for one, other in zip(read, true))
 
 
 def is_true(read: Any, event: Happened) -> bool:
-    """Whether a line was read as the event that it was written from."""
+    """Return whether a line was read as the event that it was written from."""
     if isinstance(read, str) or not is_name(read["task"], event.task, True):
         return False
     if (read["line_pid"], read["cpu"], read["stamp"]) != (event.pid, event.cpu, event.micros):
@@ -170,7 +170,7 @@ def is_true(read: Any, event: Happened) -> bool:
 
 
 def torn(draw: random.Random, line: str, other: str) -> str:
-    """A line that lacks some bytes, or has some of its own or of another one's too many."""
+    """Return a line that lacks some bytes, or has too many, its own or those of another line."""
     at, kind = draw.randint(0, len(line)), draw.randint(0, 5)
     if kind == 0:
         return line[:at]
@@ -186,7 +186,7 @@ def torn(draw: random.Random, line: str, other: str) -> str:
 
 
 def check_torn(name: str, seed: int) -> int:
-    """Torn lines, a whole one after each, so that none is a piece of another one. How many weren't printed."""
+    """Check torn lines, each with a whole one after it, so that none is a piece of another; return how many weren't printed."""
     draw, (text_of, words) = random.Random(seed), FORMS[name]
     events = some_events(draw, TORN + 1, lambda: draw.choice(PLAIN))
     whole = [text_of(event) for event in events]
@@ -209,7 +209,8 @@ def check_torn(name: str, seed: int) -> int:
 
 
 def check_sure(lines: List[str]) -> None:
-    """Lines that the converters take for sure are read by the documents, too, and those that they skip are skipped."""
+    """Check that lines that the converters take for sure ones can be read as the documents say, and that those that they skip
+    are skipped."""
     from histdesk.convert.line_patterns import SKIPPED, SURE
 
     sure = [line for line in lines if SURE.fullmatch(line.encode("latin-1"))]
@@ -222,14 +223,14 @@ def check_sure(lines: List[str]) -> None:
 
 
 def odd_name(draw: random.Random) -> str:
-    """A name of up to 15 bytes that is made to mislead."""
+    """Return a name of up to 15 bytes that is made to mislead."""
     if draw.random() < 0.3:
         return draw.choice(["bash", "a b", "kworker/u8:1"])
     return "".join(draw.choices(BITS, k=draw.randint(0, 4)))[:15]
 
 
 def check_names(name: str, seed: int) -> None:
-    """Whole lines with odd names: each is turned, and means what it should."""
+    """Check that each whole line with odd names is converted, and means what it should."""
     draw, (text_of, words) = random.Random(seed), FORMS[name]
     events = some_events(draw, ODD, lambda: odd_name(draw))
     status, trace, said = converted(words, "".join(text_of(event) + "\n" for event in events).encode("latin-1"))
@@ -255,7 +256,7 @@ class Drip(io.RawIOBase):
 
 
 def check_pieces(seed: int) -> None:
-    """A text that comes in small pieces is turned as one that comes at once."""
+    """Check that a text that comes in small pieces is converted like one that comes at once."""
     from histdesk.convert.conversion import convert_text
     from histdesk.convert.perf import PerfFormat
     from histdesk.convert.report import Report
@@ -278,8 +279,8 @@ def check_pieces(seed: int) -> None:
 
 
 def check_gone() -> None:
-    """An event of a task that is gone is of the task to which its CPU has switched, however long before that was; but not if
-    the CPU has lost events since."""
+    """Check that an event of a task that is gone gets the task to which its CPU has switched, however long before that was,
+    unless the CPU has lost events since."""
 
     def line(task: str, thread: int, cpu: int, at: int, event: str) -> str:
         return f"{task:>16} {thread:>7} [{cpu:03}] {1000 + at // 1000000:>5}.{at % 1000000:06}000: {event}"
@@ -290,7 +291,7 @@ def check_gone() -> None:
 
     waking = "sched:sched_waking: comm=b pid=8 prio=120 target_cpu=000"
     lost = "perf     0 [002]  1000.000003: PERF_RECORD_LOST lost 5"
-    # More than is turned at once, several times.
+    # Several times as much as is converted at once.
     others = [line("other", 5, 1, 10 + at, waking) for at in range(20000)]
     gone = [line(":-1", -1, cpu, 30000 + cpu, waking) for cpu in (2, 3)]
     text = "\n".join([switch(2, 1), switch(3, 2), lost, *others, *gone, ""]).encode()
@@ -303,7 +304,7 @@ def check_gone() -> None:
 
 
 def check_kept(seed: int) -> None:
-    """record's script looks once at lines that differ in digits alone, and finds what its pattern finds in each."""
+    """Check that record's script looks once at lines that differ only in digits, and finds what its pattern finds in each."""
     from histdesk.convert.kernel_text import KernelFormat
 
     draw = random.Random(seed)
@@ -317,7 +318,7 @@ def check_kept(seed: int) -> None:
     lines += [torn(draw, line, draw.choice(lines)) for line in lines] + ["", "# a comment", "CPU:1 [LOST 7 EVENTS]"]
     form, wrong, kept = KernelFormat(), [], 0
     for _ in range(2000):
-        # Most pieces of a text have plain lines alone.
+        # Most pieces of a text have only plain lines.
         some = draw.sample(lines[: 2000 if draw.random() < 0.8 else None], draw.randint(0, 3))
         text = "".join(line + "\n" for line in some).encode("latin-1")
         found, count = form.pattern.findall(text), form.unchanged(text)
@@ -329,12 +330,12 @@ def check_kept(seed: int) -> None:
 
 
 def is_limit(text: bytes) -> bool:
-    """Whether so many digits stand in a CPU or in seconds that they decide: such a piece is not kept at once."""
+    """Return whether a CPU or seconds have so many digits that these decide: such a piece is not kept at once."""
     return bool(re.search(rb"\[[0-9]{4}\]| [0-9]{10}\.", text))
 
 
 def check_ahead(seed: int) -> None:
-    """A file is read ahead in pieces that are its bytes; if it can't be read, that is raised."""
+    """Check that a file is read ahead in pieces that are its bytes, and that an error is raised if it can't be read."""
     from histdesk.convert.conversion import SIZE, Ahead, Source
 
     for size in (0, 1, SIZE, SIZE + 1, 9 * SIZE + 7):
@@ -360,8 +361,8 @@ def check_ahead(seed: int) -> None:
 
 
 def check_buffers(seed: int, names: List[str]) -> None:
-    """Of several buffers each is taken by its name, as if it were alone. The top one has no name here. No name of a task has a
-    buffer's columns after a line break: such a line is left out."""
+    """Check that each of several buffers is taken by its name, as if it were alone. The top one has no name here. No name of a
+    task has a buffer's columns after a line break: such a line is left out."""
     draw, width = random.Random(seed), max(map(len, names)) + 2
     words = FORMS["from-trace-cmd"][1]
     mixed, alone = "cpus=4\n", {name: "cpus=4\n" for name in names}
@@ -390,7 +391,7 @@ def check_buffers(seed: int, names: List[str]) -> None:
 
 
 def check_foreign(name: str, seed: int) -> None:
-    """What is no such text ends at once, in one line and with status 1."""
+    """Check that a script ends at once, with one line and status 1, if it is given something else than such a text."""
     draw, words = random.Random(seed), FORMS[name][1]
     line = bytes(range(1, 256)).replace(b"\n", b"")
     texts = {

@@ -12,7 +12,7 @@ from .._invocation import tool as tool_command
 from .._schema import LINE_EVENTS, WAIT_EVENTS, WAIT_KINDS
 
 STAMP = re.compile(r"([0-9]{1,10})(?:\.([0-9]{1,6}))?")
-# No more parts of a trace are read at once.
+# The most parts of a trace that are read at once.
 MOST_JOBS = 512
 
 

@@ -209,12 +209,13 @@ COMMANDS = {**SCRIPT_COMMANDS, **PROMPT_COMMANDS}
 
 
 def forms_of(command: Command, is_typed: bool = False) -> str:
-    """Return the forms of a command in one line; of a command of scripts, those of the prompt only if `is_typed`."""
+    """Return the forms of a command in one line. For a command of scripts, the forms that only the prompt has are included
+    only if `is_typed`."""
     forms = [form.text for form in command.forms if is_typed or not form.is_typed or not command.in_scripts]
     return ", or ".join(forms)
 
 
 def list_of(commands: tuple[Command, ...], is_typed: bool = False) -> str:
-    """Return a list of commands, a line for each form; those of the prompt only if `is_typed`."""
+    """Return a list of commands, a line for each form. The forms that only the prompt has are included only if `is_typed`."""
     forms = [form for command in commands for form in command.forms if is_typed or not form.is_typed]
     return "".join(f"  {form.text:<20}  {form.summary}\n" for form in forms)

@@ -19,7 +19,7 @@ except ImportError:
     # Then the terminal edits the line.
     readline = None  # type: ignore[assignment]
 
-# So many lines of the history are kept.
+# How many lines of the history are kept.
 MOST_LINES = 1000
 # A word of a trigger or a filter begins after one of these.
 DELIMITERS = " \t,:=(.$!&|<>-@/"

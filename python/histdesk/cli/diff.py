@@ -56,7 +56,7 @@ was still running then. A line reports how many waits there are of each kind.
 TRACE is the text of the kernel's trace file, compressed by gzip or not, or a recording of perf or
 trace-cmd; - is standard input.
 tools/waits --help says what a wait is."""
-# So many rows are printed in a terminal.
+# How many rows are printed in a terminal.
 ROWS = 30
 # Stands for `--` among the recordings, so that options may follow; no argument can contain it.
 SEPARATOR = "\0"
@@ -171,7 +171,7 @@ def waits_in(options: argparse.Namespace, path: str) -> Waits:
 
 
 def comparison_of(options: argparse.Namespace, by: str) -> Comparison:
-    """Return what is asked for of several recordings, of which waits are counted and not kept."""
+    """Return what is asked for of several recordings; their waits are counted and not kept."""
     from .._comparison import Comparison
 
     before, after = ([counts_in(options, path, by) for path in side] for side in (options.before, options.after))
@@ -276,7 +276,7 @@ def write(names: Sequence[str], rows: Iterable[Sequence[object]], front: Mapping
 
 
 def front_of(difference: Difference, parts: Mapping[Key, ComparisonRow], options: argparse.Namespace) -> dict[str, object]:
-    """Return what JSON has of one recording or two beside the rows."""
+    """Return what JSON has of one recording or two besides the rows."""
     from .. import _diff, _noise
 
     columns = [*_diff.COLUMNS, *_diff.spread_columns(difference)]
@@ -311,7 +311,7 @@ def compare_sides(options: argparse.Namespace) -> None:
     from .. import _diff
 
     difference = difference_of(options)
-    # First, so that waits are counted once.
+    # This comes first, so that waits are counted only once.
     parts = difference.parts(options.by)
     rows = difference.table(options.by, sort=options.sort, above=options.above)
     if not (options.json or options.csv):

@@ -47,7 +47,7 @@ STRICT = """stop at the first refused line, with status 1, so that a refused `lo
 
 
 class Feed(NamedTuple):
-    """Where a script comes from that can be read only once, and the arguments of the program that is fed with it."""
+    """Where a script that can be read only once comes from, and the arguments of the program that is fed with it."""
 
     source: int
     words: list[str]
@@ -70,7 +70,7 @@ def is_read_once(path: str) -> bool:
 
 
 def why_no_script(path: str | None) -> str | None:
-    """Return what a script is that is none, or None; the path is None for standard input."""
+    """Return why a file can't be the script, or None if it may be one; the path is None for standard input."""
     front = first_bytes(0 if path is None else path)
     kind = None if path is None else for_program(front, path)
     if kind is None and looks_like_trace(front):

@@ -33,7 +33,7 @@ def lenient_hint(path: str | None) -> str:
 
 
 def crlf_hint(path: str) -> str | None:
-    """Return that most lines of a file end with carriage returns, and what removes them; None if they don't."""
+    """Return the hint that most lines of a file end with carriage returns, and what removes these; None if they don't."""
     lines = front_lines(path)
     if 2 * sum(line.endswith(b"\r") for line in lines) <= len(lines):
         return None
@@ -43,7 +43,7 @@ def crlf_hint(path: str) -> str | None:
 
 
 def no_trace_hint(path: str) -> str | None:
-    """Return that a file is no trace, or one of another layout; None if it may be one, by its first bytes."""
+    """Return the hint that a file is no trace, or one of another layout; None if it may be a trace, by its first bytes."""
     from .._event_lines import holds_event
 
     lines = front_lines(path)
@@ -55,7 +55,7 @@ def no_trace_hint(path: str) -> str | None:
 
 
 def front_lines(path: str) -> list[bytes]:
-    """Return the lines with which a file begins, which gzip may have packed, as far as 65,536 bytes have them as a whole."""
+    """Return the lines with which a file begins, as far as they are whole within 65,536 bytes; gzip may have packed it."""
     front = first_bytes(path)
     if front.startswith(GZIP):
         with contextlib.suppress(zlib.error):
@@ -73,7 +73,7 @@ def line_hint(fault: int, line: str, is_cut: bool = False) -> str:
     line
         The line, without its line break.
     is_cut
-        Whether no line break ends it, as one ends each line of a trace.
+        Whether it lacks the line break that ends each line of a trace.
     """
     cut = "; the file ends in this line, and may have been cut off" if is_cut else ""
     if line.endswith("\r"):
@@ -204,7 +204,7 @@ def trigger_hint(event: str, text: str, numbers: Mapping[str, int]) -> tuple[str
 
 
 def bad_form(text: str, place: int) -> str:
-    """Return what is wrong at a place of a trigger that has not the form of one."""
+    """Return what is wrong at a place of a trigger that doesn't have the form of one."""
     head = beginning("[^ \t]*", text)
     if not head.startswith("hist:"):
         return "a trigger begins with hist:" + wrong_begin(text, head)
@@ -230,7 +230,7 @@ def wrong_begin(text: str, head: str) -> str:
 
 
 def eaten(before: str, rest: str) -> str:
-    """Return what is known of an item of values or of sorting without a name: a shell may have replaced a name with a $."""
+    """Return what is known of an item of values or of sorting that has no name: a shell may have replaced its $NAME."""
     word = before.rpartition(":")[2].partition("=")[0]
     is_nameless = re.match(r"(\.ascending|\.descending)?([,:]|$)", rest)
     return f"; {EATEN}" if is_nameless and KINDS.get(word) in ("vals", "sort") else ""
@@ -263,7 +263,7 @@ def other_unit(stamp: re.Match[str] | None) -> str:
 
 
 def bad_variable(name: str, value: str) -> str:
-    """Return what is wrong with a variable part NAME=VALUE that has no form of one, or is one too many."""
+    """Return what is wrong with a variable part NAME=VALUE that doesn't have the form of one, or is one too many."""
     stamp = STAMP.search(value)
     if VARIABLE.fullmatch(f"{name}={value}"):
         return "; a trigger has one variable, and this is its second"

@@ -27,7 +27,7 @@ class Source(Protocol):
 
 
 def about(source: Source) -> dict[str, object]:
-    """Return what was read. Stamps are in microseconds, as all times."""
+    """Return what was read. Stamps are in microseconds, like all times."""
     held = source.held
     return {
         "trace": source.path,

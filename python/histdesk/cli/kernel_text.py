@@ -1,4 +1,4 @@
-"""kernel_text TOOL FILE: prints the text of the kernel's trace file with the names masked that would mislead the desk.
+"""kernel_text TOOL FILE: prints the text of the kernel's trace file, in which names that would mislead the desk are masked.
 
 record.sh runs it as `python3 -m histdesk.cli.kernel_text`; messages begin with TOOL.
 """

@@ -34,7 +34,7 @@ LESS = f"{tool('desk')} --from STAMP --until STAMP, or --events sched_waking,sch
 
 
 class DeskRefusals(Refusals):
-    """What refusals of commands mean that are typed: triggers are named by their ids, and traces also by their paths."""
+    """What refusals of typed commands mean: triggers are named by their ids, and traces also by their paths."""
 
     def __init__(self, traces: list[str]) -> None:
         super().__init__(traces, LESS, unpacks=True)
@@ -210,7 +210,7 @@ class Prompt:
         self.say_of(word, answer)
 
     def prompt_answer(self, word: str, rest: str) -> bytes:
-        """Return what a command prints that scripts don't have."""
+        """Return what a command that scripts don't have prints."""
         try:
             text = self.methods[word](rest)
         except Refused as refused:

@@ -145,9 +145,9 @@ stats() {
     done
 }
 
-# Reports how many events there are, and which CPUs lost some. If a buffer was too small, lines of the trace have the number of
-# events that each CPU has overwritten, and standard error the size that would have been enough: larger by as much as there were
-# more events, and a tenth, rounded up in steps of an eighth to a quarter.
+# Reports how many events there are, and which CPUs lost some. If a buffer was too small, lines of the trace say how many
+# events each CPU has overwritten, and standard error reports the size that would have been enough: it is larger in proportion
+# to the events that there were, and by another tenth, rounded up in steps of an eighth to a quarter.
 report_losses() {
     local line
     while read -r line; do

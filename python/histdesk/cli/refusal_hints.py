@@ -21,7 +21,7 @@ from .texts import INDENT, near, excerpt, with_caret
 
 # The refusals of a line, a trigger and a filter that can't be read.
 UNREADABLE = (3, 8, 9)
-# What makes less of a trace that has more events than a desk holds.
+# How to take less of a trace that has more events than a desk holds.
 LESS = "take the events that you ask about, as grep -E 'sched_(waking|switch):' does, or a stretch of it"
 
 
@@ -44,7 +44,7 @@ class Refusals:
         traces
             Their paths, in the order of their numbers.
         less
-            How less of a trace is taken.
+            How to take less of a trace.
         unpacks
             Whether traces that gzip has packed are read.
         width
@@ -63,7 +63,7 @@ class Refusals:
 
     def explain(self, front: str, asked: str, text: str, path: str | None = None) -> list[str]:
         """Return the lines that explain a refusal: the command, a caret under the place that is meant, and the library's
-        message with a hint; of a trace also its line.
+        message with a hint; for a trace, also its line.
 
         Parameters
         ----------
@@ -187,7 +187,7 @@ class Refusals:
         return {own: id for id, (own, other) in variables.items() if own and not other}
 
     def why_unmatched(self, refused: int, trigger: str) -> str:
-        """Return why no trigger saves what another one reads, or saves it by other keys."""
+        """Return why no trigger saves what another one reads, or which trigger saves it by other keys."""
         savers, read = self.savers(), variable_of(trigger)[1] or ""
         event = matched_event(trigger)
         if refused == 13 and event and read in savers:
@@ -204,7 +204,7 @@ class Refusals:
         )
 
     def elsewhere(self, id: int, read: str, event: str) -> str:
-        """Return which trigger saves a variable, on another event than is named."""
+        """Return which trigger saves a variable on another event than the one that is named."""
         saved = f"trigger {id}{self.line_of_trigger(id)} saves {excerpt(read)[0]}, on {self.triggers[id].event}"
         return f"{saved} and not on {event}, which onmatch names; did you mean sched.{self.triggers[id].event}?"
 

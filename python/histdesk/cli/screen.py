@@ -14,7 +14,7 @@ from ..native import layout
 
 # The options of less, unless LESS has others: end by itself if everything fits, and leave the text on the screen.
 LESS = "FRX"
-# An answer that is cut has so many lines at its beginning.
+# How many lines are kept at the beginning of an answer that is cut.
 FRONT = 10
 
 

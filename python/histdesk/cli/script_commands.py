@@ -107,7 +107,7 @@ def bad_command(command: str, traces: Sequence[str], names: Iterable[str] = SCRI
 
 
 def bad_event(rest: str, at: int) -> Hint:
-    """Return why the rest of an `attach` names no event; it is at a place of the line."""
+    """Return why the rest of an `attach`, which is at a place of the line, names no event."""
     event, _ = split_command(rest)
     if not event:
         return f": no event is named; the form is {forms_of(COMMANDS['attach'])}", at

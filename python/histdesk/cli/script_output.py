@@ -15,7 +15,7 @@ from .script_commands import LONGEST, numbers_of, split_command
 
 LATENCY = re.compile(r"[0-9]+:[0-9]+ -> [0-9]+:[0-9]+: [0-9]+ us")
 LISTED = re.compile(r"([0-9]+):([0-9]+) .*", re.DOTALL)
-# What histwatch prints of a row after an accepted insert or strike, and last of how many rows.
+# What histwatch prints of a row after an accepted insert or strike, and at the end, how many rows differ.
 ROW = re.compile(r"[-+] [0-9]+ \{ .*")
 CHANGED = re.compile(r"changed [0-9]+")
 
@@ -67,7 +67,7 @@ class Walk:
     def __init__(self, script: Script, traces: list[str], width: int = COLUMNS) -> None:
         """Begin to go through the output of a script over traces, whose explanations have lines of this width."""
         self.script, self.refusals = script, Refusals(traces, width=width)
-        # What the answer that is being printed ends with, or the lane and line that were list_place last.
+        # What the answer that is being printed ends with, or the lane and line that were listed last.
         self.end: str | None = None
         self.list_place: tuple[int, int] | None = None
         # Whether rows that changed may come, and then how many they are.

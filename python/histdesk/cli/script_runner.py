@@ -48,9 +48,9 @@ class Answer(NamedTuple):
     output
         What is printed.
     path
-        Of a `load`, the path of the trace; otherwise None.
+        For a `load`, the path of the trace; otherwise None.
     loaded
-        Of a `load`, what `Desk.load` returns; otherwise None.
+        For a `load`, what `Desk.load` returns; otherwise None.
     """
 
     output: bytes = b""

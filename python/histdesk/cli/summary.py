@@ -23,7 +23,7 @@ recording of perf or trace-cmd; - is standard input. TRACE may be of any length.
 A run counts if both of its switches were recorded, and a wait as in tools/waits, which also prints
 the waits by kind. The columns `at` and `where` are the timestamp and the CPU:LINE of the switch
 that ended the longest wait: tools/why explains that wait. REFERENCE.md, Sums, has the rules."""
-# So many rows are shown in a terminal.
+# How many rows are shown in a terminal.
 ROWS = 30
 
 

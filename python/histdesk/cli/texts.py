@@ -11,7 +11,7 @@ from collections.abc import Iterable, Sequence
 from .._columns import COLUMNS, wrapped
 from .._schema import MADE_EVENT, field_names
 
-# So many columns are shown of a long text, unless a line has fewer.
+# How many columns of a long text are shown, unless a line has fewer.
 MOST_SHOWN = 300
 # The narrowest terminal that lines are fitted to.
 NARROWEST = 40

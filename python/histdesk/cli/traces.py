@@ -1,4 +1,4 @@
-"""The traces that tools read: as their options say, with what was lost or left out on standard error."""
+"""How tools read traces: as their options say, and with a report on standard error of what was lost or left out."""
 
 from __future__ import annotations
 
@@ -26,9 +26,9 @@ if TYPE_CHECKING:
 
 SomeAnswer = TypeVar("SomeAnswer", bound="Answer")
 
-# So many numbers of lines are printed.
+# How many numbers of lines are printed.
 MOST_LINES = 5
-# After so many seconds a tool says how far it is, and so many seconds later again.
+# After how many seconds a tool reports how far it is, and how many seconds later it does so again.
 PATIENCE, AGAIN = 2.0, 0.5
 
 
@@ -232,7 +232,7 @@ class Watch:
 
     def __init__(self, path: str, tool: str) -> None:
         self._path, self._tool = path, tool
-        # Of how many bytes, or 0.
+        # The size of what is read, in bytes, or 0 if it isn't known.
         self.size = 0
         self._read, self._since, self._reported = 0, time.monotonic(), 0.0
 
@@ -273,7 +273,7 @@ def source_of(path: str, is_read_again: bool = True) -> Trace:
 
 
 def check_kind(text: Piece, path: str) -> None:
-    """Raise `Stop` if a text that begins so is packed, another tool's recording or what that printed."""
+    """Raise `Stop` if a text with this beginning is packed, or is another tool's recording or what that tool printed."""
     message = why_no_trace(bytes(text[:FRONT_ROOM]), path)
     if message:
         raise Stop(message)

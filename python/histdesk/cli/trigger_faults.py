@@ -26,7 +26,7 @@ def offender(event: str, text: str, fault: int) -> Fault:
         if in_this:
             place = at + in_this[0]
             name = beginning("[A-Za-z0-9_]*", head[place:])
-            # The name of a variable needs a $, also if its own part is still wrong.
+            # The name of a variable needs a $, even if its own part is still wrong.
             is_own = fault == 3 and name not in KINDS and f":{name}=" in head
             return place, f"; did you mean ${name}?" if is_own else in_this[1]
         at += len(part) + 1

@@ -107,7 +107,7 @@ def work(argv: Sequence[str] | None) -> int:
     server.listen()
     print(f"{server.address}  (Ctrl-C ends it)" if sys.stdout.isatty() else server.address, flush=True)
     if not options.no_browser and any(map(os.environ.get, DESKTOPS)):
-        # Some browsers stay until they end.
+        # With some browsers, the call returns only when they end.
         threading.Thread(target=webbrowser.open, args=[server.address], daemon=True).start()
     server.answer_all(view.prepare())
     return process.SUCCESS

@@ -24,7 +24,7 @@ The kind of a wait (woken, new, preempted) depends on the event that it begins w
 doubtful, and left out, if lost events may have made it false; REFERENCE.md, Waits, has the rules.
 The columns `at` and `where` are the timestamp and the CPU:LINE of the switch that ended the
 longest wait: tools/why explains that wait, and what ran meanwhile."""
-# So many rows are shown in a terminal, and the greatest bar of a histogram has so many signs.
+# How many rows are shown in a terminal, and how many signs the greatest bar of a histogram has.
 ROWS, BAR = 30, 40
 # What --kind names if a row has all kinds.
 ALL = "all"
@@ -144,7 +144,7 @@ def write_text(answer: WaitAnswer, options: argparse.Namespace, table: Table) ->
     print("\n".join([*answer.lines(options.doubtful), *(["", table.text] if table.rows else [])]))
     if table.left_out:
         print(f"{table.left_out} more are not shown; --top all shows them")
-    # Who reads this in a terminal may want to know more at once.
+    # Whoever reads this in a terminal may want to know more at once.
     longest = table.rows[0] if table.rows and not options.histogram and options.sort is None else None
     if sys.stdout.isatty() and longest and longest.count and options.trace != "-":
         place = f"{longest.end_cpu}:{longest.end_line}"

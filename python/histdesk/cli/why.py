@@ -41,7 +41,7 @@ been waiting for it. A waking from an interrupt names the task that was interrup
 nothing to do with it: the chain ends there if the line has flags. Without flags, it goes on with
 that task, and marks the waking as `task?`."""
 LINE = "-" * 72
-# A chain has no more steps by default.
+# How many steps a chain has at most by default.
 STEPS = 32
 
 
@@ -94,7 +94,7 @@ def explainer_of(options: argparse.Namespace) -> Explainer:
         process.say("why", f"{options.trace}: {_recording.counted_from(waits.lines_from)}")
     if waits.source or options.trace == "-":
         return _explainer.explainer_with(waits, traces.source_of(options.trace), options.lenient)
-    # It isn't in the order of time. What was lost has been reported.
+    # The trace isn't in the order of time. What was lost has been reported.
     choice = _recording.Choice(options.start, options.until)
     text = traces.checked_text(options.trace)
     return _explainer.part_explainer(_recording.read_text(options.trace, text, choice, options.lenient))
@@ -144,7 +144,7 @@ def write_json(options: argparse.Namespace, path: str | None, waits: Iterator[Wh
 
 
 def json_of(why: Why, options: argparse.Namespace) -> dict[str, Any]:
-    """Return a wait as plain data. Stamps are in microseconds, as all times."""
+    """Return a wait as plain data. Stamps are in microseconds, like all times."""
     events = {name: json_of_event(getattr(why, name)) for name in ("begin", "end", "queued", "slept")}
     lists: dict[str, Sequence[Any]] = {"shares": why.shares, "holes": why.holes}
     if options.all:

@@ -26,7 +26,7 @@ from .report import ConversionError
 if TYPE_CHECKING:
     from .conversion import Converter
 
-# Converted lines, in a piece of memory that another program writes into or not.
+# Converted lines: bytes, or a piece of memory that another program writes into.
 Lines: TypeAlias = bytes | memoryview
 
 HEAD = struct.Struct("<3scIII")
@@ -34,15 +34,15 @@ MARK = b"\0hd"
 LINES, MAPPED, AWAITED, PRINTED, END = b"L", b"M", b"A", b"T", b"E"
 # The pieces of memory into which lines are written, and what stands in a command for the argument that names it.
 PIECES, PIECE_ROOM, MEMORY = 32, (1 << 18) + 512, "memory"
-# So many bytes has the pipe from a tool. The number is Linux's of the call that sets it.
+# How many bytes the pipe from a tool is to hold, and Linux's number of the call that sets this.
 PIPE, SET_PIPE_SIZE = 1 << 20, getattr(fcntl, "F_SETPIPE_SZ", 1031)
 # No block is larger.
 MOST = 1 << 24
-# So many bytes of converted lines are kept, in which the lines before an event are looked for.
+# How many bytes of converted lines are kept, in which the lines before an event are looked for.
 KEPT = 1 << 20
-# So many bytes wait until what the tool printed among them is converted at once.
+# How many bytes wait before what the tool printed among them is converted, all at once.
 WAITING = 1 << 18
-# So many bytes of what a tool prints first are compared.
+# How many bytes of what a tool prints first are compared.
 FRONT = 1 << 16
 
 
@@ -71,7 +71,7 @@ class Sink:
     def __init__(self, file: IO[bytes]) -> None:
         self.file = file
         self.size, self.sum = 0, 0
-        # So many bytes are still to be compared, the sum of those that were, and what it is to be.
+        # How many bytes are still to be compared, the sum of those that were compared, and what it is to be in the end.
         self.remaining, self.again, self.expected = 0, 0, 0
 
     def write(self, text: Lines) -> None:
@@ -89,7 +89,7 @@ class Sink:
         self.file.flush()
 
     def begin_again(self) -> None:
-        """From now on all is written once more."""
+        """Expect that all is written once more from now on."""
         self.remaining, self.again, self.expected = self.size, 0, self.sum
 
     def check(self) -> None:
@@ -99,13 +99,13 @@ class Sink:
 
 
 class CheckedSink:
-    """A sink with what it must begin with. Nothing goes on before that is compared."""
+    """A sink, and what its text must begin with. Nothing is passed on to it before that is compared."""
 
     def __init__(self, sink: Writer, expected: bytes) -> None:
         self.sink, self.expected, self.start = sink, expected, b""
 
     def write(self, text: Lines) -> None:
-        """Write a text. Raises `Unfit` if it begins otherwise."""
+        """Write a text. Raises `Unfit` if what is written begins otherwise."""
         if not self.expected:
             self.sink.write(text)
             return
@@ -116,7 +116,7 @@ class CheckedSink:
             self.expected, self.start = b"", b""
 
     def check(self) -> None:
-        """Raise `Unfit` if it has begun otherwise, or ended too early."""
+        """Raise `Unfit` if what was written begins otherwise, or ended too early."""
         if not self.start.startswith(self.expected):
             raise Unfit("the tool prints other lines first")
 
@@ -155,13 +155,13 @@ class Memory:
         return self.pieces[at : at + length]
 
     def free(self) -> None:
-        """Free the piece that was taken first of those that aren't free."""
+        """Of the pieces that aren't free, free the one that was taken first."""
         os.write(self.freeing, b"f")
 
 
 class Before:
-    """The lines of the last blocks, backwards; they are cut only when they are looked at. If these are not all, a look behind
-    them raises `Unfit`."""
+    """The lines of the last blocks, backwards; they are cut only when they are looked at. If these are not all lines, going
+    back further raises `Unfit`."""
 
     def __init__(self, blocks: Sequence[Lines], are_all: bool) -> None:
         self.blocks, self.are_all = blocks, are_all
@@ -178,7 +178,7 @@ class Before:
 
 
 class BlockWriter:
-    """Takes blocks, and writes what they hold. `converter` converts what the tool printed, of many blocks at once."""
+    """Takes blocks, and writes what they hold. What the tool printed is converted by `converter`, for many blocks at once."""
 
     def __init__(self, converter: Converter, sink: Writer, memory: Memory) -> None:
         self.converter, self.sink, self.memory = converter, sink, memory
@@ -309,12 +309,12 @@ def front_of(command: Sequence[str]) -> bytes:
 
 
 def begin(converter: Converter, command: Sequence[str], sink: CheckedSink, memory: Memory) -> BlockWriter:
-    """Return what takes the blocks after what the tool's own command prints first, with which they are compared. Raises
-    `Unfit`."""
+    """Return the writer that takes the blocks. What it writes is compared with what the tool's own command prints first.
+    Raises `Unfit`."""
     text = front_of(command)
     form, report = copy.deepcopy((converter.form, converter.report))
     sink.expected, _ = type(converter)(form, report).convert(form.prepared(text), False)
-    # This format knows the columns, too.
+    # Now this format knows the columns too.
     converter.form.prepared(text)
     if converter.form.holds_back:
         raise Unfit("several buffers")
@@ -340,7 +340,7 @@ def convert_quickly(converter: Converter, command: Sequence[str], path: str, sin
         assert tool.stdout
         try:
             widen(tool.stdout)
-            # Without anything that it must begin with, all is passed on.
+            # If there is nothing that it must begin with, all is passed on.
             checked = CheckedSink(sink, b"")
             is_apart = form.is_apart
             writer = (

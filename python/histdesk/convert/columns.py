@@ -1,4 +1,4 @@
-"""The texts whose lines begin COMM-PID [CPU] FLAGS STAMP: EVENT: those of trace-cmd and of the kernel."""
+"""The texts whose lines begin with `COMM-PID [CPU] FLAGS STAMP: EVENT`, which are those of trace-cmd and of the kernel."""
 
 from __future__ import annotations
 
@@ -9,11 +9,11 @@ from .lines import OWN, Line, NotConvertible, round_stamp
 from .report import Report
 from .text_format import TextFormat
 
-# The name stands to the right in 16 columns.
+# The name is aligned to the right in 16 columns.
 COLUMNS = 16
 TAIL = rb"(-[0-9]+ +(?:\( *[0-9-]+\) +)?\[[0-9]+\] +(?:[^ :\n]+ +)?)([0-9]{1,10})\.([0-9]{6}|[0-9]{9}): *(.*)"
 STRICT = re.compile(rb"(.{16})" + TAIL, re.DOTALL)
-# Only for a longer name, or if blanks were taken away, the line is cut as the desk does it.
+# If STRICT doesn't match, as for a longer name or if blanks were taken away, the line is cut as the desk does it.
 LOOSE = re.compile(rb"( *[^\n]*?)" + TAIL, re.DOTALL)
 LOST = re.compile(rb"CPU:([0-9]+) \[(?:LOST )?([0-9]+ )?EVENTS(?: DROPPED)?\]")
 # What has a CPU and a stamp is no piece of a name.
@@ -23,7 +23,7 @@ FRONTED = re.compile(rb"-[0-9]+ +(?:\( *[0-9-]+\) +)?\[[0-9]+\] +(?:[^ :\n]+ +)?
 class ColumnFormat(TextFormat):
     """A text with the name, the dash and the number of the task in columns."""
 
-    # Whether lines are converted in which the name has other columns.
+    # Whether lines in which the name has other columns are converted.
     is_loose = True
 
     def aside(self, line: bytes, report: Report) -> bytes | None:

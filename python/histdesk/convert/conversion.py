@@ -25,13 +25,13 @@ from .lines import NotConvertible, complete_line
 from .report import ConversionError, Report
 from .text_format import Groups, TextFormat
 
-# So many bytes are converted at once.
+# How many bytes are converted at once.
 SIZE = 1 << 18
 # How many seconds a pipe that had less is left alone, for as long as more comes.
 PAUSE = 0.002
-# So many pieces of a file are read ahead.
+# How many pieces of a file are read ahead.
 AHEAD = 8
-# The names of a line have no more line breaks than for so many pieces, and with them it is no longer than that.
+# The line breaks in the names of a line tear it into at most so many pieces, and as a whole it has at most so many bytes.
 PIECES, JOINED_ROOM = 46, 512
 
 
@@ -71,16 +71,16 @@ class Converter:
         self.report = report
         self.number = 1
         self.odd = form.plain([(b"",) * form.pattern.groups])[0]
-        # The lines that were converted last, and so many of those that are being converted.
+        # The lines that were converted last, those that are being converted, and how many of these precede the current one.
         self.before: LinesBefore = []
         self.current: list[bytes] = []
         self.at = 0
-        # Of the lines before those the last one of each place, the latest at the end.
+        # The last line of each place among the lines before those, with the latest at the end.
         self.last_of: dict[bytes, bytes] = {}
 
     def earlier(self) -> Iterator[bytes]:
-        """Go through the converted lines before the current one, backwards; of those from long before, through the last ones
-        that say who runs."""
+        """Go backwards through the converted lines before the current one; of those from long before, only through the last
+        ones that say who runs."""
         yield from reversed(self.current[: self.at])
         yield from reversed(self.before)
         yield from self.older()
@@ -151,8 +151,8 @@ class Converter:
         return complete_line(self.form.parts(line, self.earlier), self.form.advice)
 
     def join(self, matches: Sequence[Groups], at: int, is_last: bool) -> tuple[bytes, bool, int] | None:
-        """Return the line whose first piece is at a place, converted, whether a name was masked, and how many pieces it had;
-        None if no such line is there. Raises `NeedsMore` if that isn't known yet."""
+        """Return the line whose first piece is at a place: its converted text, whether a name was masked, and how many pieces
+        it had; None if no such line is there. Raises `NeedsMore` if that isn't known yet."""
         text = matches[at][-1]
         if not self.form.may_follow(text, None):
             return None
@@ -180,7 +180,7 @@ class Source:
         self.is_pipe = not stat.S_ISREG(os.fstat(file.fileno()).st_mode)
 
     def read(self, size: int) -> bytes:
-        """Return so many bytes, or fewer if for a moment none are there; none at the end."""
+        """Return so many bytes, or fewer if no more are there for a moment; none at the end."""
         parts: list[bytes] = []
         count = 0
         while count < size:
@@ -229,8 +229,8 @@ class Ahead:
 
 
 def pieces(first: bytes, source: Readable) -> Iterator[tuple[bytes, bool]]:
-    """Go through the whole lines of an open file of which the first bytes are read already; each with whether it is the last
-    piece."""
+    """Go through an open file, of which the first bytes are read already, in pieces of whole lines; each comes with whether it
+    is the last one."""
     parts: list[bytes] = []
     chunk = first
     while chunk:
@@ -323,7 +323,7 @@ def status_of(report: Report, is_good: bool = True) -> int:
 
 
 def check_first(form: TextFormat, path: str, first: bytes) -> bool:
-    """Return whether a file that begins so is a recording. Raises `ConversionError` if it is none that the tool converts."""
+    """Return whether a file with these first bytes is a recording. Raises `ConversionError` if the tool doesn't convert it."""
     name = "standard input" if path == "/dev/stdin" else path
     if not first:
         raise ConversionError(f"{name} is empty")
@@ -364,7 +364,7 @@ def convert_file(form: TextFormat, tool: str, path: str) -> int:
     ConversionError
         If it can't be converted.
     OSError
-        If it can't be read, or the trace not be written.
+        If it can't be read, or if the trace can't be written.
     """
     report = Report(tool, form.name, path)
     try:

@@ -10,7 +10,7 @@ PACKAGE = Path(__file__).absolute().parent.parent
 def helper(name: str) -> str | None:
     """Return the path of a compiled helper, or None if there is none.
 
-    In a checkout, and where histdesk is installed, they are in `helpers/out` beside the folder that has the package.
+    Both in a checkout and in an installation, they are in `helpers/out` beside the folder that has the package.
     """
     path = PACKAGE.parent.parent / "helpers" / "out" / name
     return str(path) if path.exists() else None

@@ -14,10 +14,10 @@ from .report import Report
 if TYPE_CHECKING:
     from .text_format import Groups
 
-# A digit as nine: if a line matches with that for each of its digits, it matches with its own, since every place of the
-# pattern that takes a nine takes any digit. Lines that differ only in digits are looked at once.
+# Makes each digit a nine. If a line matches with nines in place of its digits, it also matches with its own digits, since every
+# place of the pattern that takes a nine takes any digit. Of the lines that differ only in digits, one is looked at.
 SHAPE = bytes.maketrans(b"012345678", b"9" * 9)
-# So many shapes of plain lines are kept.
+# How many shapes of plain lines are kept.
 MOST = 1 << 16
 PLAIN = rb"(?=[^\[\n]{16}-)" + line_patterns.SURE.pattern
 

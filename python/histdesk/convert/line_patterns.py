@@ -1,5 +1,5 @@
-"""Lines of a trace that the desk reads, as patterns, by which the converters see that they print such lines. The grammar is
-that of docs/REFERENCE.md, Trace lines."""
+"""Patterns of the trace lines that the desk reads, by which the converters see that they print such lines. The grammar is that
+of docs/REFERENCE.md, Trace lines."""
 
 import re
 
@@ -30,8 +30,8 @@ _OTHER = rb"(?![ ]*" + LABELS + rb":)(?:[ ][^\n]{0,2048})?"
 
 SURE = re.compile(rb"^" + _FRONT + rb"(?:" + _OWN + rb"|" + _OTHER + rb")$", re.VERBOSE | re.MULTILINE)
 """Matches lines that hold an event which the desk reads, and no others. A few that it reads don't match: those with odd names,
-very long ones, numbers near their limits. It matches a line by itself (`SURE.fullmatch(line)`, without its line break) and
-the lines of a whole text: `SURE.sub(b"", text)` leaves those that are not sure, each at its number."""
+very long ones, and those with numbers near their limits. It matches a line by itself (`SURE.fullmatch(line)`, without its
+line break) and the lines of a whole text: `SURE.sub(b"", text)` leaves those that are not sure, each at its number."""
 
 SKIPPED = re.compile(
     rb"^(?:[ \t]{0,4096}|\#[^\n]{0,4095}|CPU:[0-9]{1,64}[ ]\[LOST[ ](?:[0-9]{1,64}[ ])?EVENTS\])$", re.VERBOSE | re.MULTILINE

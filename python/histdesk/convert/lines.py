@@ -1,5 +1,5 @@
-"""A line of a trace for the converters: patterns of plain ones, and odd ones put together so that the desk reads of them what
-the tool has printed."""
+"""A line of a trace for the converters: patterns of plain lines, and how odd ones are put together, so that the desk reads from
+them what the tool has printed."""
 
 from __future__ import annotations
 
@@ -8,7 +8,7 @@ from typing import NamedTuple
 
 from . import line_patterns
 
-# What stands after a stamp and its blanks, with the line break, as one group. What is torn of the four events doesn't match.
+# What stands after a stamp and its blanks, with the line break, as one group. Torn lines of the four events don't match.
 REST = rb"((?:sched_(?:switch:[ ]{1,64}%b|wak(?:ing|eup(?:_new)?):[ ]{1,64}%b)|(?!sched:|%b:)[^ \n]{1,64}:[^\n]{0,2048})\n)" % (
     line_patterns.SWITCH,
     line_patterns.WAKE,
@@ -19,7 +19,7 @@ REST = rb"((?:sched_(?:switch:[ ]{1,64}%b|wak(?:ing|eup(?:_new)?):[ ]{1,64}%b)|(
 STAMP = rb"([0-9]{1,9}\.[0-9]{5})([0-9](?=:)|[0-9]{2}(?=[0-9]{2}:))[0-9]*:"
 # An odd line, as one group: one that isn't plain.
 ODD = rb"|^([^\n]*)\n"
-# What stands for the second group of a stamp, rounded as the kernel rounds; from 95 on `carried` does it.
+# What stands for the second group of a stamp, rounded as the kernel rounds; from 95 on, `round_up` does it.
 ROUNDED = {b"%d%d" % (digit, after): b"%d" % (digit + (after >= 5)) for digit in range(10) for after in range(10)}
 ROUNDED.update({b"": b"", **{b"%d" % digit: b"%d" % digit for digit in range(10)}})
 CARRIED = b"95"
@@ -54,7 +54,7 @@ class Line(NamedTuple):
     lead: bytes = b""
 
     def text(self, task: bytes, fields: bytes) -> bytes:
-        """The line with this name and these fields."""
+        """Return the line with this name and these fields."""
         # A name that begins with # would make it a comment.
         lead = self.lead or (b" " if task.startswith(b"#") else b"")
         label = self.label + b": " if self.label else b""
@@ -105,7 +105,7 @@ def complete_line(line: Line, advice: str) -> tuple[bytes, bool]:
 
 
 def pieces_of(line: Line, advice: str) -> list[bytes]:
-    """Return the fields in pieces, of which every second one is a name. Other events have only one piece."""
+    """Return the fields in pieces, of which every second one is a name. Events other than the four have only one piece."""
     if not OWN.fullmatch(line.label):
         return [line.fields]
     pattern, start = (SWITCH, b"prev_comm=") if line.label == b"sched_switch" else (WAKE, b"comm=")
@@ -118,7 +118,7 @@ def pieces_of(line: Line, advice: str) -> list[bytes]:
 
 
 def masked_task(line: Line) -> bytes:
-    """Return the task's name without what misleads the desk, and not longer than it takes one."""
+    """Return the task's name without what misleads the desk, and no longer than a name may be for the desk."""
     task = line.task.replace(b"\n", b"?")[:LONGEST]
     match = TASK.match(line.text(task, b""))
     if match and match[1].lstrip(b" ") == task:

@@ -14,7 +14,7 @@ from .text_format import Groups, TextFormat
 
 # The filter by which perf converts plain events itself; build/build makes it of helpers/perf_filter.c.
 FILTER = "perf_filter.so"
-# perf puts the name to the right in 16 columns, and the number in 5 or 7 after a space. Where a name's line break tears the
+# perf puts the name to the right in 16 columns, and the number in 5 or 7 after a space. If a name's line break tears the
 # line, the [ of its second piece stands further to the left than any here.
 PLAIN = (
     rb"^(?=[^\[\n]{23})(?![ ]*\#)([^\[\n]{16,31}?)[ ]{1,7}([0-9]{1,9}[ ]\[[0-7]?[0-9]{1,3}\])[ ]{1,9}"
@@ -22,7 +22,7 @@ PLAIN = (
 )  # fmt: skip
 TAIL = rb"(\[[0-9]+\]) +([0-9]{1,10})\.([0-9]{6}|[0-9]{9}): +([^ \n]+):(?: (.*))?"
 STRICT = re.compile(rb"(.{16}) (?=[ 0-9-]{5,7} \[) *(-1|[0-9]+) " + TAIL, re.DOTALL)
-# Only for a longer name, or if blanks were taken away, it is the shortest that fits.
+# If STRICT doesn't match, as for a longer name or if blanks were taken away, the name is the shortest that fits.
 LOOSE = re.compile(rb" *([^\n]*?) +(?:-?[0-9]+/)?(-1|[0-9]+) +" + TAIL, re.DOTALL)
 LOST = re.compile(rb".*\[([0-9]+)\] +[0-9]+\.[0-9]+: +PERF_RECORD_LOST lost ([0-9]+) *")
 ASIDE = re.compile(rb"|#.*|.* [0-9]+\.[0-9]+: +PERF_RECORD_[A-Z_]+(?: .*)?")
@@ -33,12 +33,12 @@ COMES = re.compile(rb": sched_switch: prev_comm=.* ==> next_comm=(.*) next_pid=(
 PLACE = re.compile(rb" (\[[0-9]+\])(?= )")
 # What has a CPU and a stamp is no piece of a name.
 FRONTED = re.compile(rb"[0-9]+ +\[[0-9]{3,}\] +[0-9]+\.[0-9]{6,9}:")
-# perf says so of each kind of event that holds no fields, whether or not there are any of it.
+# perf prints this about each kind of event that holds no fields, whether or not there are events of that kind.
 NOISE = re.compile(rb"'trace' not valid for .*|Warning:|")
 
 
 def leaving(name: bytes, payload: bytes) -> tuple[bytes, bytes] | None:
-    """Return the task of a task's last switch, and its PID, by the switch's own fields; None if it is no switch."""
+    """Return the task whose last switch an event is, and its PID, by the switch's own fields; None if it is no switch."""
     match = LEAVES.match(payload) if name == b"sched_switch" else None
     return (match[1], match[2]) if match else None
 
@@ -76,7 +76,7 @@ class PerfFormat(TextFormat):
         except (perf_formats.Unknown, OSError):
             return None
         if not perf_formats.needs_symbols(formats):
-            # perf reads the kernel's in any case, which takes long.
+            # Otherwise perf reads the kernel's symbols even if it needs none, which takes long.
             words.append("--kallsyms=/dev/null")
         return [*self.command[:-1], "--dlfilter", compiled, *words, "--dlarg", blocks.MEMORY, "-i", path]
 
@@ -105,7 +105,7 @@ class PerfFormat(TextFormat):
         if not match:
             raise NotConvertible("not of the form COMM TID [CPU] SECONDS.FRACTION: EVENT: FIELDS")
         task, thread, cpu, seconds, fraction, name, payload = match.groups(b"")
-        # Of another system an event keeps the system's name, or it would be taken for the scheduler's own.
+        # An event of another system keeps the system's name, or it would be taken for the scheduler's own.
         name, payload = name.removeprefix(b"sched:"), payload.strip(b" ")
         if thread == b"-1":
             task, thread = leaving(name, payload) or running(cpu, earlier)

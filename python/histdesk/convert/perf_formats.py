@@ -20,7 +20,7 @@ Formats = dict[tuple[str, str], str]
 WAKING: dict[str, int | None] = {**{field.name: field.size for field in _schema.event("sched_waking").fields}, "success": 4}
 SWITCH: dict[str, int | None] = {field.name: field.size for field in _schema.event("sched_switch").fields}
 FIELD = re.compile(r"field:[^;]*?(\w+)(?:\[\d*\])?;\s*offset:(\d+);\s*size:(\d+);")
-# What the kernel prints of a waking; older ones tell of success.
+# What the kernel prints of a waking; older kernels print success too.
 WAKING_TEXTS = (
     '"comm=%s pid=%d prio=%d target_cpu=%03d", REC->comm, REC->pid, REC->prio, REC->target_cpu',
     '"comm=%s pid=%d prio=%d success=%d target_cpu=%03d", REC->comm, REC->pid, REC->prio, REC->success, REC->target_cpu',
@@ -40,7 +40,7 @@ OPERATORS: dict[type[ast.operator], Callable[[int, int], int]] = {
     ast.Sub: operator.sub,
     ast.LShift: operator.lshift,
 }
-# A recording begins with a header of so many bytes: magic, sizes, three sections and the bits of what follows the data.
+# The header with which a recording begins: magic, sizes, three sections and the bits of what follows the data.
 HEADER = struct.Struct("<8s8Q4Q")
 SECTION = struct.Struct("<QQ")
 # The second bit says that the kernel's formats follow; sections stand in the order of their bits.

@@ -7,7 +7,7 @@ import sys
 from .. import _invocation
 from .._file_kind import origin_of_lines
 
-# So many lines that can't be converted are shown, and so many bytes of each.
+# How many lines that can't be converted are shown, and how many bytes of each.
 MOST, ROOM = 5, 120
 # If so many lines come and no event is among them, it is another text.
 FOREIGN = 200
@@ -34,7 +34,7 @@ class Report:
         tool
             The name with which messages begin.
         form
-            What prints such a text as is converted, such as `perf script`.
+            What prints the kind of text that is converted, such as `perf script`.
         path
             The file.
         """

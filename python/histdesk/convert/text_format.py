@@ -25,7 +25,7 @@ class TextFormat:
     advice
         What to do if the fields of an event have another layout.
     program, command
-        The program that reads a recording, and the words that make it print the text of one, except for its path.
+        The program that reads a recording, and the command by which it prints the text of one, without the recording's path.
     is_apart
         Whether the program of `quick_command` reads recordings by itself, so that what it writes first is compared with what
         the tool prints first.
@@ -43,11 +43,11 @@ class TextFormat:
         return False
 
     def prepared(self, text: bytes) -> bytes:
-        """Return whole lines as they are before they are converted."""
+        """Return whole lines, prepared for conversion."""
         return text
 
     def unchanged(self, text: bytes) -> int:
-        """Return how many lines a text has, if each of them stays as it is, or 0 if not, or if that isn't known quickly."""
+        """Return how many lines a text has if each of them stays as it is; 0 if one doesn't, or if that isn't known quickly."""
         return 0
 
     def find(self, text: bytes) -> Sequence[Groups]:
@@ -63,7 +63,7 @@ class TextFormat:
         raise NotImplementedError
 
     def aside(self, line: bytes, report: Report) -> bytes | None:
-        """Return what a line becomes that holds no event, with its line break, or empty; None for a line of an event."""
+        """Return what a line that holds no event becomes, with its line break, or empty; None for a line of an event."""
         raise NotImplementedError
 
     def parts(self, line: bytes, earlier: Callable[[], Iterable[bytes]]) -> Line:
@@ -102,7 +102,7 @@ class TextFormat:
         """Raise `ConversionError` if what was read of the file of that name can't be one trace."""
 
     def quick_command(self, path: str) -> list[str] | None:
-        """Return the words of a program that reads the recording of that path and writes blocks, or None if there is none."""
+        """Return the command that reads the recording of that path and writes blocks, or None if there is none."""
         return None
 
     def head_of(self, text: bytes) -> bytes:

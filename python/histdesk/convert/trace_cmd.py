@@ -19,7 +19,7 @@ PLAIN = (
     rb"^(?![ ]*\#)([^\[\n]{16})(-[0-9]{1,9}[ ]{1,64}(?:\([ ]{0,32}[0-9-]{1,16}\)[ ]{1,64})?\[[0-7]?[0-9]{1,3}\][ ]{1,64}"
     rb"(?:[^ :\n0-9][^ :\n]{0,15}[ ]{1,64})?)" + STAMP + rb"[ ]{1,64}" + REST + ODD
 )  # fmt: skip
-# The blanks that trace-cmd puts between a label and its fields, and none of which are needed. No name has room for that.
+# The blanks that trace-cmd puts between a label and its fields aren't needed. No name has room for the text that is replaced.
 FIRST = {b"sched_switch": b"prev_comm", b"sched_waking": b"comm", b"sched_wakeup": b"comm", b"sched_wakeup_new": b"comm"}
 PADDED = [(b": %-21s %b=" % (label + b":", field), b": %b: %b=" % (label, field)) for label, field in FIRST.items()]
 HEAD = re.compile(rb"(?:cpus|version) ?= ?[0-9]+|CPU [0-9]+ is empty")
@@ -34,8 +34,8 @@ TOP = b"/"
 class TraceCmdFormat(ColumnFormat):
     """The text of `trace-cmd report`.
 
-    Where it has buffers, each line begins with the name of its buffer in columns of their own, a colon and a blank; with blanks
-    alone for the top one. But a line after one of lost events has no such columns: it is of the same buffer."""
+    If it has buffers, each line begins with the name of its buffer in columns of their own, a colon and a blank; for the top
+    one, only with blanks. But a line after one of lost events has no such columns: it is of the same buffer."""
 
     pattern = re.compile(PLAIN, re.MULTILINE | re.VERBOSE)
     name = "trace-cmd report"
@@ -47,8 +47,8 @@ class TraceCmdFormat(ColumnFormat):
         """Take the events of a buffer, or of the only one for None."""
         self.choice = None if buffer is None else buffer.encode(errors="surrogateescape")
         self.is_chosen = buffer is not None
-        # The columns before the name, once they are known, some of the buffers, that of the line before, and how many lines
-        # each one has.
+        # How many columns stand before the name, once that is known; some of the buffers; the buffer of the line before; and
+        # how many lines each buffer has.
         self.width: int | None = None
         self.buffers: set[bytes | None] = set()
         self.buffer: bytes | None = None
@@ -94,7 +94,7 @@ class TraceCmdFormat(ColumnFormat):
         return content if buffer in (self.choice, None) else ELSEWHERE
 
     def cut(self, line: bytes) -> tuple[bytes | None, bytes]:
-        """Return a line's buffer and the rest of it. What has no such columns is a piece of the line before it, as it is."""
+        """Return a line's buffer and the rest of the line. One without such columns is a piece of the line before, as it is."""
         buffer, rest = buffer_of(line[: self.width]), line[self.width :]
         is_whole = rest[COLUMNS : COLUMNS + 1] == b"-" or LOST.fullmatch(rest)
         # The first piece of a line that a name has torn.

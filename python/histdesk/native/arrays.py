@@ -36,7 +36,7 @@ def words_of_names(structs: NDArray[Any], field: str) -> NDArray[np.uint64]:
 
 
 def texts_of_names(words: NDArray[np.uint64]) -> NDArray[np.object_]:
-    """Return names as an array of texts, of the rows of their words."""
+    """Return names as an array of texts, from the rows of their words."""
     texts = np.empty(len(words), object)
     texts[:] = [layout.text_of(name[:31], name[31]) for name in map(bytes, words.view("u1"))]
     return texts

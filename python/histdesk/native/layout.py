@@ -1,5 +1,5 @@
-"""What the library's structs look like in memory: those that go by themselves for ctypes, those that come in great numbers
-for `struct`, with the fields of which `arrays` makes types for numpy. Sizes and order are those of `histdesk.h`."""
+"""What the library's structs look like in memory: those that are passed one by one are for ctypes, those that come in great
+numbers for `struct`, with the fields from which `arrays` makes types for numpy. Sizes and order are those of `histdesk.h`."""
 
 from __future__ import annotations
 
@@ -13,12 +13,12 @@ NO_EVENT = 255
 OK, MEMORY, CLOSED = 0, 1, 255
 # Codes of a stream of waits: a stamp before that of the event above, no stream, and a part that doesn't fit.
 BACKWARDS, NO_STREAM, NOT_JOINED = 18, 19, 20
-# How many CPUs there can be: so many numbers histdesk_waits_events has.
+# How many CPUs there can be, and how many numbers histdesk_waits_events has.
 CPUS = 8192
 # Causes of a wait, and how sure it is.
 WOKEN, CREATED, PREEMPTED = 1, 2, 3
 SURE, LIKELY, DOUBTFUL = 0, 1, 2
-# What stands in place of an event's name if a line of a text has no event, and nothing is wrong with it; or can't be read.
+# What stands in place of an event's name if a line has no event though nothing is wrong with it, and if it can't be read.
 LINE_SKIPPED, LINE_BAD = 253, 254
 # Kinds of a key's part.
 PLAIN, LOG2, BUCKET, TEXT = 0, 1, 2, 3

@@ -91,8 +91,8 @@ REFUSAL_CALLS = ["histdesk_refusal_text", "histdesk_refusal_words"]
 def candidates(package: Path) -> list[Path]:
     """Return where the library may stand, seen from the package's folder.
 
-    That is in it; in `lib` of the prefix that the package is installed in, as `PREFIX/lib/python3/dist-packages/histdesk` or as
-    `PREFIX/python/histdesk`; and where a checkout builds it.
+    That is in the folder itself; in `lib` of the prefix that the package is installed in, as
+    `PREFIX/lib/python3/dist-packages/histdesk` or as `PREFIX/python/histdesk`; and where a checkout builds it.
     """
     above = [package, *package.parents, *[Path("/")] * 3]
     is_installed = package.parent.parent.name.startswith("python3")
@@ -186,5 +186,5 @@ def declare(library: ctypes.CDLL) -> ctypes.CDLL:
 
 # No other thread runs Python code during a call.
 library = Library(ctypes.PyDLL)
-# Other threads run meanwhile: for calls that take long, of a desk that no other thread knows.
+# Other threads run meanwhile: this is for calls that take long, on a desk that no other thread knows.
 unlocked = Library(ctypes.CDLL)

@@ -27,7 +27,7 @@ def hint_of(refused: Refused, event: str, text: str) -> str:
 
     given = layout.encode(text)
     place = place_in(refused, given)
-    # Hints are of Latin-1 texts, in which a character is a byte.
+    # Hints are made from Latin-1 texts, in which a character is a byte.
     line = given.decode("latin-1")
     if refused.fault is not None:
         numbers = {"fault": refused.fault, "filter": refused.filter_fault, "at": refused.place}

@@ -32,7 +32,7 @@ if TYPE_CHECKING:
 
     from .overview import Overview
 
-# Of what form the answers are.
+# The version of the form that answers have.
 VERSION = 1
 # The columns of waits, in little-endian numbers.
 COLUMNS = (
@@ -48,24 +48,24 @@ COLUMNS = (
     ("kind", "u1"),
     ("doubtful", "u1"),
 )
-# Each column begins at a multiple of so many bytes.
+# Each column begins at a multiple of this many bytes.
 ALIGNED = 8
-# A longer wait, of more than 71 minutes, is shown as of so many microseconds.
+# The longest wait that is shown, in microseconds: more than 71 minutes. A longer one is shown as this long.
 LONGEST = 2**32 - 1
 # The figures that are reported of both sides of a row that differs.
 FIGURES = ("count", "p50", "p99", "max")
-# So many rows of a trigger's table are reported.
+# How many rows of a trigger's table are reported at most.
 ROWS = 1000
-# So many answers of strikes are kept.
+# How many answers to strikes are kept.
 ANSWERS = 4
-# A saved page has the time of all CPUs in so many parts, and in no more than so many of all CPUs together.
+# How many parts the timeline of a saved page has at most: for each CPU, and for all CPUs together.
 COARSE, CELLS = 1024, 1 << 16
 
 
 class View:
     """What a page shows of one or two recordings, which are numbered 0 and 1. Another number raises `ValueError`.
 
-    A refusal is an answer, too: why, and at which character of a text."""
+    A refusal is an answer, too: it says why, and at which character of a text."""
 
     def __init__(self, sides: Sequence[Side], command: str = "", program: str = "./histdesk") -> None:
         """Take what a page shows.
@@ -92,13 +92,13 @@ class View:
         return self.side(recording).columns()
 
     def filter(self, recording: int, event: str, text: str) -> Json:
-        """Return which waits end at a switch that passes a filter, or begin at such an event of another name."""
+        """Return which waits end at a switch that passes a filter or, for an event of another name, begin at one that does."""
         side = self.side(recording)
         return answered(text, lambda: side.filter(event, text), event)
 
     def trigger(self, recording: int, event: str, text: str) -> Json:
         """Return the table of a trigger, without the events that are struck. If a desk doesn't hold the whole recording, `of`
-        says which events it holds; else that is None."""
+        says which events it holds; otherwise `of` is None."""
         side = self.side(recording)
         return answered(text, lambda: side.trigger(event, text), event)
 
@@ -114,7 +114,7 @@ class View:
         window
             The stretch of time to report.
         after
-            Whether the wait is meant that the event ends without the events that are struck.
+            Whether to look first for the wait that the event ends without the struck events.
         """
         side = self.side(recording)
         return answered("", lambda: side.wait(place, window, after))
@@ -125,20 +125,20 @@ class View:
         Raises
         ------
         ValueError
-            If `until` isn't after `start`, or so many parts aren't made.
+            If `until` isn't after `start`, or if `width` is out of range.
         """
         return self.side(recording).overview.window(start, until, width)
 
     def differences(self) -> Json:
-        """Return the names and kinds of which something differs between two recordings, with their figures in both, as
-        `Difference.table` has them; of one recording there are none."""
+        """Return the names and kinds that differ between two recordings, with their figures in both, as `Difference.table` has
+        them. If there is only one recording, there are none."""
         if len(self.sides) < 2:
             return {"rows": []}
         before, after = (side.waits for side in self.sides)
         return {"rows": [plain_difference(row) for row in Difference(before, after).table("name")]}
 
     def strike(self, strikes: Sequence[tuple[str, str]]) -> Json:
-        """Return what is other than in `waits` without some events of the first recording.
+        """Return what differs from `waits` without some events of the first recording.
 
         Parameters
         ----------
@@ -157,7 +157,7 @@ class View:
 
     def script(self, recording: int, asked: Asked, strikes: Sequence[tuple[str, str]]) -> Json:
         """Return the script that gives the table of the waits, and that of a trigger, without some events, and the shell's line
-        that runs it. `of` is that of `trigger`."""
+        that runs it. `of` is the same as in the answer of `trigger`."""
         side, chosen = self.side(recording), chosen_of(strikes)
         check_events(chosen)
         return answered("", lambda: side.script(asked, chosen, self.program))
@@ -184,7 +184,7 @@ class Strikes(NamedTuple):
     waits
         The waits without them.
     change
-        What is other in these.
+        How these differ from all waits.
     """
 
     chosen: tuple[Chosen, ...]
@@ -220,16 +220,16 @@ class Side:
         else:
             self.waits, self.again = waits(trace), Part(trace)
         self.strikes: Strikes | None = None
-        # The names of tasks, by the numbers that the page knows.
+        # The numbers by which the page knows tasks, by their names.
         self._tasks: dict[str, int] = {name: number for number, name in enumerate(self.waits._names.tolist())}
         self._overview: Overview | None = None
         self._steps: Iterator[None] | None = None
-        # The last strikes and their answers, the newest last, so that to take one back takes no time.
+        # The last strikes and their answers, the newest last, so that taking one back takes no time.
         self._answers: dict[tuple[Chosen, ...], tuple[Strikes, Json]] = {}
 
     @property
     def overview(self) -> Overview:
-        """What its CPUs did from its beginning to its end. All events are read for it when it is asked for first."""
+        """What its CPUs did from its beginning to its end. All events are read for it when it is first asked for."""
         for _ in self.prepare():
             pass
         assert self._overview is not None
@@ -242,7 +242,7 @@ class Side:
             try:
                 next(self._steps, None)
             except BaseException:
-                # The next one who asks hears of it, too.
+                # Whoever asks next hears of it, too.
                 self._steps = None
                 raise
             yield
@@ -262,7 +262,7 @@ class Side:
         self._overview = Overview(runs, likely["begin_stamp"], likely["end_stamp"])
 
     def coarse_overview(self) -> Json:
-        """Return what its CPUs did from its beginning to its end, in so few parts that a saved page can have them."""
+        """Return what its CPUs did from its beginning to its end, in few enough parts for a saved page."""
         runs = self.overview.runs
         width = max(min(COARSE, CELLS // max(len(runs.lanes), 1)), 1)
         return self.overview.window(runs.first, runs.first + max(runs.length, 1), width)
@@ -299,8 +299,8 @@ class Side:
         return packed(columns)
 
     def filter(self, event: str, text: str) -> Json:
-        """Return the waits that a filter chooses; an empty one chooses all of that event. If events are struck, also those of
-        `strike`."""
+        """Return the waits that a filter chooses; an empty one chooses all of that event. If events are struck, also return
+        which new waits of `strike` it chooses."""
         events = self.again.matching(Chosen(event, text if text.strip() else ""))
         is_end = event == "sched_switch"
         first = chosen_among(self._ends if is_end else self._begins, events, len(self.waits))
@@ -321,7 +321,7 @@ class Side:
         return places_of(self.waits, "begin")
 
     def strike(self, chosen: Sequence[Chosen]) -> Json:
-        """Return what is other than in `columns` without some events."""
+        """Return what differs from `columns` without some events."""
         key = tuple(chosen)
         if not key:
             self.strikes = None
@@ -349,7 +349,7 @@ class Side:
 
     def trigger(self, event: str, text: str) -> Json:
         """Return the table of a trigger."""
-        # What can't be attached to a desk without triggers is refused.
+        # A trigger that can't be attached to a desk without triggers is refused.
         with Desk() as empty:
             empty.attach(event, text)
         trigger = self.again.held.without(self.strikes.chosen if self.strikes else ()).attach(event, text)
@@ -372,7 +372,7 @@ class Side:
         return self.again.strip(changed or self.again.teller.wait_at(*place), window, MOST)
 
     def strips(self, some: Waits, most: int) -> Iterator[tuple[tuple[int, int], Json]]:
-        """Return what `wait` returns of some of its waits, by where each ends, in the order in which they begin."""
+        """Return what `wait` returns for some of its waits, with where each ends, in the order in which they begin."""
         rows = some[some._column("begin_stamp").argsort(kind="stable")].array
         ends = zip(rows.end_cpu.tolist(), rows.end_line.tolist())
         return zip(ends, self.again.strips([wait_of(row) for row in rows], most))
@@ -405,7 +405,7 @@ def places_of(some: Waits, end: str) -> Places:
 
 
 def chosen_among(places: Places, events: Matches, count: int) -> NDArray[np.bool_]:
-    """Return which of so many waits, which have these places, have that of one of some events."""
+    """Return which of so many waits are at the place of one of some events; `places` are those of the waits."""
     mask: NDArray[np.bool_] = np.zeros(count, bool)
     waits = places.index(events.cpus, events.lines)
     mask[waits[waits >= 0]] = True
@@ -427,7 +427,7 @@ def packed(columns: Json) -> bytes:
 
 
 def bits(mask: NDArray[np.bool_]) -> str:
-    """Return a mask as text: eight to a byte, the first one lowest."""
+    """Return a mask as text: eight values to a byte, the first one in the lowest bit."""
     return text_of(np.packbits(mask, bitorder="little").tobytes())
 
 
@@ -437,13 +437,13 @@ def text_of(content: bytes) -> str:
 
 
 def plain_row(row: Row) -> Json:
-    """Return a row of which something changed."""
+    """Return a row in which something changed, as plain data."""
     sides = {side: None if counted is None else counted._asdict() for side, counted in zip(SIDES, row[-2:])}
     return {"task": row.task, "pid": row.pid, "kind": row.kind, **sides}
 
 
 def plain_difference(row: DifferenceRow) -> Json:
-    """Return a row of which something differs, in the form of `plain_row`. In another recording, the same tasks have other
+    """Return a row in which something differs, in the form of `plain_row`. In another recording, the same tasks have other
     PIDs."""
 
     def side(figures: Figures) -> Json | None:

@@ -19,11 +19,11 @@ if TYPE_CHECKING:
 
 # Sums of times, in microseconds: floating-point numbers if the product of all tasks and all the time doesn't fit into 64 bits.
 Areas = NDArray[Union[np.int64, np.float64]]
-# A stretch of time is divided into at most so many parts.
+# The most parts that a stretch of time is divided into.
 WIDEST = 8192
-# So many of the longest stretches of idle time with waiters are reported.
+# How many of the longest stretches of idle time with waiters are reported at most.
 WORST = 20
-# The number of a task in an answer that has only some of them: what is no task keeps its own.
+# The numbers that stay the same in an answer, which numbers its own tasks: those of what is no task.
 ALIKE = (IDLE, UNKNOWN)
 # A share of a part is reported as a number up to this.
 WHOLE = 255
@@ -35,7 +35,7 @@ class Waiting:
     Between two steps, the number stays the same."""
 
     def __init__(self, begins: NDArray[np.int64], ends: NDArray[np.int64], length: int) -> None:
-        """Of the times at which waits begin and end, in any order, and how long the recording is."""
+        """Take the times at which waits begin and end, in any order, and how long the recording is."""
         at = np.concatenate([begins, ends])
         order = at.argsort(kind="stable")
         at, changes = at[order], np.where(order < len(begins), 1, -1).cumsum()
@@ -49,11 +49,11 @@ class Waiting:
         self.area = np.append(0, (spans.astype(exact) * self.count[:-1]).cumsum())
 
     def step(self, at: NDArray[np.int64]) -> NDArray[np.int64]:
-        """Return the last step that isn't after each of some times."""
+        """Return, for each of some times, the last step that isn't after it."""
         return self.at.searchsorted(at.astype(self.at.dtype), "right") - 1
 
     def some_before(self, at: NDArray[np.int64]) -> NDArray[np.int64]:
-        """Return for how long some task waited before each of some times."""
+        """Return, for each of some times, how long some task waited before it."""
         step = self.step(at)
         result: NDArray[np.int64] = self.some[step].astype("i8") + (at - self.at[step].astype("i8")) * (self.count[step] > 0)
         return result
@@ -75,10 +75,10 @@ class Waiting:
 
 
 class Sums:
-    """A lane, and of each of its runs how long the CPU idled before it, and how long it did so while a task waited.
+    """A lane, and for each of its runs, how long the CPU idled before it, and how long it did so while a task waited.
 
-    Of a run in which the CPU idles, what grows with the time is taken off already: when it begins, and for how long a task had
-    waited then. So what is asked for is what is kept plus what grows. Numbers of 32 bits go round on the way, and the answer
+    If the CPU idles in a run, what grows with the time has already been subtracted: when the run begins, and for how long a
+    task had waited then. So an answer is what is kept plus what grows. Numbers of 32 bits may overflow on the way; the answer
     fits again."""
 
     def __init__(self, lane: Lane, length: int, waiting: Waiting) -> None:
@@ -98,7 +98,7 @@ class Sums:
         self.lost_sum = np.append(0, spans[lost].cumsum())
 
     def run(self, at: Times, side: Literal["left", "right"] = "right") -> NDArray[np.int64]:
-        """Return the run at each of some times; with `left`, the one just before it. They have the type of the lane's."""
+        """Return the run at each of some times; with `left`, the one just before it. The times have the type of the lane's."""
         return self.lane.begin.searchsorted(at, side) - 1
 
     def lost_before(self, at: Times) -> NDArray[np.int64]:
@@ -125,13 +125,13 @@ class Cells(NamedTuple):
     idle
         How long each CPU idled in each part: a row for each CPU.
     waited
-        How much of that a task waited for a processor.
+        For how much of that time a task waited for a processor.
     unknown
         For how much of each part it isn't known what the CPU did. In the rest it ran tasks.
     task
         The number of the task with the longest run within the part, `IDLE` if none ran.
     most
-        How many tasks waited at once in each part at most.
+        The most tasks that waited at once in each part.
     area
         How long all tasks together waited in each part.
     """
@@ -193,13 +193,13 @@ class Overview:
     """The timeline of a recording."""
 
     def __init__(self, runs: Runs, begins: NDArray[np.int64], ends: NDArray[np.int64]) -> None:
-        """Of what its CPUs ran, and the stamps at which waits begin and end, in microseconds and in any order."""
+        """Take what its CPUs ran, and the stamps at which waits begin and end, in microseconds and in any order."""
         self.runs = runs
         self.waiting = Waiting(begins - runs.first, ends - runs.first, runs.length)
         self.sums = [Sums(lane, runs.length, self.waiting) for lane in runs.lanes]
 
     def edges(self, start: int, stop: int, width: int) -> NDArray[np.int64]:
-        """Return where a stretch of time is divided into so many parts, or into fewer that have a microsecond.
+        """Return the edges of so many parts of a stretch of time, or of fewer parts that have a microsecond each.
 
         Parameters
         ----------
@@ -211,7 +211,7 @@ class Overview:
         Raises
         ------
         ValueError
-            If it doesn't end after it begins, or if so many parts aren't made.
+            If it doesn't end after it begins, or if `width` is out of range.
         """
         if start >= stop:
             raise ValueError("until must be after from")
@@ -227,7 +227,7 @@ class Overview:
         return result
 
     def places(self, edges: NDArray[np.int64]) -> list[EdgeRuns]:
-        """Return the runs of each lane at the edges of parts, which are those of `edges`."""
+        """Return the runs of each lane at the edges of parts, as `edges` returns them."""
         times = edges.astype(self.waiting.at.dtype)
         return [EdgeRuns(sums.run(times), sums.run(times[1:], "left")) for sums in self.sums] if len(edges) > 1 else []
 
@@ -237,9 +237,9 @@ class Overview:
         Parameters
         ----------
         edges
-            Those of `edges`.
+            What `edges` returned.
         places
-            Those of `places`, if they are known.
+            What `places` returned for these edges, if that is known.
         """
         shape = (len(self.sums), max(len(edges) - 1, 0))
         idle, waited, unknown = (np.zeros(shape, "i8") for _ in range(3))
@@ -258,8 +258,8 @@ class Overview:
         return Cells(edges, idle, waited, unknown, task, self.waiting.most_between(edges), area)
 
     def single_runs(self, places: list[EdgeRuns]) -> RunPlaces:
-        """Return the runs of tasks that fill one of the parts between edges; of a CPU that has no more runs in all of them than
-        there are parts, all its runs there."""
+        """Return the runs of tasks that fill one of the parts between edges. For a CPU that has no more runs in all of them
+        than there are parts, return all runs of tasks there."""
         lanes, numbers = [np.zeros(0, "i8")], [np.zeros(0, "i8")]
         for lane, (sums, edge_runs) in enumerate(zip(self.sums, places)):
             first, last = edge_runs.first, edge_runs.last
@@ -274,13 +274,13 @@ class Overview:
         return RunPlaces(np.concatenate(lanes), np.concatenate(numbers))
 
     def worst(self, start: int, stop: int, most: int = WORST) -> list[Stretch]:
-        """Return the stretches of idle time in which tasks waited longest, at most so many, the longest first.
+        """Return the stretches of idle time in which tasks waited longest, at most `most` of them, the longest first.
 
         Parameters
         ----------
         start, stop
-            When what is looked at begins and ends, in microseconds since the recording's first event. Of a stretch that goes
-            on outside of it, only the part inside counts.
+            When the time that is looked at begins and ends, in microseconds since the recording's first event. Of a stretch
+            that goes on outside of it, only the part inside counts.
         most
             How many are wanted.
         """
@@ -291,7 +291,7 @@ class Overview:
             if len(rows) > most:
                 rows.sort(key=lambda row: (-row.micros, row.begin, row.cpu))
                 del rows[most:]
-                # Of equal ones the first one counts.
+                # Of stretches of equal length, the first one counts.
                 least = rows[-1].micros - 1
         rows.sort(key=lambda row: (-row.micros, row.begin, row.cpu))
         if not rows:
@@ -301,7 +301,7 @@ class Overview:
         return [row._replace(begin=first + row.begin, end=first + row.end, most=most) for row, most in zip(rows, greatest)]
 
     def _worst_of(self, sums: Sums, start: int, stop: int, least: int) -> list[Stretch]:
-        """Return the longest of these stretches of a CPU, of more than so many microseconds; those of equal length, too."""
+        """Return the longest of these stretches of a CPU with more than `least` microseconds, and those of equal length."""
         bounds = np.array([start, stop], sums.lane.begin.dtype)
         low, high = int(sums.run(bounds[:1])[0]), int(sums.run(bounds[1:], "left")[0])
         inside = sums.micros[low + 1 : high]
@@ -317,8 +317,8 @@ class Overview:
         return [Stretch(sums.lane.cpu, *row, 0) for row in rows if row[2] > least]
 
     def window(self, start: int, stop: int, width: int) -> Json:
-        """Return a stretch of time as plain data, which page/timeline.js reads. The words are those of `edges`, and so is what
-        it raises."""
+        """Return a stretch of time as plain data, which page/timeline.js reads. The arguments are those of `edges`, and it
+        raises the same."""
         edges = self.edges(start, stop, width)
         places = self.places(edges)
         cells, single = self.cells(edges, places), self.single_runs(places)
@@ -365,18 +365,18 @@ class Overview:
         return result
 
     def _name(self, number: int) -> tuple[int | None, str]:
-        """Return the PID and the name of a task, by its number; of what is unknown the PID is None."""
+        """Return the PID and the name of a task, by its number; the PID of what is unknown is None."""
         if number >= FIRST:
             return self.runs.task(number)
         return Task(0, "<idle>") if number == IDLE else (None, "")
 
 
 def longest_tasks(sums: Sums, edges: Times, runs: EdgeRuns) -> NDArray[np.uint32]:
-    """Return for each part between two edges the task with the longest run in it, as far as that lies inside; `IDLE` if it has
-    none. The edges have the type of the lane's times."""
+    """Return, for each part between two edges, the task with the longest run in it; `IDLE` if it has none. Only what lies
+    inside the part counts. The edges have the type of the lane's times."""
     begin, tasks, (first, last) = sums.lane.begin, sums.lane.task, (runs.first, runs.last)
     low, high = int(first[0]), int(last[-1])
-    # Of each run how long it is, and below that its place; of the last one nothing, since it may go on outside.
+    # How long each run is and, in the lower half, its place; nothing for the last one, since it may go on outside.
     keys = np.zeros((high - low + 2, 2), "<u4")
     keys[:-2, 1] = np.minimum(begin[low + 1 : high + 1] - begin[low:high], SHORT - 1) * (tasks[low:high] >= FIRST)
     keys[:, 0] = np.arange(len(keys))
@@ -393,8 +393,8 @@ def longest_tasks(sums: Sums, edges: Times, runs: EdgeRuns) -> NDArray[np.uint32
 
 
 def greatest_in(values: NDArray[Any], first: NDArray[np.int64], after: NDArray[np.int64]) -> NDArray[Any]:
-    """Return the greatest of the values from each index on and before another one; 0 if there are none between. The indices
-    ascend, or there are few of them."""
+    """Return, for each pair of indices, the greatest value from the first one on and before the second one; 0 if there is none.
+    The indices ascend, or there are few of them."""
     low, high = int(first.min()), max(int(after.max()), int(first.max())) + 1
     inside = values[low:high]
     if len(inside) < high - low:

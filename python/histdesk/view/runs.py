@@ -1,4 +1,4 @@
-"""What each CPU of a recording ran from its beginning to its end; needs np."""
+"""What each CPU of a recording ran from its beginning to its end; needs numpy."""
 
 from __future__ import annotations
 
@@ -18,12 +18,12 @@ Integers = NDArray[np.integer[Any]]
 Times = NDArray[Union[np.uint32, np.int64]]
 # The numbers of what is no task: an idle CPU, and a time of which it isn't known what ran. Tasks have numbers from FIRST on.
 IDLE, UNKNOWN, FIRST = 0, 1, 2
-# What the CPU's last stamp is before its first event.
+# The last stamp of a CPU that has had no event yet.
 NO_STAMP = -1
-# Recordings that last longer than this have offsets of 64 bits, in microseconds.
+# Recordings that last at least this many microseconds have offsets of 64 bits.
 SHORT = 1 << 32
-# A time at which a CPU begins or ends to run something: the stamp in microseconds, what ran before it, and the line of the
-# switch that is there, 0 if it is none.
+# A time at which a CPU begins or stops running something: the stamp in microseconds, what ran before it, the line of the switch
+# that is there, or 0 if there is none, and the CPU.
 CUT_FIELDS = [("stamp", "=i8"), ("task", "=u4"), ("line", "=u4"), ("cpu", "=u2")]
 
 
@@ -47,7 +47,7 @@ class Lane(NamedTuple):
     task
         The number of its task, or `IDLE`, or `UNKNOWN`.
     line
-        The line of the CPU at which the switch stands that began it, from 1; 0 if no switch did.
+        The line of the switch that began it, counted from 1 on its CPU; 0 if no switch did.
     """
 
     cpu: int
@@ -82,12 +82,12 @@ class Runs(NamedTuple):
 
 
 def time_type(length: int) -> str:
-    """Return the type of times of a recording of so many microseconds."""
+    """Return the type of the times of a recording that lasts so many microseconds."""
     return "=u4" if length < SHORT else "=i8"
 
 
 class Gatherer:
-    """Makes runs of events that come in parts, in which those of each CPU are in the order of time.
+    """Makes runs from events that come in parts, in which those of each CPU are in the order of time.
 
     A run ends at a cut. Each switch is one. If an event names another task than the one that its CPU went to last, a switch is
     missing, and nothing is known of the time between that event and the one before it."""
@@ -95,7 +95,7 @@ class Gatherer:
     def __init__(self) -> None:
         self._names, self._pairs = Numbers(layout.NAME_WORDS), Numbers(1)
         self._cuts: list[NDArray[np.void]] = [np.zeros(0, CUT_FIELDS)]
-        # Of each CPU, by its number: the stamp of its last event, the PID of what it ran then, and the number of that task.
+        # For each CPU, by its number: the stamp of its last event, the PID of what it ran then, and the number of that task.
         self._stamp = np.full(layout.CPUS, NO_STAMP, "i8")
         self._pid = np.zeros(layout.CPUS, "i8")
         self._task = np.full(layout.CPUS, UNKNOWN, "u4")
@@ -108,7 +108,7 @@ class Gatherer:
         events
             As `Events.array` has them, in the order of time.
         lines
-            The line of each in the whole recording, from 1 on its CPU.
+            The line of each in the whole recording, counted from 1 on its CPU.
         """
         if len(events):
             part = Part(events, lines, self._stamp, self._pid)
@@ -188,7 +188,7 @@ class Part:
     """Some events, CPU by CPU, and what each says of what its CPU ran."""
 
     def __init__(self, events: NDArray[np.void], lines: Integers, stamps: NDArray[np.int64], pids: NDArray[np.int64]) -> None:
-        """Of events, their lines, and of each CPU the stamp of its last event before these, and the PID of what it ran."""
+        """Take events, their lines, and for each CPU the stamp of its last event before these and the PID of what it ran."""
         self._events, self._order = events, events["cpu"].astype("u2").argsort(kind="stable")
         self.line = lines[self._order]
         self.cpu, self.stamp = self.field("cpu"), self.field("stamp")
@@ -200,7 +200,7 @@ class Part:
         self.is_first[1:] = self.cpu[1:] != self.cpu[:-1]
         self.last = np.append(np.flatnonzero(self.is_first)[1:], len(runs)) - 1
         first = np.flatnonzero(self.is_first)
-        # The stamp of the event before, and the task that it says runs on.
+        # The stamp of the event before each one, and the PID of the task that, according to it, runs on.
         self.stamp_before, before = previous(self.stamp), previous(self.goes_to)
         self.stamp_before[first], before[first] = stamps[self.cpu[first]], pids[self.cpu[first]]
         self.is_lost = (self.stamp_before != NO_STAMP) & (runs != before)
@@ -220,28 +220,28 @@ class Part:
 
 
 def previous(column: Integers) -> Integers:
-    """Return a column of which each row has what was in the row before it."""
+    """Return a column in which each row after the first has what was in the row before it."""
     result = column.copy()
     result[1:] = column[:-1]
     return result
 
 
 def lane_of(cpu: int, cuts: NDArray[np.void], last_task: int, bounds: tuple[int, int]) -> Lane:
-    """Return what a CPU ran between two stamps, of its cuts and the number of the task that it ran at the end."""
+    """Return what a CPU ran between two stamps, given its cuts and the number of the task that it ran at the end."""
     first, last = bounds
     ends = np.maximum.accumulate(np.append(cuts["stamp"], last)).clip(first, last) - first
     begins = np.append(0, ends[:-1])
-    # A run of no length isn't kept; of several switches at one stamp the last one tells.
+    # A run of no length isn't kept; of several switches at one stamp, the last one counts.
     kept = np.flatnonzero(begins < ends)
     tasks, lines = np.append(cuts["task"], last_task), np.append(0, cuts["line"])
-    # A CPU that idles on after a switch idles in one run.
+    # A CPU that goes on idling after a switch idles in one run.
     of = tasks[kept]
     kept = kept[np.append(True, (of[1:] != of[:-1]) | (of[1:] >= FIRST))[: len(kept)]]
     return Lane(cpu, begins[kept].astype(time_type(last - first)), tasks[kept].astype("u4"), lines[kept].astype("u4"))
 
 
 def with_holes(lane: Lane, holes: Sequence[Hole], bounds: tuple[int, int]) -> Lane:
-    """Return a lane of which it isn't known what ran in some holes, between the stamps at which it begins and ends."""
+    """Return a lane in which it isn't known what ran during holes; the bounds are the stamps at which it begins and ends."""
     first, last = bounds
     known = (
         (max(hole.after or first, first) - first, min(last if hole.before is None else hole.before, last) - first)

@@ -19,7 +19,8 @@ from .model import Side, View, text_of
 from .script import Asked
 from .server import PAGES
 
-# So many of the longest waits are explained, each in so many stretches, if they have at most so many events together.
+# How many of the longest waits are explained at most, each in about how many stretches at most, and about how many events those
+# after the longest one may have together.
 WORST, STRETCHES, EVENTS = 200, 1000, 1 << 20
 # How hard gzip tries: with more, columns of a million waits get a few per cent smaller, and take seconds.
 LEVEL = 1
@@ -140,7 +141,7 @@ def scenes_of(side: Side) -> dict[str, Any]:
 
 
 def longest(waits: Waits) -> list[int]:
-    """Return which waits are explained, in their order: the longest one, and of the next ones those that together have few
+    """Return which waits are explained, in their order: the longest one, and of the next ones, those that together have few
     enough events, if events are strewn evenly."""
     micros, held = waits._column("micros"), waits.held
     worst = np.argsort(-micros, kind="stable")[:WORST].tolist()

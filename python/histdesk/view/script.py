@@ -16,10 +16,10 @@ from .._row_shape import STAMP
 NAME = "view.script"
 # A table's greatest size.
 SIZE = 131_072
-# Of each kind of waits that a script measures: the event with which they begin, the field with the task, and the filter of what
-# begins one. Task 0 is what a CPU runs if nothing waits; it is always runnable, and waits for nothing.
+# For each kind of waits that a script measures: the event with which they begin, the field with the task, and the filter for
+# what begins one. Task 0 is what a CPU runs if nothing waits; it is always runnable, and waits for nothing.
 BEGINS = {"woken": ("sched_waking", "pid", "pid != 0"), "new": ("sched_wakeup_new", "pid", "pid != 0")}
-# The switches by which a task leaves that could run on, and those that run one.
+# Filters for the switches away from a task that could run on, and for those to a task.
 RUNNABLE = 'prev_state == "R" || prev_state == "R+"'
 ENDS = "next_pid != 0"
 
@@ -111,7 +111,7 @@ def waits_of(asked: Asked) -> list[str]:
     if wanted and at_begin:
         triggers.append(f"{begins} hist:keys={key}:other{take} if {condition} && !({asked.filter})")
     if begins == "sched_waking":
-        # It still ran, and was preempted later.
+        # The task still ran when it was woken, and was preempted later.
         triggers.append(f"sched_switch hist:keys=prev_pid:ran{take} if prev_pid != 0 && ({RUNNABLE})")
     reader = f"sched_switch hist:keys=next_pid:vals=$waited:size={SIZE}:waited{take} if {ENDS}"
     if wanted and at_end:

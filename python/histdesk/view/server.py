@@ -22,11 +22,11 @@ from .timeline import Window
 Json = Union[None, bool, int, float, str, list[Any], dict[str, Any]]
 
 HOST = "127.0.0.1"
-# A request's body is at most so long.
+# The most bytes that a request's body may have.
 ROOM = 1 << 16
-# So many seconds a connection may say nothing.
+# For how many seconds a connection may say nothing.
 PATIENCE = 300
-# After so many seconds without a question there is time for other things.
+# After how many seconds without a question there is time for other things.
 PAUSE = 0.5
 PAGES = Path(__file__).resolve().parent / "page"
 KINDS = {".html": "text/html", ".css": "text/css", ".js": "text/javascript"}
@@ -64,7 +64,7 @@ class Ask(NamedTuple):
     answer
         What answers it.
     takes
-        The arguments of that by name, each with its types; an argument that may be None may be left out.
+        The arguments that this takes, by name, each with its types; an argument that may be None may be left out.
     """
 
     answer: Callable[..., Union[Json, bytes]]
@@ -90,7 +90,7 @@ class Job:
             self._done.set()
 
     def answer(self) -> Json | bytes:
-        """Wait for the answer, or raise what it raised."""
+        """Wait for the answer and return it, or raise what the question raised."""
         self._done.wait()
         if self._error is not None:
             raise self._error
@@ -171,7 +171,7 @@ class Handler(http.server.BaseHTTPRequestHandler):
     timeout = PATIENCE
     # A request that can't be read is answered like others.
     default_request_version = "HTTP/1.1"
-    # An answer isn't held back until the one before it was taken note of.
+    # An answer isn't held back until the one before it has been acknowledged.
     disable_nagle_algorithm = True
 
     def handle(self) -> None:
@@ -376,7 +376,7 @@ def strikes_of(given: list[Any]) -> list[tuple[str, str]]:
 
 
 def same(given: str, secret: str) -> bool:
-    """Return whether two texts are the same, in a time that doesn't depend on how much of them is."""
+    """Return whether two texts are the same, in a time that doesn't depend on how much of them is the same."""
     return hmac.compare_digest(given.encode("utf-8", "surrogateescape"), secret.encode())
 
 

@@ -38,8 +38,8 @@ class Matches(NamedTuple):
     lines: NDArray[np.integer[Any]]
 
 
-# The desks of a recording are kept if they are so many, in which case a filter needn't read the recording again: a desk that is
-# full takes some 230 MB.
+# The desks of a recording are kept if there are at most this many of them. A filter needn't read the recording again then. A
+# full desk takes some 230 MB.
 KEPT = 2
 
 
@@ -134,11 +134,11 @@ class Whole:
         return strip_in(self._source, wait, window, self._waits.held, most)
 
     def strips(self, waits: Sequence[Wait], most: int) -> Iterator[Json]:
-        """Return the same of several waits, in the order in which they begin."""
+        """Return what `strip` returns for several waits, in the order in which they begin."""
         return strips_in(self._source, waits, self._waits.held, most)
 
     def matching(self, one: Chosen) -> Matches:
-        """Return where the events of a name stand that pass a filter. Raises `Refused` if the filter can't be read."""
+        """Return where those events of a name stand that pass a filter. Raises `Refused` if the filter can't be read."""
         cpus, lines = [np.zeros(0, "u4")], [np.zeros(0, "i8")]
         for desk, before in self._desks():
             places = desk.matching(one.event, one.filter)
@@ -170,7 +170,7 @@ class Whole:
 
     @cached_property
     def _kept(self) -> list[tuple[Desk, NDArray[np.int64]]]:
-        """The same of a recording whose desks are kept."""
+        """What `_desks` returns for a recording whose desks are kept."""
         before = np.zeros(layout.CPUS, "i8")
         if self._fits:
             return [(self.held.desk, before)]
@@ -225,7 +225,7 @@ class Part:
         return strip_of(scene, explain(scene, wait), extent_of(wait, window, held), held.cpus, most)
 
     def strips(self, waits: Sequence[Wait], most: int) -> Iterator[Json]:
-        """Return the same of several waits."""
+        """Return what `strip` returns for several waits."""
         return (self.strip(wait, Window(), most) for wait in waits)
 
     def events(self) -> Iterator[tuple[NDArray[np.void], NDArray[np.integer[Any]]]]:
@@ -234,7 +234,7 @@ class Part:
         yield events, self.recording.lines(events.cpu, events.line.copy())
 
     def matching(self, one: Chosen) -> Matches:
-        """Return where the events of a name stand on which a filter holds. Raises `Refused` if it can't be read."""
+        """Return where those events of a name stand that pass a filter. Raises `Refused` if the filter can't be read."""
         places = self.held.desk.matching(one.event, one.filter)
         return Matches(places.cpu, self.recording.lines(places.cpu, places.line))
 

@@ -23,13 +23,13 @@ def thin(stretches: Stretches, most: int, own: int) -> list[dict[str, Any]]:
         About how many are wanted. If there are more, the time is divided into half as many cells, and stretches that are
         shorter than a cell and begin in the same one are put together.
     own
-        The PID of a task of which each stretch is wanted.
+        The PID of a task whose stretches are all wanted one by one.
 
     Returns
     -------
     list of dict
-        A stretch as `stretch_of` has it, or what is put together: with the `count` of its stretches, and for how many
-        microseconds it was `busy` with tasks, and `lost`, if it isn't known what ran in any of them.
+        A stretch as `stretch_of` has it, or what is put together: with the `count` of its stretches, for how many
+        microseconds the CPU was `busy` with tasks, and `lost`, whether there is a stretch of which it isn't known what ran.
     """
 
     if len(stretches) <= most:

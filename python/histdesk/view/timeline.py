@@ -14,14 +14,14 @@ from .._why import why_of as explain
 
 Json = dict[str, Any]
 
-# Columns of a text whose sentences stay whole.
+# How wide a text is, in columns, so that its sentences stay whole.
 WIDE = 1 << 16
-# What is reported before and after a wait: a part of its length, and at least so many microseconds.
+# What is reported before and after a wait: its length divided by PART, and at least LEAST microseconds.
 PART, LEAST = 5, 50
-# At most about so many stretches are reported, and of each CPU at least so many; around a wait, about so many events are looked
-# at; and of waits that lie close together, so many at once.
+# About how many stretches are reported at most, and how many each CPU may have in any case; about how many events are looked at
+# around a wait, and about how many at once around waits that lie close together.
 MOST, LANE, ROOM, GROUP = 5000, 100, 1 << 17, 1 << 16
-# So many events before and after are read at once, since most CPUs have one among them that says what ran there.
+# About how many events before and after are read at once: most CPUs have one among them that says what ran there.
 EDGE = 1 << 13
 BEGINS = {WOKEN: "woken", FORKED: "forked", PREEMPTED: "preempted"}
 
@@ -89,8 +89,8 @@ def strip_in(source: Source, wait: Wait, window: Window, held: Held, most: int =
 
 
 def strips_in(source: Source, waits: Sequence[Wait], held: Held, most: int = MOST) -> Iterator[Json]:
-    """Return the same of several waits, in the order in which they begin. Events around waits that lie close together are read
-    once."""
+    """Return what `strip_in` returns for several waits, in the order in which they begin. Events around waits that lie close
+    together are read once."""
     for group in groups_of(waits, held):
         if len(group) == 1:
             yield strip_in(source, group[0].wait, Window(), held, most)
@@ -119,7 +119,7 @@ def groups_of(waits: Sequence[Wait], held: Held) -> Iterator[list[Request]]:
 
 
 def together(source: Source, group: Sequence[Request], held: Held, most: int) -> list[Json]:
-    """Return what `strip_in` returns of some waits that lie close together."""
+    """Return what `strip_in` returns for some waits that lie close together."""
     strips: dict[int, Json] = {}
 
     def tell(scene: Scene) -> None:
@@ -139,7 +139,7 @@ def together(source: Source, group: Sequence[Request], held: Held, most: int) ->
 
 
 def stretch_as(wait: Wait, start: int, stop: int) -> Wait:
-    """Return a stretch of time in the form of a wait, by which events are gather."""
+    """Return a stretch of time in the form of a wait, by which events are gathered."""
     return wait._replace(begin=wait.begin._replace(stamp=start), end=wait.begin._replace(stamp=stop))
 
 
@@ -215,13 +215,13 @@ def strip_of(scene: Scene, why: Why, extent: Extent, cpus: Sequence[int], most: 
 
 
 def lanes(scene: Scene, extent: Extent, cpus: Sequence[int], own: int, most: int) -> list[Json]:
-    """Return what ran on each CPU, in about so many stretches at most together; those of one task are all there."""
+    """Return what ran on each CPU, in about `most` stretches together at most; those of the task `own` are all there."""
     # A Python without numpy may import this module.
     from .thinning import thin
 
     low, high = scene.stamp.searchsorted(extent.start), scene.stamp.searchsorted(extent.stop, "right")
     events = range(int(low), int(high))
-    # Of a wait with very many events, only those of its CPUs are there.
+    # If a wait has very many events, only those of its CPUs are there.
     known = [cpu for cpu in cpus if scene.knows(cpu)] or cpus
     ran = ((cpu, scene.between(cpu, events, extent.start, extent.stop)) for cpu in known)
     return [{"cpu": cpu, "stretches": thin(one, max(most // len(cpus), LANE), own)} for cpu, one in ran]
@@ -241,6 +241,6 @@ def marks(why: Why) -> list[Json]:
         events.append((why.queued.stamp, why.queued.target_cpu or 0, "queued"))
     if why.end:
         events.append((why.end.stamp, why.end.cpu, "ran"))
-    # If they have one stamp, they stay in this order.
+    # Events with the same stamp stay in this order.
     events.sort(key=lambda event: event[0])
     return [{"cpu": cpu, "stamp": stamp, "what": what} for stamp, cpu, what in events]

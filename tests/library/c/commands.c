@@ -25,7 +25,7 @@ static text trim(text whole) {
     return trim_start(whole);
 }
 
-/* The first word of a text that no space begins; `rest` becomes what follows it and the spaces after it. */
+/* The first word of a text that begins with no space; `rest` becomes what follows the word and the spaces after it. */
 static text first_word(text whole, text *rest) {
     size_t length = 0;
     while (length < whole.length && whole.at[length] != ' ')

@@ -1,7 +1,7 @@
-/* exact: each text that is handed in and each buffer that is copied to has just its size on the heap, so that valgrind sees
+/* exact: each text that is handed in and each buffer that is copied to has exactly its size on the heap, so that valgrind sees
  * each byte read or written beside it: copies with no room, too little, enough and too much, from each place on and from
- * after the end; handles without a desk; each refusal and its words. What is wrong is printed, by the line of this file;
- * last stands how many of the tests hold. */
+ * after the end; handles without a desk; each refusal and its words. What is wrong is printed with its line in this file;
+ * the last line says how many of the tests hold. */
 #include "histdesk.h"
 #include "holds.h"
 
@@ -23,7 +23,7 @@ static void *exact(const void *bytes, size_t size) {
     return own;
 }
 
-/* ---- Calls whose texts have just their size. */
+/* ---- Calls whose texts have exactly their size. */
 
 static uint32_t load(const char *trace, uint64_t *events) {
     uint8_t *own = exact(trace, strlen(trace));
@@ -76,7 +76,7 @@ static uint32_t losses_in(const char *text, histdesk_losses_read *read) {
 
 /* ---- Copies. */
 
-/* Each copy from each place on, to each room: just what is there, and nothing after it. */
+/* Each copy, from each place on, into room of each size: exactly what is there, and nothing is written after it. */
 #define COPIES(type, copy, count)                                                                          \
     static bool type##_##copy(void) {                                                                      \
         uint64_t all = (count), froms[] = {0, 1, 2, all / 2, all - 1, all, all + 1, 1ull << 32, UINT64_MAX - 1, UINT64_MAX}; \
@@ -100,7 +100,7 @@ static uint32_t losses_in(const char *text, histdesk_losses_read *read) {
         return holds;                                                                                      \
     }
 
-/* What is after the last field of an event, or of a hole, is nobody's. */
+/* The bytes after the last field of an event, or of a hole, mean nothing. */
 static bool is_same(const void *one, const void *other, size_t size) {
     if (size == sizeof(histdesk_event))
         size = offsetof(histdesk_event, prev_state) + sizeof(histdesk_name);
@@ -157,7 +157,7 @@ static void fill(void) {
     HOLDS(attach(HISTDESK_WAKING, "hist:keys=comm", &id) == HISTDESK_OK && id == 4);
 }
 
-/* Which rows the strike changes: of 1 and 4 those of pid 42 and w, of 2 that of pid 42, and of 3 the first one. */
+/* Which rows the strike changes: that of pid 42 in triggers 1 and 2, that of w in trigger 4, and the first one in trigger 3. */
 static void strike(void) {
     histdesk_report report;
     HOLDS(histdesk_strike(desk, 0, 1) == HISTDESK_OK);
@@ -201,7 +201,7 @@ static void ask_and_copy(void) {
     copy_all();
 }
 
-/* What was asked for stays over edits, and events are those that are held at the places now: none where another one of
+/* What was asked for stays after edits, and events are those that are held at the places now: there is none if an event of
  * another stamp came to the line. */
 static void ask_and_edit(void) {
     histdesk_line at;
@@ -270,7 +270,7 @@ static void strike_many(void) {
     HOLDS(strike_events(places, 2, false, &struck) == HISTDESK_NO_LANE && struck == 0);
 }
 
-/* What one desk holds and tells is no other's. */
+/* What one desk holds and tells is kept apart from what another one does. */
 static void keep_apart(void) {
     histdesk *first = desk, *second = exact(&(histdesk){0}, sizeof *second);
     histdesk_refusal refusal;
@@ -325,7 +325,7 @@ static void are_closed(void) {
 
 typedef size_t (*writing)(const histdesk_refusal *, uint8_t *, size_t);
 
-/* Whether a refusal is written so, to each room. */
+/* Whether a refusal is written like this, into room of each size. */
 static bool is_written(writing write, const histdesk_refusal *refusal, const char *want) {
     bool holds = true;
     for (size_t room = 0; room <= strlen(want) + 2; room++) {
@@ -340,7 +340,7 @@ static bool is_written(writing write, const histdesk_refusal *refusal, const cha
     return holds;
 }
 
-/* What a call is refused with: the whole refusal, its text and its words. */
+/* Whether a call is refused with this: the whole refusal, its text and its words. */
 static bool is_refused(uint32_t code, histdesk_refusal want, const char *text, const char *words) {
     histdesk_refusal *own = exact(NULL, sizeof *own);
     histdesk_refused(desk, own);

@@ -1,6 +1,6 @@
-/* fail: a session that makes each call, with each growth of the library's memory refused in turn: alone, or with all after
- * it. Where a call answers that memory ran out, it is given memory and asked again, and answers what it should. In the end
- * nothing is held of the heap. What is wrong is printed, by the line of this file; last stands how many sessions held. */
+/* fail: a session that makes each call, with each growth of the library's memory refused in turn: by itself, or with all after
+ * it. If a call answers that memory ran out, it is given memory and made again, and answers what it should. In the end nothing
+ * is held of the heap. What is wrong is printed with its line in this file; the last line says how many sessions held. */
 #include "heap.h"
 #include "histdesk.h"
 
@@ -52,7 +52,7 @@ static void done(int line, uint32_t want, uint32_t code) {
         wrong(line, "code %" PRIu32 ", not %" PRIu32, code, want);
 }
 
-/* A call with this code, asked again if memory ran out, after `same`, which says what must be as it was. */
+/* A call with this code. If memory ran out, `same` says what must be as it was, and the call is made again. */
 #define KEEPS(want, call, same)                                \
     do {                                                       \
         uint32_t code = (call);                                \
@@ -106,7 +106,7 @@ static bool is_row(uint64_t count, uint64_t kind, int64_t number, uint64_t hitco
     return count == 1 && copied == 1 && memcmp(&rows[0], &want, sizeof want) == 0 && before == heap.growths;
 }
 
-/* The one latency, from this line of CPU 0 and stamp to its line 2. */
+/* Whether there is one latency, from this line of CPU 0, with this stamp, to line 2 of CPU 0. */
 static bool is_latency(uint64_t count, uint32_t line, uint64_t stamp) {
     histdesk_latency own[2];
     uint64_t before = heap.growths;
@@ -119,7 +119,7 @@ static bool are_totals(const histdesk_totals *own, uint64_t hits, uint64_t entri
     return own->hits == hits && own->entries == entries && own->dropped == 0;
 }
 
-/* The places that were asked for last, and the names of the events there. */
+/* Whether these are the places that were asked for last, and the names of the events there. */
 static bool are_places(uint64_t count, uint64_t want, const histdesk_place *places, const uint32_t *names) {
     histdesk_place own[4];
     histdesk_event events[4];
@@ -141,7 +141,7 @@ static bool are_triggers(uint64_t count, uint64_t want) {
     return count == want && copied == want && memcmp(own, all, want * sizeof *own) == 0 && before == heap.growths;
 }
 
-/* A row of one number among those that an edit named, if it named them. */
+/* Whether a row of one number is among those that an edit named, if it named them. */
 static bool is_named(bool has, uint64_t count, size_t (*copy)(histdesk *, uint64_t, histdesk_changed *, size_t), uint32_t id,
                      uint64_t kind, int64_t number) {
     histdesk_changed own[16];
@@ -220,7 +220,7 @@ static void ask_events(void) {
     HOLDS(are_places(count, 1, all, names));
 }
 
-/* The lines of the trace, or of its front. */
+/* Whether these are the lines of the trace, or of its front. */
 static bool are_lines(uint64_t count, uint64_t want) {
     static const histdesk_text_line all[] = {
         {72, 1000100, 0, HISTDESK_WAKING, 0, 0},
@@ -234,7 +234,7 @@ static bool are_lines(uint64_t count, uint64_t want) {
     return count == want && copied == want && memcmp(own, all, want * sizeof *own) == 0 && before == heap.growths;
 }
 
-/* The hole that a line in front of all reports, if there is one. */
+/* Whether there is the hole that a line in front of all others reports, if one is wanted. */
 static bool are_losses(const histdesk_losses_read *read, uint64_t want, uint32_t cpu) {
     histdesk_hole own[2];
     uint64_t before = heap.growths;
@@ -269,8 +269,8 @@ static void ask_all(uint64_t wakings, uint32_t line, uint64_t stamp, int64_t pow
     HOLDS(!histdesk_is_deferred(&desk));
 }
 
-/* The report of an edit that changes one row of each trigger, or takes one away and brings one. Where memory runs out, it
- * may be left out. */
+/* The report of an edit that changes one row of each trigger, or takes one away and brings one. If memory ran out, it may be
+ * left out. */
 static void ask_report(bool had_memory) {
     histdesk_report report;
     ALWAYS(HISTDESK_OK, histdesk_report_of(&desk, &report));
@@ -297,7 +297,7 @@ static void edit_events(void) {
     ask_all(1, 1, 1000100, 6);
 }
 
-/* Many strikes never want memory, and their report may be left out as that of one. */
+/* Many strikes in one call never want memory, and their report may be left out, as that of one may. */
 static void strike_many(void) {
     histdesk_line at = {77, 77};
     uint64_t struck = 77;
@@ -326,7 +326,7 @@ static void edit_triggers(void) {
     HOLDS(are_triggers(count, 2));
 }
 
-/* A text or the words of a refusal, which may want memory, and then come when they are asked for again. */
+/* Whether the text or the words of a refusal are these; they may want memory, and then come when they are asked for again. */
 static bool is_written(size_t (*write)(const histdesk_refusal *, uint8_t *, size_t), const histdesk_refusal *refusal,
                        const char *want) {
     uint8_t own[160];

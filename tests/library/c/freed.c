@@ -1,7 +1,7 @@
 /* freed: what tables keep of events goes from the heap as the events go. A desk with triggers and one without get the same
- * events, half of them loaded and half inserted, and each is struck again, whose key no other event has. Then the one desk
- * holds a few blocks of the heap more than the other, as many for few events as for many. What is wrong is printed, by the
- * line of this file; last stands how many of the tests hold. */
+ * events, half of them loaded and half inserted, each with a key that no other event has, and each is struck again. Then the
+ * desk with triggers holds a few blocks of the heap more than the other, as many for few events as for many. What is wrong is
+ * printed with its line in this file; the last line says how many of the tests hold. */
 #include "heap.h"
 #include "histdesk.h"
 #include "holds.h"
@@ -11,7 +11,7 @@
 #include <string.h>
 
 /* More blocks than the tables of three triggers take without hits, and fewer than a tree takes that still has a key for
- * each of MANY tasks: 15 keys at most stand in a block. */
+ * each of MANY tasks: a block has at most 15 keys. */
 enum { FEW = 256, MANY = 2048, MOST_LEFT = 64 };
 
 static histdesk desk;

@@ -1,4 +1,4 @@
-/* holds: counts what a program tests, and prints what does not hold by the line of its file. */
+/* holds: counts what a program tests, and prints what does not hold with its line in the file. */
 #include <stdbool.h>
 #include <stdio.h>
 

@@ -1,8 +1,8 @@
-/* lines: what each line of a text is and where it ends, and what the lines report lost: lines of each kind, in no order of
+/* lines: what each line of a text is and where it ends, and what the lines report as lost: lines of each kind, in no order of
  * time, with and without a last line break. What is wanted was worked out by hand. Lines and holes are copied into room of
- * each size, with nothing written beside it; the desk, its stream and its other answers stay; each growth of memory is
- * refused in turn; and histdesk_forget gives the memory back. What is wrong is printed, by the line of this file; last stands
- * how many of the tests hold. */
+ * each size, with nothing written beside it; the desk, its stream and its other answers stay as they were; each growth of
+ * memory is refused in turn; and histdesk_forget gives the memory back. What is wrong is printed with its line in this file;
+ * the last line says how many of the tests hold. */
 #include "heap.h"
 #include "histdesk.h"
 #include "holds.h"
@@ -61,7 +61,7 @@ static void write_text(void) {
     }
 }
 
-/* ---- Questions; the text has just its size on the heap, so that valgrind sees each byte read beside it. */
+/* ---- Questions; the text has exactly its size on the heap, so that valgrind sees each byte read beside it. */
 
 static uint32_t ask_lines(histdesk *desk, const char *bytes, size_t length, uint64_t *count) {
     uint8_t *own = malloc(length); /* also of no bytes */
@@ -93,7 +93,7 @@ static bool is_read(const histdesk_losses_read *read, uint64_t count, uint64_t h
     return read->holes == count && read->held == held && read->written == written && read->has_written == has_written;
 }
 
-/* Whether a copy from this place on, to this room, is just what is there, and nothing is written after it. */
+/* Whether a copy from this place on, into room of this size, is exactly what is there, and nothing is written after it. */
 static bool copies(histdesk *desk, size_t from, size_t room, bool is_of_holes) {
     size_t size = is_of_holes ? sizeof(histdesk_hole) : sizeof(histdesk_text_line);
     size_t there = is_of_holes ? HOLES : LINES;
@@ -143,7 +143,7 @@ static void each_kind(histdesk *desk) {
     HOLDS(wrong == 0);
 }
 
-/* Each beginning of the text: the last line ends with it, and is what it is when it stands alone. */
+/* Each beginning of the text: the last line ends where the text ends, and is what it is when it stands alone. */
 static void each_beginning(histdesk *desk) {
     size_t wrong = 0;
     for (size_t length = 0; length <= text_length; length++) {
@@ -234,7 +234,7 @@ static bool is_refused(histdesk *desk) {
     return histdesk_refused(desk, &refusal) == HISTDESK_OK && refusal.number == HISTDESK_MEMORY;
 }
 
-/* Asks about another text with a growth refused: memory ran out, and what was asked for before is there, or it did not. */
+/* Asks about another text with a growth refused: memory ran out, and what was asked for before is there, or it didn't. */
 static bool survives(histdesk *desk, bool is_of_holes, bool *has_run_out) {
     static const char other[] = "CPU:2 [LOST 1 EVENTS]\n";
     uint64_t count = 77;

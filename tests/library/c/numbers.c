@@ -142,8 +142,8 @@ static uint32_t event_of(histdesk *desk, uint32_t id) {
     return event;
 }
 
-/* How often a trigger is hit: by each event of its name on which its filter holds, or by each latency. Triggers on made
- * events are hit by none that is held. */
+/* How often a trigger is hit: by each event of its name that passes its filter, or by each latency. No event that is held
+ * hits a trigger on made events. */
 static void check_hits(histdesk *desk, uint32_t id, const trigger_text *trigger, const histdesk_totals *totals) {
     uint32_t event = event_of(desk, id);
     uint64_t count, hits = totals->hits + totals->dropped;

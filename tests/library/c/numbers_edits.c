@@ -63,7 +63,7 @@ static void is_named(const named *names, const histdesk_trigger *trigger, const 
         fault("trigger %" PRIu32 ": a row changed that no report names", trigger->id);
 }
 
-/* Both tables' rows go side by side, by key. */
+/* Goes through the rows of both tables side by side, by key. */
 static void compare(const table *old, const table *new, const named *names) {
     uint64_t gone = 0, come = 0;
     while (gone < old->count || come < new->count) {
@@ -98,7 +98,7 @@ void before_edit(histdesk *desk) {
     read_base(desk, &before);
 }
 
-/* Also after an edit that was refused, of which no row changed. */
+/* This is also called after an edit that was refused, which changed no row. */
 void after_edit(histdesk *desk) {
     named names = {0};
     histdesk_refusal refusal;

@@ -138,7 +138,7 @@ void check_events(histdesk *desk) {
     free(events);
 }
 
-/* The reading events are in merged order, each stands after the one that saved, and all are held. */
+/* The reading events are in merged order, none stands before the one that saved, and all are held. */
 void check_latencies(histdesk *desk, uint32_t id) {
     uint64_t count, events;
     if (histdesk_latencies(desk, id, &count) != HISTDESK_OK || histdesk_events(desk, &events) != HISTDESK_OK)

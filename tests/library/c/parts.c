@@ -1,10 +1,10 @@
-/* parts: a text that is read in parts, by a stream of a desk for each, which are joined in order. The text is random: tasks are
- * woken, created and switched on three CPUs, many events have one stamp, some events are lost, and some lines can't be read. It
- * is cut at random into 2 to 5 parts where the stamp changes. What the parts and the joins tell, at places that are moved as the
- * header says, is held against what one stream tells of the whole text: each wait once, and all that was read. Each reason comes
- * for which a part isn't joined, but that of 4,294,967,295 lines, and both streams go on as before; each growth of memory is
- * refused in turn; and the parts are read side by side in threads. What is wrong is printed, by the line of this file; last
- * stands how many of the tests hold. */
+/* parts: a text is read in parts, each by a stream of its own desk, and the parts are joined in order. The text is random:
+ * tasks are woken, created and switched on three CPUs, many events have one stamp, some events are lost, and some lines
+ * can't be read. It is cut at random into 2 to 5 parts where the stamp changes. What the parts and the joins tell, at places
+ * that are moved as the header says, is compared with what one stream tells of the whole text: each wait once, and all that
+ * was read. Each reason for which a part isn't joined comes, except that of 4,294,967,295 lines, and both streams go on as
+ * before; each growth of memory is refused in turn; and the parts are read side by side in threads. What is wrong is printed
+ * with its line in this file; the last line says how many of the tests hold. */
 #include "heap.h"
 #include "histdesk.h"
 #include "holds.h"
@@ -34,7 +34,7 @@ static uint32_t below(uint32_t end) {
     return (seed >> 8) % end;
 }
 
-/* Writes a text. A CPU that lost events has one soon after, so that few places to cut lie between. */
+/* Writes a text. A CPU that lost events has an event soon after, so that few places to cut lie in between. */
 static void write_text(uint32_t number) {
     uint32_t running[CPUS] = {0};
     uint64_t stamp = 1000000;
@@ -80,7 +80,7 @@ typedef struct {
     histdesk_waits_read read;
 } answer;
 
-/* Copies the waits that were told, of which there are so many. */
+/* Copies the waits that were told, `count` of them. */
 static bool takes(histdesk *desk, uint64_t count, answer *own) {
     size_t room = MOST_WAITS - own->count;
     if (count > room || histdesk_waits_copy(desk, 0, own->waits + own->count, room) != count)
@@ -89,7 +89,8 @@ static bool takes(histdesk *desk, uint64_t count, answer *own) {
     return true;
 }
 
-/* Feeds a piece of the text in pieces of this size: the first code that isn't 0, or HISTDESK_CLOSED if a copy is wrong. */
+/* Feeds a part of the text in pieces of this size. Returns the first code that isn't 0, or HISTDESK_CLOSED if a copy is
+ * wrong. */
 static uint32_t feeds(histdesk *desk, size_t from, size_t end, size_t cut, answer *own) {
     uint64_t count;
     uint32_t code = HISTDESK_OK;
@@ -159,13 +160,13 @@ static void move_behind(answer *own, const uint32_t *before) {
     }
 }
 
-/* Adds the waits that one answer has to another. */
+/* Adds the waits of one answer to another one. */
 static void add(answer *own, const answer *more) {
     memcpy(own->waits + own->count, more->waits, more->count * sizeof *more->waits);
     own->count += more->count;
 }
 
-/* Joins a part that was read: the waits that this tells, and those that the part told. */
+/* Joins a part that was read. Adds the waits that the join tells, and those that the part told. */
 static uint32_t joins(part *one, answer *own) {
     static uint32_t before[EVERY_CPU];
     static answer told;
@@ -178,7 +179,7 @@ static uint32_t joins(part *one, answer *own) {
     told.count = 0;
     if (!takes(&parts->desk, count, &told))
         return HISTDESK_CLOSED;
-    if (histdesk_waits_feed(&one->desk, (const uint8_t *)text, 1, &count) != HISTDESK_NO_STREAM) /* it has no stream then */
+    if (histdesk_waits_feed(&one->desk, (const uint8_t *)text, 1, &count) != HISTDESK_NO_STREAM) /* it has no stream any more */
         return HISTDESK_CLOSED;
     for (size_t at = 1; at < told.count; at++) /* in the order of their ends */
         if (told.waits[at - 1].ended.stamp > told.waits[at].ended.stamp)
@@ -288,7 +289,7 @@ static bool begins(histdesk *desk, histdesk *other) {
            feed(desk, front) == HISTDESK_OK && feed(other, back) == HISTDESK_OK;
 }
 
-/* Whether a join is refused so, and writes nothing. */
+/* Whether a join is refused like this, and writes nothing. */
 static bool refuses(histdesk *desk, histdesk *other, uint32_t code, uint32_t fault) {
     uint64_t count = 77;
     return histdesk_waits_join(desk, other, &count) == code && count == 77 && is_refused(desk, code, fault);
@@ -321,7 +322,7 @@ static void not_joined(histdesk *desk, histdesk *other) {
     HOLDS(count == 77 && read.lines == 78 && is_refused(other, HISTDESK_NO_STREAM, 0));
     HOLDS(histdesk_waits_sum_up(other) == HISTDESK_NO_STREAM && is_refused(other, HISTDESK_NO_STREAM, 0));
     HOLDS(histdesk_waits_holes(other, 0, &(histdesk_hole){0}, 1) == 0 && go_on(desk, other));
-    /* Each reason, and that the two go on. */
+    /* Each reason, and then the two go on. */
     HOLDS(begins(desk, other) && feed(desk, "#") == HISTDESK_OK && refuses(desk, other, HISTDESK_NOT_JOINED, HISTDESK_UNENDED));
     HOLDS(feed(desk, "\n") == HISTDESK_OK && histdesk_waits_join(desk, other, &count) == HISTDESK_OK && count == 1);
     HOLDS(begins(desk, other) && histdesk_waits_new(desk, true) == HISTDESK_OK && feed(desk, front) == HISTDESK_OK);
@@ -390,7 +391,7 @@ static bool stays_refused(void) {
            histdesk_waits_join(&parts->desk, &parts[1].desk, &count) == HISTDESK_MEMORY && count == 77;
 }
 
-/* Reads and joins once with a growth refused, or it and all after it: all is told, or memory ran out. */
+/* Reads and joins once with a growth refused, or with it and all after it refused: all is told, or memory ran out. */
 static bool survives(bool *has_run_out, size_t *in_joins) {
     heap.growths = 0;
     heap.is_counting = true;

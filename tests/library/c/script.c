@@ -1,6 +1,6 @@
 /* script [--numbers|--refusing] SCRIPT [TRACE]...: runs a script through the library and prints what the program `histdesk`
  * prints, with its status. With --numbers the rows, latencies, events, triggers and reports that the library answers as
- * numbers are held against its texts and against each other; if they don't fit, it says so and ends with status 3. With
+ * numbers are compared with its texts and with each other; if they don't agree, it says so and ends with status 3. With
  * --refusing a part of the library's growths of memory is refused, by chance from a fixed start: a call that runs out of
  * memory is made again, with memory, and the output is the same. */
 #include "heap.h"
@@ -81,7 +81,7 @@ static void put_refusal(session *run, const histdesk_refusal *refusal) {
         fault("refusal %" PRIu32 " has no text, or no words", refusal->number);
 }
 
-/* Whether a call's code accepts what was asked; else the refusal is written. */
+/* Whether a call's code says that what was asked is accepted; if not, the refusal is written. */
 static bool accepts(session *run, uint32_t code) {
     histdesk_refusal refusal;
     if (code == HISTDESK_MEMORY)

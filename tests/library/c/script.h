@@ -52,7 +52,8 @@ histdesk_trigger *whole_triggers(histdesk *desk, uint64_t count);
 histdesk_changed *whole_rows_changed(histdesk *desk, uint64_t count);
 histdesk_changed *whole_made_changed(histdesk *desk, uint64_t count);
 
-/* numbers.c, numbers_events.c, numbers_edits.c: the numbers that the library answers, against its texts and each other. */
+/* numbers.c, numbers_events.c, numbers_edits.c: the numbers that the library answers are compared with its texts and with each
+ * other. */
 void check_hist(histdesk *desk, uint32_t id, const bytes *hist);
 void check_latencies(histdesk *desk, uint32_t id);
 void check_list(histdesk *desk, uint32_t cpu, const bytes *list);

@@ -1,8 +1,8 @@
 /* waits: the text of a recording with each kind of wait, hole and odd line, read by a stream. What is wanted was worked out
- * by hand. The text is cut into pieces of each size; lines that can't be read are skipped or refused; each code comes but
+ * by hand. The text is cut into pieces of each size; lines that can't be read are skipped or refused; each code comes, except
  * that of 4,294,967,295 lines; waits and holes are copied into room of each size, with nothing written beside it; each growth
- * of memory is refused in turn; and two threads read with a desk each. What is wrong is printed, by the line of this file;
- * last stands how many of the tests hold. */
+ * of memory is refused in turn; and two threads read with a desk each. What is wrong is printed with its line in this file;
+ * the last line says how many of the tests hold. */
 #include "heap.h"
 #include "histdesk.h"
 #include "holds.h"
@@ -55,7 +55,7 @@ static const histdesk_hole holes[HOLES] = {
     {11, 1000500, 1000700, 0, 1, true, true, false},
     {17, 1000900, 0, 3, 1, true, false, true},
 };
-/* Of task 42 if nothing wakes it: it was left while it could run, and runs again. */
+/* The wait of task 42 if nothing wakes it: it was left while it could run, and runs again. */
 static const histdesk_wait unwoken = {
     {1000500, 0, 6}, {1000300, 0, 4}, {0, 0, 0}, 42, 19, HISTDESK_PREEMPTED, 0, 0, 0, {"w", 1},
 };
@@ -89,7 +89,7 @@ static bool is_same_read(const histdesk_waits_read *a, const histdesk_waits_read
            a->has_first == b->has_first && a->first == b->first && a->last == b->last;
 }
 
-/* Copies the waits that were told, of which there are so many, into an answer. */
+/* Copies the waits that were told, `count` of them, into an answer. */
 static bool takes(histdesk *desk, uint64_t count, answer *own) {
     if (count > WAITS - own->count || histdesk_waits_copy(desk, 0, own->waits + own->count, WAITS + 1 - own->count) != count)
         return false;
@@ -97,13 +97,13 @@ static bool takes(histdesk *desk, uint64_t count, answer *own) {
     return true;
 }
 
-/* Leaves events of a name out that pass a filter. */
+/* Leaves out the events of a name that pass a filter. */
 static uint32_t leaves_out(histdesk *desk, uint32_t event, const char *filter) {
     return histdesk_waits_without(desk, event, (const uint8_t *)filter, strlen(filter));
 }
 
-/* Reads the text in pieces of this size in a stream that has begun: the first code that isn't 0, or HISTDESK_CLOSED if a
- * copy is wrong. */
+/* Reads the text in pieces of this size in a stream that has begun. Returns the first code that isn't 0, or HISTDESK_CLOSED
+ * if a copy is wrong. */
 static uint32_t reads_on(histdesk *desk, size_t cut, answer *own) {
     uint64_t count;
     uint32_t code = HISTDESK_OK;
@@ -119,8 +119,8 @@ static uint32_t reads_on(histdesk *desk, size_t cut, answer *own) {
     return code == HISTDESK_OK && !takes(desk, count, own) ? HISTDESK_CLOSED : code;
 }
 
-/* The same of a stream that begins. In pieces of an even size a filter is there that no event passes, and in those of a size that 4
- * divides the text is summed up too. */
+/* The same for a stream that begins. If the pieces have an even size, there is a filter that no event passes; if 4 divides
+ * the size, the text is summed up too. */
 static uint32_t reads(histdesk *desk, bool skips, size_t cut, answer *own) {
     uint32_t code = histdesk_waits_new(desk, skips);
     if (code == HISTDESK_OK && cut % 2 == 0)
@@ -190,7 +190,7 @@ static bool copies(histdesk *desk, size_t from, size_t room, bool is_of_holes) {
     return holds;
 }
 
-/* With all waits told by one feed, but for those of the last microsecond: there are none. */
+/* All waits are told by one feed, except those of the last microsecond, of which there are none. */
 static void rooms(histdesk *desk) {
     uint64_t count = 0;
     histdesk_waits_read read;
@@ -208,7 +208,7 @@ static void rooms(histdesk *desk) {
     HOLDS(wrong == 0);
 }
 
-/* Of CPUs that begin late only the header says that events may be lost, and a line of one of them that none are. */
+/* Only the header says that CPUs that begin late may have lost events, and a line says of one of them that it has lost none. */
 static void late(histdesk *desk) {
     static const char lines[] = "# entries-in-buffer/entries-written: 3/9\na-1 [005] 1.000100: x: y\n"
                                 "a-1 [002] 1.000100: x: y\na-1 [001] 1.000200: x: y\na-1 [000] 1.000300: x: y\n"
@@ -290,7 +290,7 @@ static bool is_refused_as(histdesk *desk, uint32_t code, uint32_t fault, uint64_
            refusal.place == place && refusal.has_place == (fault != 0) && refusal.line == 0 && refusal.fault == 0;
 }
 
-/* A filter that is refused, and a stream that goes on as before. */
+/* A filter is refused, and the stream goes on as before. */
 static void without_refused(histdesk *desk) {
     answer own;
     uint64_t count = 0;
@@ -555,8 +555,8 @@ static bool refuses(void) {
     return heap.growths == refuse_at || (is_for_good && heap.growths > refuse_at);
 }
 
-/* Reads once with a growth refused, or it and all after it: memory runs out and stays so, and there is enough again for a
- * stream that begins anew. */
+/* Reads once with a growth refused, or with it and all after it refused: memory runs out and stays so, and there is enough
+ * again for a stream that begins anew. */
 static bool survives(histdesk *desk, bool *has_run_out) {
     answer own;
     heap.growths = 0;

@@ -3,7 +3,7 @@
 
 #include <stdlib.h>
 
-/* How many items to ask for next: not as many as the whole, if there are several. */
+/* How many items to ask for next: fewer than the whole answer has, if it has several. */
 static size_t part_of(uint64_t from) {
     return from == 0 ? 1 : from < 64 ? 7 : 4096;
 }

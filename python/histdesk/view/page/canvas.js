@@ -3,7 +3,7 @@
 import { byId } from "./elements.js";
 import { durations, ticks } from "./numbers.js";
 
-// So many groups of waits have a colour of their own; all others share one.
+// How many groups of waits have a colour of their own; all others share one.
 export const COLOURS = 6;
 
 // What the style sheet says, asked once for all that is drawn.
@@ -53,7 +53,7 @@ export function write(context, text, x, y, textAlign, name = "quiet") {
   context.fillText(text, x, y);
 }
 
-// Draws within a rectangle only.
+// Draws only within a rectangle.
 export function within(context, x, y, width, height, draw) {
   context.save();
   context.beginPath();

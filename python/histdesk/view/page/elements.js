@@ -1,7 +1,7 @@
 // Elements of the document: how they are found and made, and how the page speaks to whoever uses it.
 
 const SVG = "http://www.w3.org/2000/svg";
-// So many milliseconds nothing new must be said.
+// How many milliseconds must pass without anything new before something is said.
 const PATIENCE = 700;
 
 export const byId = (id) => document.getElementById(id);

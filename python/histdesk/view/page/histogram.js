@@ -123,7 +123,7 @@ export const histogram = {
     return parts;
   },
 
-  // A rectangle in a bar's room, from `low` upwards; what is not nothing is seen.
+  // A rectangle in a bar's room, from `low` upwards; unless its size is 0, it is high enough to be seen.
   rectangle(bar, from, wide, low, size, attributes) {
     const { left, top, height } = this.area;
     const tall = size ? Math.max(size, 1.5) : 0;

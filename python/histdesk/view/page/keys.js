@@ -67,10 +67,10 @@ function leave(event) {
   else if (key === "Enter" && NEXT[target.id] && !isRefused(target)) handleKey(event, NEXT[target.id]);
 }
 
-// Whether just this text was refused; an answer that is not there yet may be a good one.
+// Whether exactly this text was refused; an answer that is not there yet may be a good one.
 const isRefused = ({ ariaInvalid, dataset, value }) => ariaInvalid === "true" && dataset.refused === value.trim();
 
-// A browser may keep nothing of a file, or of any page.
+// A browser may store nothing for a file, or for any page.
 function recall(name) {
   try {
     return localStorage.getItem(name);
@@ -83,6 +83,6 @@ function remember(name, value) {
   try {
     localStorage.setItem(name, value);
   } catch {
-    // It holds until the page is closed.
+    // The setting holds until the page is closed.
   }
 }

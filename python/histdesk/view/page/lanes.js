@@ -52,7 +52,7 @@ export const lanes = {
     this.canvas.setAttribute("aria-label", `what ran on each CPU. ${reasons}`);
   },
 
-  // Asks for what ran before and after, if that is in sight and is not there; and for more of what is thinned, if less than
+  // Asks for what ran before and after, if that is in sight and not there yet; and for more of what is thinned, if less than
   // half of it is in sight.
   async askMore() {
     const { scene, axis } = this;

@@ -45,7 +45,7 @@ export function ticks(low, high, most) {
   return Array.from({ length: count }, (_, at) => +((first + at) * step).toPrecision(12));
 }
 
-// The first place in ascending numbers that holds more than this one.
+// The first place in ascending numbers whose number is greater than this one.
 export function placeAbove(numbers, number) {
   let low = 0;
   let high = numbers.length;

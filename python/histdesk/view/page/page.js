@@ -16,7 +16,7 @@ import { timeline } from "./timeline.js";
 import { Waits } from "./waits.js";
 import { worst } from "./worst.js";
 
-// The panels in whose order all is drawn. One that has a time axis is zoomed by the buttons above it.
+// The panels, in the order in which they are drawn. Those that have a time axis are zoomed by the buttons above them.
 const PANELS = [histogram, worst, timeline, overTime, lanes];
 const ZOOMED = { timeline, time: overTime, wait: lanes };
 

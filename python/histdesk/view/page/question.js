@@ -30,7 +30,7 @@ export const question = {
   },
 };
 
-// The field that has the name of the task which a wait is of.
+// The field that has the name of the task that waits.
 const taskField = (event) => state.schema.events.find(({ name }) => name === event).task;
 const firstTrigger = (event) => `hist:keys=${taskField(event)}:sort=hitcount.descending`;
 

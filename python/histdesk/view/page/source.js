@@ -40,7 +40,7 @@ function unzip(text) {
 export const columnsOf = (recording) =>
   SAVED ? unzip(SAVED.waits[recording]) : ask(`waits.bin?recording=${recording}`);
 
-// What ran during a wait, and around it; or from and until the stamps of a window.
+// What ran during a wait and around it; or between the stamps of a window.
 export async function sceneOf({ recording, cpu, line, after }, window) {
   if (!SAVED) return ask("wait", { recording, cpu, line, ...window, ...(after && { after }) });
   scenes[recording] ??= JSON.parse(new TextDecoder().decode(await unzip(SAVED.scenes[recording])));
@@ -54,8 +54,8 @@ export async function overviewOf({ recording, from, until, width }) {
   return ask(`overview?recording=${recording}&from=${from}&until=${until}&width=${width}`);
 }
 
-// A function that runs one work at a time; of the calls that come meanwhile only the newest waits, so that typing is never
-// far ahead of the answers.
+// A function that does one piece of work at a time; of the calls that come meanwhile, only the newest waits, so that typing is
+// never far ahead of the answers.
 export function latest(work) {
   let isBusy = false;
   let next = null;

@@ -10,7 +10,7 @@ import { Side, Waits } from "./waits.js";
 export const state = {
   // What the server says of events, fields and kinds of waits.
   schema: null,
-  // Of each recording its `waits`, and what is known `about` it.
+  // For each recording, its `waits` and what is known `about` it.
   recordings: [],
   // The waits that are new after strikes; null without strikes.
   fresh: null,
@@ -27,7 +27,7 @@ export const state = {
   // The wait that is explained.
   wait: null,
   strikes: [],
-  // The filter that the counts are of, and the event that it is of.
+  // The filter that the counted waits pass, and the event to which it applies.
   filter: "",
   event: "",
 };

@@ -5,7 +5,7 @@ import { number, plural } from "./numbers.js";
 import { ask, latest, SAVED } from "./source.js";
 import { applyStrikes, nameOf, state } from "./state.js";
 
-// So many rows are shown, and so many tasks are there to be ticked.
+// How many rows are shown at most, and how many tasks can be ticked at most.
 const ROWS = 100;
 const TASKS = 300;
 const FIGURES = ["count", "p50", "p99", "max"];
@@ -16,10 +16,10 @@ export const strikes = {
   // What can be ticked: sections by title, and filters that were typed.
   sections: [],
   own: [],
-  // The strikes before each change, for undo; and how many events each strike of now has.
+  // The strikes before each change, for undo; and how many events each current strike has.
   history: [],
   counts: [],
-  // The rows that differ, by their keys; those that differ without strikes; and all that are there to be sorted.
+  // The texts of the rows that differ, by their keys; the rows that differ without strikes; and all rows, for sorting.
   rowTexts: new Map(),
   differences: [],
   rows: [],
@@ -93,7 +93,7 @@ export const strikes = {
     return element("label", { title: `strike ${key}` }, input, title, element("span"));
   },
 
-  // Ticks what is struck, each with how many events that are.
+  // Ticks what is struck, and shows how many events each strike has.
   check() {
     const counts = new Map(state.strikes.map((one, at) => [this.key(one), this.counts[at]]));
     for (const input of byId("ticks").querySelectorAll("input")) {
@@ -154,7 +154,7 @@ export const strikes = {
     this.list();
   },
 
-  // Shows the rows that differ, those first of which a figure changed most; those that the last strike changed flash.
+  // Shows the rows that differ, first those in which a figure changed most; those that the last strike changed flash.
   showRows(rows, by = "count") {
     const change = (row) => Math.abs((row.before?.[by] || 0) - (row.after?.[by] || 0));
     const before = this.rowTexts;

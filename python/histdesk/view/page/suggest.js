@@ -6,7 +6,7 @@ import { state } from "./state.js";
 // Where a field may stand: at the beginning, after a parenthesis, or after && and ||; and what was typed of its name.
 const NAME = /(?:^|[(!]|&&|\|\|)\s*([A-Za-z_]\w*)?$/;
 
-// Suggests fields in a text box; `eventOf` returns the name of the event that the filter is of.
+// Suggests fields in a text box; `eventOf` returns the name of the event to which the filter applies.
 export function suggestFields(id, eventOf) {
   const box = byId(id);
   const list = element("ul", { id: `${id}-fields`, role: "listbox", class: "fields", "aria-label": "fields" });

@@ -5,7 +5,7 @@ import { placeAbove, roundUp } from "./numbers.js";
 
 // Percentiles, in thousandths.
 export const PERCENTILES = { p50: 500, p90: 900, p99: 990, "p99.9": 999 };
-// Waits of so many microseconds or more are counted one by one.
+// Waits of this many microseconds or more are counted one by one.
 export const LONG = 65536;
 
 // Groups of waits: the keys that most waits have, each with a code; all other keys share the last code.
@@ -55,7 +55,7 @@ export class Groups {
 
 // The bars of the histogram. A bar has the waits that are longer than its low bound, and at most as long as its high one.
 export class Scale {
-  // Of all waits, so that nothing moves while a filter is typed.
+  // The bars are those of all waits, so that nothing moves while a filter is typed.
   constructor(isLinear, parts) {
     const lengthsAt = (share) =>
       parts
@@ -102,7 +102,7 @@ export class Scale {
   }
 }
 
-// The least power of two that is not below a number.
+// The exponent of the least power of two that is not below a number.
 const powerOf = (micros) => (micros <= 1 ? 0 : 32 - Math.clz32(micros - 1));
 
 // How many waits have how many microseconds: short ones by a count for each number, the few long ones one by one.
@@ -125,7 +125,7 @@ class Spread {
     return this;
   }
 
-  // The share that is no longer.
+  // The share of waits that are no longer than this.
   share(micros) {
     const above = micros < LONG ? this.upTo[Math.floor(micros)] : this.upTo[LONG - 1] + placeAbove(this.longer, micros);
     return above / this.count;
@@ -148,8 +148,8 @@ class Spread {
   }
 }
 
-// Counts the waits of a side that pass the filter: `stacks` has for each bar how many there are of each group, and `doubtful`
-// how many doubtful ones there are apart, unless these count too.
+// Counts the waits of a side that pass the filter: `stacks` has, for each bar, how many there are of each group, and `doubtful`
+// how many doubtful ones stand apart, unless these count too.
 export function summarize(side, scale, groups, withDoubtful) {
   const stacks = new Uint32Array(scale.count * groups.count);
   const doubtful = new Uint32Array(scale.count);

@@ -1,4 +1,4 @@
-// Waits over time: each is a point at which it ended, higher if it was longer; or shades for how many lie together.
+// Waits over time: each is a point at the time when it ended, higher if it was longer; or shades show how many lie together.
 
 import { clear, colour, drawTimes, groupColour, hatch, line, rem, within, write } from "./canvas.js";
 import { byId, speak, tip } from "./elements.js";
@@ -7,15 +7,15 @@ import { addPanel, after, chooseWait, redraw, side, state } from "./state.js";
 import { LONG } from "./summary.js";
 import { TimeAxis } from "./time_axis.js";
 
-// If there are more waits in sight, shades are drawn.
+// If there are more waits than this in sight, shades are drawn.
 const POINTS = 8000;
 const SHADES = 9;
 // How high a point is, by its microseconds.
 const LOGS = Float64Array.from({ length: LONG }, (_, micros) => Math.log10(micros + 1));
 const logOf = (micros) => (micros < LONG ? LOGS[micros] : Math.log10(micros + 1));
-// Keys go from column to column of so many pixels, and within a column from wait to wait.
+// Keys go from column to column, each of this many pixels, and within a column from wait to wait.
 const COLUMN = 8;
-// The golden ratio's part behind the point strews numbers evenly.
+// The fractional part of the golden ratio strews numbers evenly.
 const STREW = 0.618;
 
 export const overTime = {
@@ -217,7 +217,8 @@ export const overTime = {
     return end < this.axis.low || end > this.axis.high ? null : this.column(end);
   },
 
-  // The longest wait of the next column that has any, to the left or to the right; from no column on, of the first one there.
+  // The longest wait of the next column that has any, to the left or to the right; if the keys are in no column in sight, the
+  // search begins at the edge.
   beside(step) {
     const start = this.cursorColumn() ?? (step < 0 ? Infinity : -1);
     let best = null;
@@ -231,7 +232,7 @@ export const overTime = {
     return best ? best.wait : this.cursor;
   },
 
-  // The next longer or shorter wait of the same column; of none, the longest one in sight.
+  // The next longer or shorter wait of the same column; if the keys are in no column in sight, the longest wait in sight.
   above(step) {
     const start = this.cursorColumn();
     const micros = start === null ? Infinity : side().value("micros", this.cursor);
@@ -239,7 +240,7 @@ export const overTime = {
     this.each((part, index, end, wait) => {
       const length = part.micros[index];
       if (start !== null && this.column(end) !== start) return;
-      // Waits of one length are in the order of their numbers.
+      // Waits of the same length are in the order of their numbers.
       const isBeyond = start === null || isAfter(length, wait, micros, this.cursor, step);
       if (!isBeyond) return;
       const isNearer = !best || isAfter(best.length, best.wait, length, wait, start === null ? -1 : step);

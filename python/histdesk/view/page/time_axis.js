@@ -2,12 +2,12 @@
 
 import { handleKey, tip } from "./elements.js";
 
-// A pointer that moves less than this, in pixels, while it is pressed is a click.
+// A pointer that moves by fewer pixels than this while it is pressed is a click.
 const TREMBLE = 4;
 
 export class TimeAxis {
-  // `picture.changed()` draws the picture anew, `picture.point(event)` explains what is below the pointer, and if there is
-  // `picture.key(event)` it returns what a key of its own does.
+  // `picture.changed()` draws the picture anew, `picture.point(event)` explains what is below the pointer, and
+  // `picture.key(event)`, if there is one, returns what a key does that the picture itself handles.
   constructor(picture, canvas) {
     Object.assign(this, { picture, canvas, left: 0, width: 1, low: 0, high: 1, least: 0, most: 1, grip: null });
     canvas.addEventListener("wheel", (event) => this.wheel(event), { passive: false });

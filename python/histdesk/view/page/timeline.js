@@ -8,25 +8,25 @@ import { latest, overviewOf, SAVED } from "./source.js";
 import { addPanel, after, chooseWait, openTab, redraw, side, state } from "./state.js";
 import { TimeAxis } from "./time_axis.js";
 
-// Tasks have so many colours, the same one at each place and each time.
+// How many colours tasks have; each task has the same one everywhere and at all times.
 const COLOURS = 12;
-// A lane has at least so many pixels, and so many parts are asked for at most.
+// How many pixels a lane has at least, and how many parts are asked for at most.
 const LEAST = 1.5;
 const WIDEST = 4096;
-// A run that has fewer pixels is drawn with the part in which it lies.
+// A run that has fewer pixels than this is drawn with the part in which it lies.
 const THIN = 1.5;
-// So many tasks are in the legend.
+// How many tasks are in the legend at most.
 const NAMES = 6;
-// A click where many runs lie goes so much closer.
+// A click where many runs lie zooms in by this factor.
 const CLOSER = 0.2;
-// By this number PIDs that follow one another get different colours.
+// PIDs are multiplied by this number, so that those that follow one another get different colours.
 const STREW = 0x9e3779b1;
 
 // The number of a task's colour.
 const colourNumber = (pid) => (Math.imul(pid, STREW) >>> 8) % COLOURS;
 
 export const timeline = {
-  // What the server said last, for what it was asked, and the pictures that are made of it.
+  // The server's last answer, the last question, and the pictures that are made of the answer.
   overview: null,
   question: "",
   pictures: null,
@@ -51,14 +51,14 @@ export const timeline = {
 
   colourOf: (pid) => colour(`run-${colourNumber(pid)}`),
 
-  // Takes an answer over, if it is still of what is in sight.
+  // Takes an answer over, if it is still about the recording that is shown.
   take({ recording, from, until }, answer) {
     if (recording !== side().recording) return;
     this.overview = new Overview(answer, side().about.first);
     this.pictures = null;
     const { busy, waited } = this.overview.shares();
     const what = `${percent(busy)} busy, ${percent(waited)} idle though a task waited`;
-    // What doesn't fit is cut off: the shares come first.
+    // What doesn't fit is cut off, so the shares come first.
     this.title = `${what}: ${plural(this.overview.cpus.length, "CPU")} from ${stamp(from)} to ${stamp(until)}`;
     this.list();
     this.drawLegend();
@@ -111,7 +111,7 @@ export const timeline = {
     const { axis, overview, top } = this;
     const rows = this.rows();
     this.pictures ??= picturesOf(overview);
-    // The colours of another palette.
+    // Another palette has other colours.
     if (this.pictures.palette !== paletteName()) this.pictures = picturesOf(overview);
     within(context, axis.left, 0, axis.width, this.canvas.clientHeight, () => {
       rows.forEach((lane, row) => this.lane(context, lane, top + row * this.tall));
@@ -225,7 +225,7 @@ export const timeline = {
     for (const [x, cpu] of [[from, wait.from], [until, wait.cpu]]) context.fillRect(x - 3, y(cpu) - 3, 6, 6);
   },
 
-  // The CPUs at the left, as many as there is room for, and what the lowest picture is.
+  // The CPUs at the left, as many as there is room for, and what the lowest picture shows.
   labels(context, rows, unit) {
     const { axis, overview, tall, top } = this;
     const each = Math.ceil((0.95 * unit) / tall);
@@ -241,7 +241,7 @@ export const timeline = {
     if (left > 0) write(context, `${left} more CPUs: n`, axis.left + axis.width, top + this.height + 0.3 * unit, "right");
   },
 
-  // What the colours of the greatest tasks in sight are.
+  // What the colours mean, for the tasks that fill most parts in sight.
   drawLegend() {
     const swatch = (paint) => {
       const mark = element("i", { class: "swatch" });
@@ -278,7 +278,7 @@ export const timeline = {
   goToWait() {
     const { wait } = state;
     openTab("timeline");
-    // A tab that is opened first knows nothing of the recording yet.
+    // A tab that is opened for the first time knows nothing of the recording yet.
     this.draw();
     this.goTo(wait.end - wait.micros, wait.end);
     this.canvas.focus();
@@ -315,7 +315,7 @@ export const timeline = {
 
   waits: () => state.recordings[side().recording].waits,
 
-  // The longest wait that lasts at some time between two others; a doubtful one only if there is no other; null if none does.
+  // The longest wait that lasts at some time between two times; a doubtful one only if there is no other; null if none does.
   longestWait(low, high) {
     const { begin, count, doubtful, micros } = this.waits();
     let longest = null;
@@ -428,7 +428,7 @@ function picturesOf(overview) {
       marks.data[at + part] = mark[part];
     }
     runs.data[at + 3] = 255;
-    // What is there at all is seen.
+    // Any waiting at all can be seen.
     marks.data[at + 3] = waited[cell] && 40 + (waited[cell] * 215) / WHOLE;
   }
   return { palette: paletteName(), runs: canvasOf(runs), marks: canvasOf(marks) };

@@ -15,12 +15,12 @@ const COLUMNS = {
   kind: Uint8Array,
   doubtful: Uint8Array,
 };
-// Each column begins at a multiple of so many bytes.
+// Each column begins at a multiple of this many bytes.
 const ALIGNMENT = 8;
 
 // The waits of a recording in the order in which they ended, or those that are new after strikes.
 export class Waits {
-  // `bytes` are the server's: the columns one after the other.
+  // `bytes` are what the server sends: the columns one after the other.
   constructor(bytes, count) {
     let at = 0;
     for (const [name, Kind] of Object.entries(COLUMNS)) {
@@ -79,7 +79,7 @@ export class Side {
     return this.value("begin", wait) + this.value("micros", wait);
   }
 
-  // The length of the longest wait, filters aside; 0 if there is none.
+  // The length of the longest wait, whatever the filter; 0 if there is none.
   longestOfAll() {
     return this.order.length ? this.value("micros", this.order.at(-1)) : 0;
   }

@@ -17,7 +17,7 @@ const CELLS = {
   end: (one, wait) => stamp(one.about.first + one.end(wait)),
   doubtful: (one, wait) => (one.value("doubtful", wait) ? "doubtful" : ""),
 };
-// These columns are sorted from the least at first, all others from the greatest.
+// These columns are first sorted from the least, all others from the greatest.
 const UPWARDS = ["name", "end"];
 
 export const worst = {
@@ -55,7 +55,8 @@ export const worst = {
     redraw("worst");
   },
 
-  // The numbers by which rows are sorted, below 2^32: names in alphabetical order, stamps so that all have room.
+  // The numbers by which rows are sorted, below 2^32: for names, their places in alphabetical order; times are scaled if they
+  // would not fit.
   sortKeys() {
     const one = side();
     const { first, last, tasks } = one.about;
