@@ -31,7 +31,7 @@ made_row_in base id key = map.get (tally_made base.triggers (merged base.lanes) 
 unfoldable pub readers_in : Triggers → ℕ → ℕ
 readers_in triggers saver = length (filter (λ attached. reads_from saver (role_at triggers attached.0)) (map.entries triggers))
 
--- a report of the rows that an edit may have changed: none twice, each of an attached trigger that counts held events, all rows of these triggers that differ, and few of each trigger: at most 2 of one that reads nothing, and at most 4 of a reader and 2 more for each trigger that reads the same
+-- a report of the rows that an edit may have changed: none twice, each of an attached trigger that counts held events, all rows of these triggers that differ, and few of each trigger: at most 2 of one that reads nothing, and at most 4 of a reader and 2 more for each trigger that reads the same, itself among them
 pub record IsReport (old new : Base) (report : List Changed) : Type 0 where
   pub once : IsDistinct same_row report
   pub held : (id : ℕ) (key : List Part) → is_reported report id key ≡ true → (hist : Hist) × ((map.get old.triggers id ≡ Some hist) × (counts_made hist ≡ false))

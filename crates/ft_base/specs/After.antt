@@ -47,7 +47,7 @@ after_strike base cpu line =
 
 -- ---- triggers
 
--- what stands between a reader and a saver: the saver saves at another event, or under keys that don't match (kernel: histogram.rst, inter-event hist triggers; the order is our own choice)
+-- what stands between a reader and a saver: the saver is on another event than the reader's onmatch part names, or their keys don't match (kernel: histogram.rst, inter-event hist triggers; the order is our own choice)
 abbrev pub saver_refusal : Hist → Hist → Option Refused
 saver_refusal reader saver =
     if saves_for reader saver then (if keys_match reader.keys saver.keys then None else Some KeyMismatch) else Some NoVariable

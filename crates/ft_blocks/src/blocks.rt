@@ -134,8 +134,8 @@ impl<K: Ord + Copy + Drop, V: Copy + Drop> Blocks<K, V> {
     /// was.
     ///
     /// The steps that it takes to find the block for the key grow with the logarithm of the number
-    /// of entries, and at most 256 entries move. Memory is taken for a block or for the list of
-    /// them, if the block is full.
+    /// of entries, and at most 256 entries move. Memory is taken if a block must grow, or if it is
+    /// full, for another block and for the list of them.
     pub fn insert(&mut self, alloc: Global, key: K, value: V) -> Result<(), AllocError>
         ensures ok { OnOk result (self.new ≡ put K.cmp key value self.old) }
         ensures err { OnErr result (self.new ≡ self.old) }

@@ -7,8 +7,8 @@ pub use ft_repair::laws::{kept_shelves, others_stay, readers_stay};
 
 /// A law: the events that triggers make stay as they are, whatever other triggers come, go or get
 /// another filter, if each trigger that makes any stays with its saver, and the same triggers read
-/// that. So they stay if a trigger comes, goes or gets another filter, as long as it makes none and
-/// neither saves nor reads what a trigger that makes some reads. Since a reading unsets its
+/// that. So they stay if a trigger comes, goes or gets another filter that makes no events, and
+/// neither saves nor reads what is read by a trigger that makes events. Since a reading unsets its
 /// variable, a trigger that only reads the same variable does bear on what is made.
 pub fn made_events_stay()
     ensures events { MadeStay }

@@ -21,10 +21,9 @@
 //!   is not deferred, the shelves are those of the base's triggers and hold what their acts at all
 //!   held events say (`AreKeptOf`, of `ft_repair`), and beside them each trigger on
 //!   `wakeup_latency` has the table of the events that all readings make (`AreMade`,
-//!   `specs/MadeShelves.antt`). Lets through: deferring without need when a hit comes, when a hit
-//!   of a saver or reader goes, and at the other edits; leaving a report out. No clause says that
-//!   this happens only if memory runs out. The source shows it, and so does a test that refuses
-//!   each growth of memory in turn.
+//!   `specs/MadeShelves.antt`). Lets through: deferring without need at an edit for which no clause
+//!   `now` rules it out; leaving a report out. No clause says that this happens only if memory runs
+//!   out. The source shows it, and so does a test that refuses each growth of memory in turn.
 //! - Law `made_events_stay` (`specs/Makers.antt`): which triggers may come, go or get another filter
 //!   while the same events are made. Tables of made events take no step then, by clauses of the
 //!   private `join`, `leave` and `refit`.

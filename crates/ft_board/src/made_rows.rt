@@ -23,8 +23,8 @@ use std::alloc::{AllocError, Global};
 use std::collections::BTreeMap;
 
 /// The rows that may differ once the tables of triggers that count made events are mended by what a
-/// repair reported of readings. `None` if that was not reported, or memory runs out. If no made
-/// event is counted, it takes neither memory nor steps.
+/// repair reported of readings. If no made event is counted, there are none, which takes neither
+/// memory nor steps; else `None` if nothing was reported of readings, or if memory runs out.
 #[tactic(auto, unfolding(crate::specs::inner::MadeRows::updated_rows))]
 pub(crate) fn made_rows(
     alloc: Global,

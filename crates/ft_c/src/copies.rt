@@ -107,8 +107,8 @@ pub extern "C" fn histdesk_places_copy(
     }
 }
 
-/// Copies the events that are now held at the places, each on its CPU's line and with its stamp, or
-/// that there is none: how many.
+/// Copies, for each of the places, the event that is held there now, on its CPU's line and with its
+/// stamp, or a note that there is none: how many are copied.
 #[unsafe(no_mangle)]
 pub extern "C" fn histdesk_events_copy(
     alloc: Global,

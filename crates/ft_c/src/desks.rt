@@ -67,7 +67,8 @@ pub extern "C" fn histdesk_forget(alloc: Global, desk: &mut Handle)
     }
 }
 
-/// How many rows the last accepted insert or strike may have changed, if that is told: 0.
+/// Writes how many rows the last accepted insert or strike may have changed, and whether that is
+/// told. The code is 0 in either case.
 #[unsafe(no_mangle)]
 pub extern "C" fn histdesk_report_of(
     alloc: Global,

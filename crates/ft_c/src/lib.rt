@@ -2,7 +2,7 @@
 //!
 //! Each call takes the session out of the caller's handle, calls it, and puts it back. What it does
 //! is told by the relation that the session's method has. If the handle holds nothing, a call with
-//! a code answers `CLOSED`, a copy answers 0, and nothing is written.
+//! a code answers `CLOSED` (`histdesk_new` fills it), a copy answers 0, and nothing is written.
 //!
 //! A caller in C passes no argument for a `Global`, and a pointer and a length for a slice. Nothing
 //! checks what it must keep: it passes a handle that is all zero or as these calls left it, no copy
@@ -21,11 +21,11 @@
 //!
 //! # Contracts
 //!
-//! - Each `histdesk_..` with a code: if the handle holds a session, what the session's call says,
-//!   and it is in the handle again; if it holds nothing, the code for that (`specs/Calls.antt`),
-//!   and nothing is written. A copy copies from what the session holds (`specs/Copies.antt`), or
-//!   nothing; `histdesk_events_copy` copies what is held now at the places that the session holds,
-//!   by stamp, CPU and line. Lets through: what the session does.
+//! - Each `histdesk_..` with a code, except `histdesk_new`: if the handle holds a session, what the
+//!   session's call says, and it is in the handle again; if it holds nothing, the code for that
+//!   (`specs/Calls.antt`), and nothing is written. A copy copies from what the session holds
+//!   (`specs/Copies.antt`), or nothing; `histdesk_events_copy` copies what is held now at the
+//!   places that the session holds, by stamp, CPU and line. Lets through: what the session does.
 //! - `histdesk_lines`, `histdesk_losses`: what the session's call says of a text (`ReadsLines`, `ReadsLosses` of
 //!   `ft_session`, over `ft_lines`); the desk holds nothing of it. Their copies are as any other.
 //! - `histdesk_waits_..`: what the call of the session's stream says (`specs/Calls.antt` of

@@ -19,7 +19,7 @@ is_of keys key = list_any (same_key key) keys
 abbrev pub hits_but : Hits → List (List Part) → Hits
 hits_but hits keys = map.retain_keys hits (λ m. not (is_of keys m.key))
 
--- the rivals of some keys: those that stand at the table's last places, as many places as there are keys, if the keys themselves have no hits
+-- the rivals of some keys: those that would stand at the table's last places, as many places as there are keys, if the keys themselves had no hits
 unfoldable pub rivals : Tabled → List (List Part) → List (List Part)
 rivals table keys = drop (table.size - length keys) (keys_in (record table { hits = hits_but table.hits keys }))
 

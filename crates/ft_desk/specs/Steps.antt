@@ -61,7 +61,7 @@ FailsInWrite written flushed = (written.failed ≡ 1) × (flushed.made ≡ 0)
 abbrev pub FlushesOnce : Counts → Counts → Type 0
 FlushesOnce written flushed = (written.failed ≡ 0) × (flushed.made ≡ 1)
 
--- the calls of the writer, by how a run ended: `Write` is answered if a write failed, in the text of the last line that was read, or if the flush after the whole output failed
+-- the calls of the writer, by how a run ended: after `Write`, a write failed, in the text of the last line that was read, and nothing was flushed, or the one flush failed, after the whole output; after any other answer no write failed and there was one flush, which didn't fail if the answer is `Ok`
 abbrev pub CallsWriter : Meaning → Result Status RunFault → Counts → Counts → Option (List ℕ) → Option (List ℕ) → Option (List ℕ) → Option (List ℕ) → Type 0
 CallsWriter means (Ok status) written flushed reader rest before after = FlushesOnce written flushed × (flushed.failed ≡ 0)
 CallsWriter means (Err faults.Memory) written flushed reader rest before after = FlushesOnce written flushed

@@ -8,8 +8,8 @@ ghost use Rattle.ft_desk.specs.Run.{BreaksOff};
 use crate::counted::CountedWriter;
 use std::io::{self, Write};
 
-/// Writes a text, by as many calls as the writer asks for. An error of the writer, also an
-/// interrupted write, and a write that takes nothing end that, and something of the text is left.
+/// Writes a text, by as many calls as the writer asks for. Fails, with something of the text left,
+/// if the writer fails, also by an interrupted write, or if a write takes nothing.
 pub(crate) fn send<W: Write>(out: &mut CountedWriter<'_, W>, text: &[u8]) -> io::Result<()>
     requires well { out.old.written.failed ≡ 0 }
     ensures ok { OnOk result (Appends (W.contents out.old.writer.now) (W.contents out.new.writer.now) text.now) }

@@ -80,9 +80,9 @@ impl<B: Board> Desk<B> {
         self.alloc
     }
 
-    /// Loads a trace text, a lane for each of its CPUs: how many events were loaded. Refused at the
-    /// first line that cannot be read, if one of these lanes is held, if too many events would be
-    /// held, or for memory.
+    /// Loads a trace text, a lane for each of its CPUs: how many events were loaded. Refused if a
+    /// line cannot be read (for the first such line), if one of these lanes is held, if too many
+    /// events would be held, or for memory.
     pub fn load(&mut self, text: &[u8]) -> Result<Done<u64>, Refused>
         ensures gives { EditGives (λ count. count) (after_load_text self.old.base text.now)
             self.old self.new result }
@@ -148,8 +148,8 @@ impl<B: Board> Desk<B> {
         self.board.strike(cpu, line)
     }
 
-    /// Attaches a trigger's text to an event: the trigger's id. Refused for any event other than
-    /// the four named ones and the one that triggers make, if the text cannot be read, if 64
+    /// Attaches a trigger's text to an event: the trigger's id. Refused if the event is neither one
+    /// of the four named ones nor the one that triggers make, if the text cannot be read, if 64
     /// triggers are attached or the ids are used up, if its variable's name is saved already, if
     /// nobody saves what it reads (at the event that its onmatch part names, if it has one), if its
     /// keys don't match its saver's, or for memory.
@@ -310,8 +310,8 @@ impl<B: Board> Desk<B> {
     }
 
     /// The places of the held events of a name on which the filter of a text holds, in merged
-    /// order. Refused for an event that has no name, if the text cannot be read as a filter on such
-    /// events, or for memory.
+    /// order. Refused if the event has no name, if the text cannot be read as a filter on events of
+    /// that name, or for memory.
     pub fn matching(&self, event: Name, text: &[u8]) -> Result<Vec<Pos>, Refused>
         ensures { AnswerIs (λ places. places.items)
             (matching_found self.now.base event text.now) result }

@@ -23,7 +23,7 @@ began_at cause place = option_map (λ p. record { cause = cause; place = p }) pl
 abbrev pub awoken : Since → Option Began
 awoken since = if is_later since.woken since.created then began_at causes.Created since.created else began_at causes.Woken since.woken
 
--- what the wait of a task began with, by where the task was last left, if it could run then: that it was left, unless its number was given to a new task after that; a waking while it waited counts for nothing
+-- what the wait of a task began with, by where the task was last left while it could run, if it was: that it was left, unless its number was given to a new task after that; else what woke or created it. A waking while it waited counts for nothing
 abbrev pub waiting_by : Option Pos → Since → Option Began
 waiting_by None since = awoken since
 waiting_by (Some place) since = if is_later (Some place) since.created then awoken since else began_at causes.Preempted (Some place)

@@ -22,7 +22,7 @@ use Rattle.ft_filter.specs.Tree.{Tree, Trees, Any, All, Not, Test, End, More}
 abbrev pub CanBeQuoted : List ℕ → Type 0
 CanBeQuoted text = (Contains text 34 → ⊥) ⊎ (Contains text 39 → ⊥)
 
--- the value is of the field's kind: a number of 64 bits with a sign, or a text, which is a glob after `~` and only there (kernel: events.rst, event filtering)
+-- the value is of the field's kind: a number of 64 bits with a sign, or a text that can stand in quotes, which is a glob after `~` and only there (kernel: events.rst, event filtering)
 abbrev pub SuitsValue : Field → Op → Literal → Type 0
 SuitsValue field op (literals.Number z) = (IsTrue (is_text field) → ⊥) × FitsSigned w64 z
 SuitsValue field op (literals.Text text) = IsTrue (is_text field) × (op ≢ ops.Glob) × CanBeQuoted text

@@ -1,7 +1,7 @@
 //! The head of a hist trigger's text: its parts, read from left to right into a draft. A part is a
 //! list of keys, values or sort items, a size, a variable, or what events are made of; the first
-//! fault decides. What values and sort items name is seen once all parts are read; `ft_trigger`
-//! does that, and reads the tail.
+//! fault decides. What values and sort items name is looked up once all parts are read, by
+//! `ft_trigger`, which also reads the tail.
 //!
 //! ```ignore
 //! let text = b"keys=pid,prio.log2:vals=$ts0:ts0=common_timestamp.usecs";

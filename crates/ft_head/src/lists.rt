@@ -274,7 +274,8 @@ fn value_count(words: &[Word<'_>]) -> usize
     }
 }
 
-/// What is wrong, as a value, with a word that begins at a place, whatever stands before it.
+/// What is wrong with a word as a value, if something is, whatever stands before it. The word
+/// begins at a place.
 fn word_fault(event: Name, place: usize, word: &Word<'_>) -> Option<TriggerFault>
     ensures { (next : Result (List Word) TriggerFault) →
         option_map_or Err result next

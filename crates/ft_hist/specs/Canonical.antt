@@ -50,7 +50,7 @@ by_text hist sorts.Hits = codes "hitcount"
 by_text hist (sorts.Key n) = option_map_or (λ key. field_text key.field) (slice_get hist.keys n) []
 by_text hist (sorts.Value n) = option_map_or (value_text hist.variable) (slice_get hist.values n) []
 
--- a sort item, with a suffix only if the greatest comes first (kernel: histogram.rst, `sort`)
+-- a sort item, with the suffix `.descending` exactly if the greatest comes first (kernel: histogram.rst, `sort`)
 abbrev pub sort_text : Hist → SortItem → List ℕ
 sort_text hist item = by_text hist item.what ++ (if item.descending then codes ".descending" else [])
 

@@ -180,7 +180,7 @@ fn write_sort(trigger: &Trigger, text: &mut Vec<u8>) -> Result<(), AllocError>
     Ok(())
 }
 
-/// Adds a sort item, with a suffix only if the greatest comes first.
+/// Adds a sort item, with the suffix `.descending` exactly if the greatest comes first.
 fn write_sort_item(trigger: &Trigger, item: SortItem, text: &mut Vec<u8>) -> Result<(), AllocError>
     ensures ok { OnOk result (text.new.items ≡ text.old.items ++ sort_text trigger.now item) }
     ensures err { OnErr result (IsFront text.old.items text.new.items) }

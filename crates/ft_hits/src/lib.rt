@@ -29,7 +29,7 @@
 //!   `put_hit` lets through: running out of memory at any time.
 //! - `HitIndex::put_behind`: puts a hit if its key has one before it, and answers where the first
 //!   of these stands; else, and at a refusal, nothing changes. Lets through: running out of memory
-//!   at any time; saying that the key has none before it.
+//!   at any time.
 //! - `HitIndex::put_entry`: a key has the hits of an entry, and all others stay. Lets through:
 //!   running out of memory at any time, and then all is as it was.
 //! - `HitIndex::count_of`, `sums_at`, `first_at`, `next_hit`, `holds`: how many hits a key has,

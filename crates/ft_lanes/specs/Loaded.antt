@@ -1,4 +1,4 @@
--- What a load makes of lanes, and when it can't.
+-- What a load makes of lanes, and the CPU that stands in its way.
 use Rattle.std.specs.Prelude.{ℕ, ◌+◌, ◌==◌, List, length, Option, filter, fold, option_map}
 use Rattle.std.specs.List.{enumerate_from, find}
 use Rattle.std.specs.FinMap as map

@@ -73,7 +73,7 @@ fn put_any(lanes: &mut BTreeMap<u16, Slots>, cpu: u16, slots: Slots) -> Result<(
     put(lanes, cpu, slots)
 }
 
-/// Puts the slots of each CPU in, if there are any. After a refusal for memory, some are put in.
+/// Puts the slots of each CPU in, if there are any. After a refusal for memory, some may be in.
 fn put_all(lanes: &mut BTreeMap<u16, Slots>, by_cpu: Vec<Slots>) -> Result<(), AllocError>
     requires few { length by_cpu.items ≤ cpu_limit }
     ensures ok { OnOk result (seen nat_cmp lanes.new ≡ all_merged (seen nat_cmp lanes.old) 0 by_cpu.items) }
@@ -89,7 +89,7 @@ fn put_all(lanes: &mut BTreeMap<u16, Slots>, by_cpu: Vec<Slots>) -> Result<(), A
 }
 
 /// Adds a slot for each event of a store from a place on. No event's CPU may have slots. After a
-/// refusal for memory, some are added.
+/// refusal for memory, some may be there.
 fn push_all(
     alloc: Global,
     lanes: &mut BTreeMap<u16, Slots>,

@@ -17,7 +17,7 @@ use std::alloc::{AllocError, Global};
 use std::collections::BTreeMap;
 
 /// Adds the events of a lane after a store, by line, and returns their lines with their places
-/// there. After a refusal for memory, some are added.
+/// there. After a refusal for memory, some may be there.
 #[tactic(auto, using(crate::proofs::RowLines::held_more))]
 fn append_lane(
     alloc: Global,
@@ -40,7 +40,7 @@ fn append_lane(
 }
 
 /// Adds the events of a lane after a store, and its slots there, as those of the CPU. After a
-/// refusal for memory, some of it is done.
+/// refusal for memory, some of it may be done.
 pub(crate) fn copy_lane(
     alloc: Global,
     store: &mut Store,

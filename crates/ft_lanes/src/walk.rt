@@ -36,7 +36,7 @@ impl<'a> Lines<'a> {
     ghost use Rattle.ft_store.specs.Stored.{stored_at};
     ghost use Rattle.ft_lanes.specs.inner.Rows.{held_rows};
 
-    /// The events at the places of those of these rows that are not struck.
+    /// The events at the places of these rows, except the struck ones.
     pub(crate) fn new(store: &'a Store, rows: &'a [(u32, u32)]) -> Lines<'a>
         ensures { result ≡ entries_by (stored_at store.now) (held_rows rows.now) }
     {

@@ -33,11 +33,11 @@ abbrev pub with_reason : RefusalLayout → TriggerFault → RefusalLayout
 with_reason layout (triggers.BadFilter reason) = with_filter_fault layout reason
 with_reason layout other = layout
 
--- with the fault of a trigger's text, and if that is a filter's fault, which one, and where in the filter's text
+-- with the fault of a trigger's text and its place, if it has one; if it is a filter's fault, also which one, and where in the filter's text
 abbrev pub with_trigger_fault : RefusalLayout → TriggerFault → RefusalLayout
 with_trigger_fault layout reason = with_reason (with_place (record layout { fault = trigger_number reason }) (trigger_place reason)) reason
 
--- with what a refusal says beside its number; the number of any other refusal says all
+-- with what a refusal says beside its number; nothing more if the number says all
 abbrev pub with_detail : RefusalLayout → Refused → RefusalLayout
 with_detail layout (refused.BadLine number reason) = record layout { line = number; fault = line_number reason }
 with_detail layout (refused.LaneHeld number) = record layout { cpu = number }
@@ -83,7 +83,7 @@ trigger_faults layout =
 abbrev pub trigger_fault_of : RefusalLayout → Option TriggerFault
 trigger_fault_of layout = option_flatten (numbered (trigger_faults layout) layout.fault)
 
--- the refusals by number, each with the numbers; none if these have none of that kind
+-- the refusals by number, each with the numbers; `None` in place of one for which these have no fault
 abbrev pub refusals : RefusalLayout → List (Option Refused)
 refusals layout =
     Some refused.Memory ∷ Some refused.NoFile ∷ option_map (λ reason. refused.BadLine layout.line reason) (numbered line_faults layout.fault)

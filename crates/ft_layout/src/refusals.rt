@@ -205,8 +205,8 @@ impl RefusalLayout {
         item_numbered(&self.trigger_faults(), self.fault).flatten()
     }
 
-    /// The refusals in the order of their numbers, each with its numbers; none if it has none of
-    /// that kind.
+    /// The refusals in the order of their numbers, each with its numbers; `None` in place of one
+    /// for which it has no fault.
     fn refusals(&self) -> [Option<Refused>; 17]
         ensures { result ≡ refusals self.now }
     {

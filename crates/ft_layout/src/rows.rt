@@ -202,7 +202,7 @@ impl ChangedLayout {
 
 impl ReportLayout {
     /// How many rows there are, of triggers that count held events and of those that count made
-    /// ones, if each is told.
+    /// ones: each number if it is told, else 0.
     pub fn of(rows: Option<&[Changed]>, made: Option<&[Changed]>) -> ReportLayout
         ensures { result
             ≡ report_layout (option_map (λ rows. rows.now) rows.entry) (option_map (λ made. made.now) made.entry) }

@@ -140,7 +140,7 @@ cpus_below (suc cpu) = cpus_below cpu ++ cpu ∷ []
 abbrev pub open_holes : List Note → List Hole
 open_holes notes = flat_map (open_hole notes) (cpus_below 8192)
 
--- a hole before a CPU's first event, with this count of overwritten events, if there is one; no hole if the count is 0
+-- a hole before a CPU's first event, by a count of overwritten events: as it is without a count, with the count if that isn't 0; no hole if it is 0
 abbrev pub counted_as : Hole → Option ℕ → List Hole
 counted_as hole None = hole ∷ []
 counted_as hole (Some count) = if count == 0 then [] else (record hole { count = Some count } ∷ [])

@@ -30,6 +30,6 @@ header_behind lines header = record { line = number_behind lines header.line; bu
 abbrev pub hole_behind : ℕ → (ℕ → Option ℕ) → Hole → Hole
 hole_behind lines last hole = record { cpu = hole.cpu; line = number_behind lines hole.line; after = option_or hole.after (last hole.cpu); before = hole.before; count = hole.count }
 
--- whatever notes are kept, if no hole has begun in them that has not ended, and whatever notes are kept of a part that was read apart: the part's are kept behind those before
+-- whatever notes are kept, so many, if no hole has begun in them that has not ended, and whatever notes are kept of a part that was read apart: the part's are kept behind those before, if there are no more together than may be counted
 abbrev pub Joins : ℕ → Losses → Losses → Losses → Type 0
 Joins lines old part new = (before notes : List Note) → Keeps old before → Keeps part notes → length before ≡ lines → length notes + lines ≤ last_count → any_lost before ≡ false → Keeps new (notes ++ before)

@@ -25,7 +25,8 @@ fn add_open(lanes: &[Lane], holes: &mut Vec<Hole>) -> Result<(), AllocError>
     Ok(())
 }
 
-/// Adds a hole with this count of overwritten events, if there is one; adds none if the count is 0.
+/// Adds a hole by a count of overwritten events: as it is without a count, with the count if that
+/// isn't 0; adds none if it is 0.
 fn add_counted_as(holes: &mut Vec<Hole>, hole: &Hole, count: Option<u64>) -> Result<(), AllocError>
     ensures { OnOk result (holes.new.items ≡ holes.old.items ++ counted_as hole.now count) }
 {

@@ -25,15 +25,15 @@
 //!   before its first event. `finish` reports the counts of the kernel's header too. Fails only for
 //!   memory. Lets through: running out of memory at any time.
 //! - `Losses::is_open`, `join`: a part that was read apart, from `Losses::new` on, is joined to the
-//!   lines before it: what is kept then is what those lines report, and behind that what its own
-//!   lines report, if no hole has begun before it that has not ended: `Joins`
+//!   lines before it: what is kept afterwards is what those lines report, and behind that what its
+//!   own lines report, if no hole has begun before it that has not ended: `Joins`
 //!   (`specs/Joining.antt`). `join` fails only for memory. Lets through: running out of memory at
-//!   any time; what is kept then.
+//!   any time, and what is kept after that.
 //! - `Doubts::of`, `holes`: an index of holes is seen as the list of these holes, in their order. Fails
 //!   only for memory. Lets through: running out of memory at any time.
 //! - `Doubts::doubt`: how sure a wait from a place to another is; exact, `doubt`
-//!   (`specs/Doubt.antt`). Any hole in its time makes it likely at most, and a hole of the CPU on
-//!   which it began or ended makes it doubtful.
+//!   (`specs/Doubt.antt`). Any hole in its time makes it likely at most, and one of these on the
+//!   CPU on which it began or ended makes it doubtful.
 //! - `Doubts::wait`, `wait_of`: the wait that a dispatch ends, and how sure it is; exact,
 //!   `wait_of_both` and `wait_of` (`specs/Doubt.antt`). If a task waits since the CPU was taken
 //!   from it, and that wait isn't sure, it counts as waiting since it was woken or created, if that

@@ -60,7 +60,7 @@ OthersCountNone = (triggers : Triggers) (events : Events) (id : ℕ) → map.get
 abbrev pub NoneIsMade : Type 0
 NoneIsMade = (triggers : Triggers) (events : Events) → MakeNone triggers → (replay_making triggers events).made ≡ started triggers
 
--- if no trigger is on an event's name, the event makes none, and changes nothing
+-- an event whose name no trigger is on makes no event, and changes nothing
 abbrev pub NamedMakeAll : Type 0
 NamedMakeAll = (triggers : Triggers) (events : Events) → replay_making triggers (named triggers events) ≡ replay_making triggers events
 
@@ -152,7 +152,7 @@ MadeTablesChange = (triggers others : Triggers) (events more : Events) (found la
 abbrev pub PutMadeChanges : Type 0
 PutMadeChanges = (hist : Hist) (spot : Spot) (made : Option Traced) (table : Tabled) → IsFreeAt spot table → ChangesMade hist spot made table (with_made hist spot made table)
 
--- and so does one that is taken out, if a table holds at the spot just what the event adds: then no hit stands there
+-- and so does one that is taken out, if the table held at the spot just what the event adds; afterwards no hit stands there
 abbrev pub TakeMadeChanges : Type 0
 TakeMadeChanges = (hist : Hist) (spot : Spot) (made : Option Traced) (table : Tabled) → HoldsMade hist spot made table → ChangesMade hist spot None table (without_made hist spot made table)
 

@@ -31,8 +31,8 @@
 //!
 //! - `Counting::made_table`, `Counting::put_changed_keys`: running out of memory at any time; any
 //!   number of steps, but the first takes none if no trigger has an onmatch part.
-//! - `Counting::update_made`: running out of memory if there are changes, and then nothing is said
-//!   of the table; any number of steps.
+//! - `Counting::update_made`: running out of memory, and any number of steps, both only if there
+//!   are changes; if memory runs out, nothing is said of the table.
 //! - `put_made`, `take_made`: one test if the trigger is on the event's name, and one put at most.
 //!   `put_made` lets through running out of memory at any time, and then the table is as it was.
 #![tactic(auto)]

@@ -28,8 +28,8 @@ pub fn one_source()
 {}
 
 /// A law: what a reading finds depends only on the operations before it, back to the last one that
-/// stays. So if operations change, the next reading on the variable after a change may find another
-/// saving, but no reading after that one.
+/// stays. So if one operation changes, only the next reading on the variable after it may find
+/// another saving.
 pub fn local_sources()
     ensures front { (old new : Ops) (at : At)
         → ((q : At) → at_cmp q at ≡ Less → new q ≡ old q)

@@ -35,7 +35,8 @@ fn names_script_and_traces(rt: HostRuntime) {
     }
 }
 
-/// Lists of arguments that are refused: before `--`, one looks like an option.
+/// Lists of arguments that are refused: one before `--`, or of all if there is none, looks like an
+/// option.
 fn refused() -> [&'static [&'static str]; 4] {
     [
         &["histdesk", "--help"],

@@ -122,7 +122,7 @@ impl<'a> Columns<'a> {
         Some((pid, cpu, at))
     }
 
-    /// The place after spaces and LETTERS, if these stand here.
+    /// The place after the spaces here, and after LETTERS and their spaces, if LETTERS follow.
     #[inline(always)]
     fn behind_letters(&self, at: usize) -> Option<usize>
         requires marked { AreMarked self.now }

@@ -27,7 +27,7 @@ impl<'a> Front<'a> {
     ghost use Rattle.ft_fields.specs.Borrowed.{owned_body, event_told};
     ghost use Rattle.ft_quick.specs.inner.Lines.{traced_by_columns};
 
-    /// The line's event, if this was traced.
+    /// The line's event, with `body` as what was traced.
     #[inline(always)]
     pub(crate) fn with(&self, body: BodyRef<'a>) -> EventRef<'a>
         ensures { event_told result ≡ traced_by_columns self.now (owned_body body.entry) }

@@ -63,7 +63,7 @@ pub fn cut_line(line: &[u8]) -> Option<EventRef<'_>>
 }
 
 /// The same in place: puts the event of such a line, if the line is of the usual form, and answers
-/// whether it is. An event is large to move.
+/// whether it is; if not, `event` may be any event. An event is large to move.
 #[inline(always)]
 pub fn put_line<'a>(line: &'a [u8], event: &mut EventRef<'a>) -> bool
     requires { list_any (λ b. b == 10) line.now ≡ false }

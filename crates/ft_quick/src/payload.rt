@@ -23,7 +23,7 @@ enum WakeName {
 }
 
 impl WakeName {
-    /// What was traced, if the event says this.
+    /// What was traced: the wake event of this name that says this.
     #[inline(always)]
     fn body<'a>(self, wake: WakeRef<'a>) -> BodyRef<'a>
         ensures { owned_body result ≡ body_named self (waked wake.entry) }

@@ -19,15 +19,15 @@
 //!
 //! # Contracts
 //!
-//! The shelves are an `Option<Tables>`. Contracts say of the base for which triggers and events
-//! they are kept, before a repair and after it (`AreKeptOf`, `specs/KeptShelves.antt`, and its
-//! like). The law `kept_shelves` leads from there to the replay.
+//! The shelves are an `Option<Tables>`. Contracts say, in terms of the base, for which triggers and
+//! events the shelves are kept, before a repair and after it (`AreKeptOf`,
+//! `specs/KeptShelves.antt`). The law `kept_shelves` leads from there to the replay.
 //!
 //! The contracts let through:
 //!
 //! - giving the shelves up at any time, unless a clause `now` says that no memory is needed;
 //! - any number of puts, unless a clause `costs` or `none` says how many, and any number of tests
-//!   in `rebuilt`, `make_way` and `leave`, unless they have a clause `none`;
+//!   in `rebuilt`, and in `make_way` and `leave` of a trigger that reads (`none` is for others);
 //! - any change of the other readers of a variable as one reader comes, goes or gets another
 //!   filter, since they miss what this one reads (`readers_stay`).
 #![tactic(auto)]

@@ -36,7 +36,7 @@ Counters = FinMap nat_cmp Counting
 abbrev pub tally_in : Counting → Tally
 tally_in counter = tally_of counter.table counter.pairs
 
--- a counter suits a trigger: it has its role and its size, and only keys that fit it
+-- a counter suits a trigger: it has the trigger's role and size, and only keys that fit the trigger
 pub record Suits (triggers : Triggers) (hist : Hist) (counter : Counting) : Type 0 where
   pub role : counter.role ≡ role_of triggers hist.variable
   pub size : counter.table.size ≡ hist.size

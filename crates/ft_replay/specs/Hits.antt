@@ -42,7 +42,7 @@ pub record TriggerHit : Type 0 where
   pub saved : Option Pos
   pub values : List ℤ
 
--- what a hit of a key reads, if it is one: a trigger that reads no variable reads nothing; a reader has a hit only if its variable is found set (kernel: histogram.rst, inter-event hist triggers)
+-- what a hit of a key reads, if it is one: a trigger that reads no variable reads nothing; a reader has a hit if and only if its variable is found set (kernel: histogram.rst, inter-event hist triggers)
 abbrev pub read_as : Role → (Variable → Option Pos) → List Part → Option (Option Pos)
 read_as Plain found key = Some None
 read_as Saves found key = Some None

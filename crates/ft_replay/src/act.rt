@@ -88,7 +88,7 @@ impl<'a> Act<'a> {
         }
     }
 
-    /// The hit of a key, with the place of the saving that it read, if it read one.
+    /// The hit of a key, with its values: it read what was saved at the place `read`, or nothing.
     fn hit(&self, key: Key, read: Option<Pos>) -> Hit
         requires { self.now.at.pos.stamp ≡ self.now.event.now.stamp }
         ensures { result ≡ record {

@@ -22,7 +22,7 @@ TellsReader (Bytes bytes) reader = reader ≡ Some bytes
 TellsReader Missing reader = ⊥
 TellsReader Untold reader = ⊤
 
--- these are the bytes that are told of a path, if any are
+-- these are the bytes that are told of a path, if any are; nothing is read of one that is told to be missing
 abbrev pub TellsBytes : FileAt → List ℕ → Type 0
 TellsBytes (Bytes bytes) read = read ≡ bytes
 TellsBytes Missing read = ⊥

@@ -19,7 +19,7 @@ abbrev pub fault_detail : TriggerFault → List ℕ
 fault_detail (faults.BadFilter fault) = codes " filter " ++ decimal (filter_number fault) ++ place_text (filter_place fault)
 fault_detail fault = place_text (trigger_place fault)
 
--- what a refusal says beside its number; the number of any other says all
+-- what a refusal says beside its number; nothing if the number says all
 abbrev pub detail : Refused → List ℕ
 detail (BadLine line fault) = codes ": line " ++ decimal line ++ codes " fault " ++ decimal (line_number fault)
 detail (LaneHeld cpu) = codes ": cpu " ++ decimal cpu

@@ -77,7 +77,7 @@ attach_in text = option_map_or (λ name. Attach name (after_word text)) (name_ca
 abbrev pub is_colon : ℕ → Bool
 is_colon byte = byte == 58
 
--- the numbers of a CPU and of a line, if both stand
+-- a strike of a CPU's line, if both numbers are there; else no form
 abbrev pub strike_of : Option ℕ → Option ℕ → Asked
 strike_of cpu None = NoForm
 strike_of None (Some line) = NoForm

@@ -43,8 +43,9 @@ impl From<AllocError> for WordsFault {
 
 /// Reads the program's arguments, the first of which is its own name.
 ///
-/// Before an argument `--`, an argument that begins with `-` is refused, unless it is `-` itself.
-/// No argument, or `-` in SCRIPT's place, is standard input; a trace is always a file.
+/// Before the first `--`, or if there is none, an argument that begins with `-` is refused, unless
+/// it is `-` itself. No argument, or `-` in SCRIPT's place, is standard input; a trace is always a
+/// file.
 pub fn read_words<'a, S: AsStr>(alloc: Global, args: &'a [S]) -> Result<Words<'a>, WordsFault>
     ensures { WordsGive (named_by_words (map S.text args.entry.now)) result }
 {

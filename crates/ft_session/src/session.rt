@@ -40,7 +40,7 @@ pub struct Session {
     pub text: Vec<u8>,
     /// The rows that were last asked for.
     pub rows: Vec<Row>,
-    /// What the readings that were last asked for found.
+    /// What readings found, as last asked for.
     pub pairs: Vec<Pair>,
     /// The places that were last asked for.
     pub places: Vec<Pos>,
@@ -48,7 +48,7 @@ pub struct Session {
     pub attached: Vec<AttachedTrigger>,
     /// The lines of the text that was last asked for by `lines`.
     pub lines: Vec<TextLine>,
-    /// What the text that was last asked for by `losses` reports lost.
+    /// What the lines of a text report lost, as last asked for by `losses`.
     pub losses: LossesRead,
     /// What the last accepted insert or strike reported, or the strikes of one call together.
     pub edited: Option<Edited>,

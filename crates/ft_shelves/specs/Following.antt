@@ -19,7 +19,7 @@ use Rattle.ft_shelves.specs.declared.sign.HitChange.{HitChange}
 use Rattle.ft_shelves.specs.declared.sign.HitChange.TheVariants as changes
 use Rattle.ft_shelves.specs.declared.saver.Moved.{Moved}
 
--- the operations on a key's variable with a save at each hit of the key that is an event of the trace (kernel: histogram.rst, inter-event hist triggers)
+-- the operations on a key's variable with a save at each of the key's hits that is of an event of the trace (kernel: histogram.rst, inter-event hist triggers)
 abbrev pub with_saves : Hits → ℕ → List Part → Ops → Ops
 with_saves hits id key ops q = if eq_by_cmp nat_cmp q.trigger id && is_some (map.get hits (record { spot = traced q.pos; key = key })) then Some Save else ops q
 

@@ -84,7 +84,7 @@ HasReads id groups old new =
 
 -- ---- shelves
 
--- the hits of all groups are on a shelf, and so are a saver's saves; all else on it stays
+-- a shelf has the hits of all groups and no others, and a saver's has their saves for the keys in its table and no other operations; all else on it stays
 pub record HasJoined (id : ℕ) (hist : Hist) (groups : Grouped) (old new : Shelved) : Type 0 where
   pub role : new.role ≡ old.role
   pub table : HasGroups hist groups unread old.table new.table

@@ -19,8 +19,8 @@
 //!
 //! Contracts see the parts of a *shelf* (`specs/Shelves.antt`), and say what an edit makes of them.
 //! No edit tests an event (`specs/Counts.antt`). An edit that returns a `Result` lets through:
-//! running out of memory at any time, and then nothing is said of the shelf; any number of puts, if
-//! its contract names no number.
+//! running out of memory, unless a clause `memory` rules it out, and then nothing is said of the
+//! shelf; any number of puts, if its contract names no number.
 #![tactic(auto)]
 
 mod joining;

@@ -222,7 +222,7 @@ impl Shelf {
         Ok(key)
     }
 
-    /// Puts a save at each hit of a key that is an event of the trace. Refused for memory.
+    /// Puts a save at each of a key's hits that is of an event of the trace. Refused for memory.
     fn put_saves(&mut self, id: u32, key: Key, work: &mut Work) -> Result<(), AllocError>
         requires { (pos : Pos)
             → ops_of self.old.ops key (record { pos = pos; trigger = id }) ≡ None }

@@ -193,8 +193,8 @@ impl Store {
         Ok(())
     }
 
-    /// Adds events after the others. An empty store takes them over. Refused for memory: then all
-    /// is as it was.
+    /// Adds events after the others. An empty store takes them over. Refused for memory, or if the
+    /// names of an event would begin 4 GiB after the first: then all is as it was.
     pub fn append(&mut self, events: Store) -> Result<(), AllocError>
         ensures ok { OnOk result (self.new ≡ self.old ++ events) }
         ensures err { OnErr result (self.new ≡ self.old) }

@@ -59,7 +59,7 @@ abbrev pub RowsGrow : Type 0
 RowsGrow = (table : Tabled) (m : Mark) (v : List ℤ) (key : List Part) → ComesLast table m
     → row_at (with_hit table m v) key ≡ (if same_key key m.key && is_counted table key then Some (grown v (unwrap_or (row_at table key) (empty_row key))) else row_at table key)
 
--- the totals have one hit more if it is counted, and one entry more if its key comes in; else one hit more is dropped (kernel: histogram.rst, `Hits`, `Entries` and `Dropped`)
+-- if it is counted, the totals have one hit more, and one entry more if its key comes in; if it is not counted, one hit more is dropped (kernel: histogram.rst, `Hits`, `Entries` and `Dropped`)
 abbrev pub TotalsGrow : Type 0
 TotalsGrow = (table : Tabled) (m : Mark) (v : List ℤ) → ComesLast table m
     → totals_of (with_hit table m v) ≡ (let t = totals_of table in

@@ -66,8 +66,8 @@
 //!   the text of rows and totals, are added (`specs/Text.antt`). Let through: running out of memory
 //!   at any time; after a refusal of `write_rows` any bytes after the old ones, and after one of
 //!   `write_heading` any text.
-//! - `row_text`, `table_rows`: the text of a row, to which `write_rows` adds only a line break;
-//!   rows with their texts, in the same order. Let through: running out of memory at any time.
+//! - `row_text`, `table_rows`: the text of a row, which `write_rows` adds with a line break; rows
+//!   with their texts, in the same order. Let through: running out of memory at any time.
 //! - Law `first_keys`: a key is in exactly if it has a hit and fewer than `size` other keys have an
 //!   earlier first hit (`specs/Admission.antt`).
 //! - Law `all_hits`: a key in the table has all its hits counted, all hits of the others are

@@ -7,8 +7,8 @@ use crate::row::Row;
 use ft_hist::{SortBy, SortItem};
 use std::cmp::Ordering;
 
-/// Puts rows of different keys in order: by the sort items from the left, each ascending unless it
-/// is descending, and by key if these leave them equal.
+/// Puts rows of different keys in order: by the sort items from the left, each with the least first
+/// unless it is `descending`, and by key if these leave them equal.
 pub fn sort_rows(rows: &mut Vec<Row>, sort: &[SortItem])
     requires { HasDistinctKeys rows.old.items }
     ensures { rows.new.items ≡ in_order sort.now rows.old.items }

@@ -189,8 +189,8 @@ impl Table {
         }
     }
 
-    /// The rows of the keys in the table, sorted by the sort items from the left, each ascending
-    /// unless it is descending, and by key if these leave them equal.
+    /// The rows of the keys in the table, sorted by the sort items from the left, each with the
+    /// least first unless it is `descending`, and by key if these leave them equal.
     pub fn rows(&self, sort: &[SortItem]) -> Result<Vec<Row>, AllocError>
         ensures { IfOk result (λ rows. rows.items ≡ rows_of self.now sort.now) }
     {

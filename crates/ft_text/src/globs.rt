@@ -7,10 +7,10 @@ ghost use Rattle.ft_text.specs.Glob.{ItemsAre, GlobIs, IsGlob, Glob};
 ghost use Rattle.ft_text.specs.Matching.{is_glob};
 ghost use Rattle.ft_text.specs.inner.Walk.{ReadsAsMembers, ReadsAsItems, Bounds, StepIs, Shortens};
 
-/// Whether the pattern is a glob. It is none if a class is not closed, has no member or has a range
-/// from a higher byte to a lower one, if a backslash stands anywhere, or if a `!` stands first. By
-/// `exact` the answer is worked out from the pattern, by `meaning` it says that the pattern reads
-/// as items.
+/// Whether the pattern is a glob. It is no glob exactly if a class is not closed, has no member or
+/// has a range from a higher byte to a lower one, if a backslash stands anywhere, or if a `!`
+/// stands first. By `exact` the answer is worked out from the pattern, by `meaning` it says that
+/// the pattern is a glob of some items.
 pub fn is_glob(pattern: &[u8]) -> bool
     ensures exact { result ≡ is_glob pattern.now }
     ensures meaning { IsTrue result ↔ IsGlob pattern.now }

@@ -79,7 +79,8 @@ pub fn one_tail()
 }
 
 /// A law: the head of a text decides first. The text has each fault of its head, whatever its tail
-/// is; if the head by itself is a trigger, the text is that trigger with what the tail says.
+/// is; if the head by itself is a trigger, the text is that trigger with the filter that the tail
+/// says, or has the tail's fault.
 pub fn heads_first()
     ensures fault { (event : Name) (text head gap tail end : List ℕ) (fault : TriggerFault)
         → IsCut text head gap tail end → TriggerIs event head (Err fault)
@@ -102,9 +103,9 @@ pub fn shapes()
     ft_filter::laws::one_answer();
 }
 
-/// A law: a fault of parts stays, whatever is after them, and a text has it with every tail. If the
-/// parts have no space and no tab, a text has a fault, whatever is after them, if and only if the
-/// parts have it. Any other fault of the text is one that is found after its parts.
+/// A law: a fault of parts stays, whatever parts are after them, and a text has it with every tail.
+/// If the parts have no space and no tab, a text has a fault, whatever is after them and a `:`, if
+/// and only if the parts have it. Any other fault of the text is one that is found after its parts.
 pub fn faults_stay()
     ensures stays { (event : Name) (parts more : List ℕ) (fault : TriggerFault)
         → PartsFail event parts fault → PartsFail event (parts ++ codes ":" ++ more) fault }

@@ -29,7 +29,7 @@
 //!   a tail says one thing; what the text of a trigger looks like.
 //! - Laws `heads_first`, `faults_stay`: a text has each fault of its head, whatever its tail is; a
 //!   fault of the head's parts stays with any parts after them.
-//! - Law `any_order`: if a text is a trigger, swapping any two neighbours among its parts gives the
+//! - Law `any_order`: if a head is a trigger, swapping any two neighbours among its parts gives the
 //!   same trigger.
 //! - Laws `one_cut`, `first_parts`, `first_items`: a text is cut at a separator in one way. Of the
 //!   parts of a head, and of the items of keys, values and sort items, the first that has a fault,

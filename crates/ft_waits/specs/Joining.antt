@@ -13,7 +13,7 @@ use Rattle.ft_waits.specs.declared.seam.JoinFault.{JoinFault}
 use Rattle.ft_waits.specs.declared.seam.JoinFault.TheVariants as faults
 use Rattle.ft_waits.specs.declared.stream.Waits.{Waits}
 
--- what was read before a part and what was read of the part fit at the seam: they leave out as many kinds of events, neither sums up its tasks and CPUs, together they have no more lines than there are numbers, the part's first event comes after the last stamp before it, and no hole has begun before it that has not ended
+-- what was read before a part and what was read of the part fit at the seam: they leave out the same number of kinds of events, neither sums up its tasks and CPUs, together they have no more lines than there are numbers, the part's first event, if it has one, comes after the last stamp before it, and no hole has begun before it that has not ended
 pub record Fit (before part : Reading) : Type 0 where
   pub size : length before.state.left_out.items ≡ length part.state.left_out.items
   pub unsummed : before.state.sums ≡ None

@@ -14,7 +14,8 @@ use std::alloc::{AllocError, Global};
 /// Switches that are missing in a text though no line reports them, as far as its events show it.
 #[derive(Clone, Copy, Debug, PartialEq, Eq)]
 pub struct Missing {
-    /// At how many events a task ran other than the one that their CPU went to last.
+    /// How many events show that a switch is missing before them: another task runs than the one
+    /// that the CPU's event before shows.
     pub switches: u64,
     /// The place of the first of these events.
     pub first: Option<Pos>,

@@ -200,7 +200,7 @@ impl Waits {
     }
 
     /// Leaves events out of the text to come: they say nothing of who runs, and all else is as it
-    /// would be with them. If there are several of these, each counts the events that it leaves
+    /// would be with them. After several calls, each `Without` counts the events that it leaves
     /// out. Refused for memory, and once bytes of the text were read: the stream is as before then.
     pub fn leave_out(&mut self, without: Without) -> Result<(), WithoutFault>
         ensures adds { OnOk result ((choice : Choice) (text : List ℕ) (told : List Dispatch)

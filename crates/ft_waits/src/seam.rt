@@ -194,10 +194,10 @@ impl Waits {
     /// read with the same choice.
     ///
     /// Refused, with all as before: if one of the two failed, the text before the part ends within
-    /// a line, the two don't skip the same lines or don't leave out as many kinds of events, one of
-    /// the two sums up its tasks and CPUs, they have more than 4,294,967,295 lines together, the
-    /// part's first event is not after the last stamp before it, or a CPU lost events at the seam.
-    /// If memory runs out, the stream has failed.
+    /// a line, the two don't skip the same lines or don't leave out the same number of kinds of
+    /// events, one of the two sums up its tasks and CPUs, they have more than 4,294,967,295 lines
+    /// together, the part's first event is not after the last stamp before it, or a CPU lost events
+    /// at the seam. If memory runs out, the stream has failed.
     pub fn join(
         &mut self,
         part: Waits,

@@ -339,7 +339,7 @@ fn a_part_is_not_joined_if_one_of_the_two_sums_up(rt: HostRuntime) {
     assert!(rt; fault == Some(JoinFault::Overlaps));
 }
 
-/// What a stream answers if it is fed a text twice.
+/// Whether feeding a text fails, and another feed and the end then answer the same.
 fn fed_twice(alloc: Global, text: &[u8]) -> Result<bool, AllocError> {
     let mut waits = Waits::new(alloc, BadLines::Refuse)?;
     let mut out = Vec::new(alloc);

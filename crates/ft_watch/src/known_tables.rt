@@ -209,8 +209,9 @@ fn report_all<B: Board>(
     })
 }
 
-/// Adds the lines of a table's rows that changed by an edit, by the rows that the edit names, if it
-/// gives both `report` and `made`, and takes the rows that the table has now. Refused for memory.
+/// Adds the lines of a table's rows that changed by an edit, and takes the rows that the table has
+/// now. If the edit gives both `report` and `made`, only the rows that it names are compared, else
+/// all. Refused for memory.
 fn add_changes<B: Board>(
     table: &mut KnownRows,
     desk: &mut Desk<B>,

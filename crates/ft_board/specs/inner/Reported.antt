@@ -18,7 +18,7 @@ pub record IsReportBy (triggers : Triggers) (kept : Option Shelves) (told : Opti
   pub are_told : told ≡ Some keys
   pub are : rows ≡ report_of triggers shelves keys
 
--- if shelves are kept of a base and then of another with the same triggers, and the keys under which hits may have changed were told and are few, the report by the shelves kept afterwards is one of the bases
+-- if shelves are kept of a base and then, with the same forms, of another base with the same triggers, and the keys under which hits may have changed were told and are few, the report that the shelves kept afterwards give is a report of these two bases
 abbrev pub RepairsReported : Type 0
 RepairsReported = (old new : Base) (before behind : Shelves) (keys : List KeyChange) → new.triggers ≡ old.triggers → AreKeptOf old before → AreKeptOf new behind
     → FormsStay before behind → HitsStayBut keys before behind → AreFew (role_on before) (map.entries old.triggers) keys

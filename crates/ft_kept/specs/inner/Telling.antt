@@ -19,6 +19,6 @@ abbrev pub other_key : ℕ → Option (List Part) → List KeyChange
 other_key saver None = []
 other_key saver (Some key) = variable_key (record { saver = saver; key = key })
 
--- the keys of a saver's readers, if a hit of the saver changed: the other key that moved, and the hit's own
+-- the keys of a saver's readers, if a hit of the saver changed: the other key that moved, if one did, and the hit's own
 abbrev pub moved_keys : ℕ → List Part → Moved → List KeyChange
 moved_keys saver key moves = other_key saver moves.other ++ variable_key (record { saver = saver; key = key })

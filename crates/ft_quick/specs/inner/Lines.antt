@@ -13,7 +13,7 @@ use Rattle.ft_quick.specs.declared.payload.WakeName.{WakeName}
 use Rattle.ft_quick.specs.declared.payload.WakeName.TheVariants as wakes
 use Rattle.ft_quick.specs.inner.Payloads.{IsFairTurn, IsFairWake}
 
--- the event of these columns, if this was traced
+-- the event of these columns, with what was traced
 abbrev pub traced_by_columns : Front → Body → Traced
 traced_by_columns front body = record { task = name_bytes front.task; pid = front.pid; cpu = front.cpu; stamp = front.stamp; body = body }
 

@@ -24,7 +24,7 @@ pub record AreTaskParts (pid_label prio_label text comm : List ℕ) (pid prio : 
   pub prio_is : NumberIs prio_text prio
   pub prio_fits : FitsSigned w32 prio
 
--- the payload of a wake event, with nothing too long or out of range
+-- the payload of a wake event without ` success=N`, with nothing too long or out of range, and no space at its ends
 pub record IsFairWake (payload : List ℕ) (wake : Wake) : Type 0 where
   pub is : IsWake payload wake None
   pub short : length wake.comm ≤ 31
@@ -34,7 +34,7 @@ pub record IsFairWake (payload : List ℕ) (wake : Wake) : Type 0 where
   pub first : Stops is_space payload
   pub last : Stops is_space (reverse payload)
 
--- the payload of a switch, with nothing too long or out of range
+-- the payload of a switch, with nothing too long or out of range, and no space at its ends
 pub record IsFairTurn (payload : List ℕ) (turn : Turn) : Type 0 where
   pub is : IsTurn payload turn
   pub prev_short : length turn.prev_comm ≤ 31

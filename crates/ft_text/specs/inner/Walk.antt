@@ -12,7 +12,7 @@ ReadsAsMembers text = (members : List Member) × MembersAre text members
 abbrev pub ReadsAsItems : List ℕ → Type 0
 ReadsAsItems text = (items : List Item) × ItemsAre text items
 
--- the text begins with a member of these bounds, which is sound if they are in order; both bounds of a single byte are that byte
+-- the text begins with a member of these bounds, which is sound exactly if they are in order; both bounds of a single byte are that byte
 pub record Bounds (text : List ℕ) (low high : ℕ) (rest : List ℕ) : Type 0 where
   pub reads : ReadsAsMembers text ↔ ((low ≤ high) × ReadsAsMembers rest)
   pub has : (members : List Member) → MembersAre text members → (behind : List Member) × MembersAre rest behind × ((byte : ℕ) → SomeHas members byte ↔ (((low ≤ byte) × (byte ≤ high)) ⊎ SomeHas behind byte))
