@@ -1,13 +1,13 @@
 #!/usr/bin/env bash
 # kept.sh [EVENTS..]: times an insert and a strike, each by itself and followed by `totals` or by `hist` of the reader, and the
-# same answers of `plaindesk`, which replays at each, in one run. So many events are held (10,000, 100,000 and 1,000,000), and
+# same answers of `tests/program/plaindesk`, which replays at each, in one run. So many events are held (10,000, 100,000 and 1,000,000), and
 # a saver and a reader are attached. HISTDESK and PLAINDESK may name programs that are built already.
 # shellcheck source-path=SCRIPTDIR
 set -euo pipefail
 
 here=$(dirname -- "$(realpath -- "${BASH_SOURCE[0]}")")
 . "$here/common.sh"
-plaindesk=${PLAINDESK:-$here/../crates/plaindesk/out/plaindesk}
+plaindesk=${PLAINDESK:-$here/../tests/program/plaindesk}
 take_large_pages
 if (($# == 0)); then
     set -- 10000 100000 1000000
@@ -33,7 +33,7 @@ row() {
 }
 
 if [[ -z ${PLAINDESK:-} ]]; then
-    (cd -- "$here/../crates/plaindesk" && rt run </dev/null >"$folder/log" 2>&1)
+    (cd -- "$here/../crates/askagain" && rt run -- rows </dev/null >"$folder/log" 2>&1)
 fi
 for events in "$@"; do
     make_trace "$events" >"$trace"

@@ -67,6 +67,13 @@ def sources_changed(name: str) -> int:
     return max(map(changed, found), default=-1)
 
 
+def edits_of(name: str) -> list[Path]:
+    """Return the files of a crate's edits that must fail: in `edits`, those that only build/edits tries, and in `must-fail`
+    those that `rt ci` tries too."""
+    home = ROOT / "crates" / name
+    return sorted(path for folder in ("edits", "must-fail") for path in (home / folder).glob("*.edit"))
+
+
 def files_of(name: str) -> list[str]:
     """Return the files that are made of a crate, besides its statements."""
     return [file for product in PRODUCTS.values() if product.crate == name for file in product.files]

@@ -9,6 +9,6 @@ crates=$(realpath -- "$tests/../crates")
 
 histdesk=$crates/histdesk/out/histdesk
 histwatch=$crates/histwatch/out/histwatch
-part program "$tests/program.sh" "$histdesk" "$crates/plaindesk/out/plaindesk" "$crates/askagain/out/askagain" "$histwatch"
+part program "$tests/program.sh" "$histdesk" "$tests/program/plaindesk" "$crates/askagain/out/askagain" "$histwatch"
 part library "$tests/library.sh" "$crates/ft_c/out/libhistdesk.so.0" "$histdesk" "$histwatch"
 finish

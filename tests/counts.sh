@@ -52,14 +52,13 @@ part() {
     fi
 }
 
-# python_tests NAME PYTHON FILE..: runs the tests of these files by pytest, whose report has the counts. If something has
-# failed, all that it prints is printed, otherwise only what was skipped.
-python_tests() {
-    local name=$1 report=$folder/report.xml said status good bad left
-    rm -f -- "$report"
-    said=$("$2" -m pytest -q -rs --junit-xml="$report" -- "${@:3}" 2>&1 </dev/null)
+# pytest_counts PYTHON FILE..: runs the tests of these files by pytest, whose report has the counts. It prints what pytest does
+# if something has failed, otherwise what was skipped, and a last line with the counts.
+pytest_counts() {
+    local report=$folder/report.$BASHPID.xml said status good bad left
+    said=$("$1" -m pytest -q -rs --junit-xml="$report" -- "${@:2}" 2>&1 </dev/null)
     status=$?
-    read -r good bad left < <("$2" -c '
+    read -r good bad left < <("$1" -c '
 import sys, xml.etree.ElementTree as trees
 
 suites = list(trees.parse(sys.argv[1]).iter("testsuite"))
@@ -70,14 +69,29 @@ print(count - wrong - skipped, wrong, skipped)' "$report" 2>/dev/null)
     if ((status != 0 && ${bad:-0} == 0)); then
         bad=1
     fi
-    passed=$((passed + ${good:-0}))
-    failed=$((failed + ${bad:-0}))
-    skipped=$((skipped + ${left:-0}))
     if ((${bad:-0} > 0)); then
-        printf '%s: %s\n' "$name" "$said"
+        printf '%s\n' "$said"
     else
-        grep '^SKIPPED ' <<<"$said" | sed "s|^SKIPPED|$name: skipped|"
+        sed -n 's/^SKIPPED \[\([0-9]*\)\] /\1 skipped: /p' <<<"$said"
     fi
+    printf '%d passed, %d failed, %d skipped\n' "${good:-0}" "${bad:-0}" "${left:-0}"
+}
+
+# beside NAME COMMAND..: starts a test of that kind, which runs beside those that come after it.
+names=()
+beside() {
+    "${@:2}" >"$folder/beside.${#names[@]}" 2>&1 </dev/null &
+    names+=("$1")
+}
+
+# Waits for the tests that `beside` has started, and counts them.
+gather() {
+    local at
+    wait
+    for at in "${!names[@]}"; do
+        part "${names[at]}" cat -- "$folder/beside.$at"
+    done
+    names=()
 }
 
 # holds COMMAND..: the same as part, with the name of the program.

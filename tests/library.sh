@@ -3,7 +3,8 @@
 # have it: from C (library/c_library.sh); from Python with the tools over it (library/python_*.py, by pytest), by the python3 on
 # the PATH and by the system's, if they have numpy and pytest; the page of tools/view in a browser (page/page.py); and installed
 # with the programs (tools/install.sh) and in packages (tools/packages.sh). The scripts that all of this stands on are checked
-# too (lint.sh). It prints what went wrong, what was skipped and why, and a last line with the counts.
+# too (lint.sh). What records the machine runs by itself, the rest side by side. It prints what went wrong, what was skipped and
+# why, and a last line with the counts.
 # shellcheck disable=SC2154 # what counts.sh assigns
 set -uo pipefail
 
@@ -24,7 +25,7 @@ for ((seed = 41; seed <= 50; seed++)); do
 done
 export HISTDESK_ROWS=$folder/rows
 
-part "from C" "$tests/library/c_library.sh" "$library" "$histdesk"
+beside "from C" "$tests/library/c_library.sh" "$library" "$histdesk"
 
 # The package needs numpy; with a Python without it, only what the tools report can be tested.
 pythons=()
@@ -48,21 +49,22 @@ if ((${#pythons[@]} == 0)); then
     skip "the package, since no Python has numpy and pytest"
 fi
 for python in "${pythons[@]}"; do
-    python_tests "from $python" "$python" "$tests/library"
-    part "recipes from $python" "$python" "$tests/documents/recipes.py" "$histdesk" "$histwatch"
-    part "documents by $python" "$python" "$tests/documents/sessions.py" "$histdesk" "$histwatch"
+    beside "from $python" pytest_counts "$python" "$tests/library"
+    beside "recipes from $python" "$python" "$tests/documents/recipes.py" "$histdesk" "$histwatch"
+    beside "documents by $python" "$python" "$tests/documents/sessions.py" "$histdesk" "$histwatch"
 done
 python=python3
 if ((${#pythons[@]} > 0)); then
     python=${pythons[-1]}
-    python_tests "the page" "$python" "$tests"/page/{page,page_keys,page_looks,timeline_page}.py
+    beside "the page" pytest_counts "$python" "$tests"/page/{page,page_keys,page_looks,timeline_page}.py
 fi
-part scripts "$tests/lint.sh"
+beside scripts "$tests/lint.sh"
 part recorded "$tests/tools/recorded.sh" "$tests/../tools"
 part "perf's filter" "$python" "$tests/tools/filtered.py" "$tests/../tools"
 part "kinds of files" "$python" "$tests/tools/kinds.py"
 part "turned quickly" "$python" "$tests/tools/quickly.py" "$tests/../tools"
 part installed "$tests/tools/install.sh" "$histdesk" "$histwatch" "$library"
 part packages "$tests/tools/packages.sh" "$histdesk" "$histwatch" "$library"
+gather
 
 finish

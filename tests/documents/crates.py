@@ -77,7 +77,7 @@ def names(page: str) -> Told:
         found = set(WORD.findall(text_of(f"crates/{path}")))
         for name in WORD.findall(inside):
             yield f"HACKING.md names {name} of {path}, which has none", name in found
-    edits = {file.read_text(encoding="utf-8") for file in ROOT.glob("crates/*/must-fail/*.edit")}
+    edits = {file.read_text(encoding="utf-8") for file in ROOT.glob("crates/*/*/*.edit")}
     for block in re.findall(r"^```\n(file: .*?)^```", page, re.MULTILINE | re.DOTALL):
         yield "HACKING.md shows an edit that no crate has", block in edits
 

@@ -227,7 +227,7 @@ def counts():
     """Return what docs/TESTING.md counts, and how much there is of it."""
     crates = files("crates", "*", "src", "**", "*.rt")
     return {
-        "Edits that must fail": len(files("crates", "*", "must-fail", "*.edit")),
+        "Edits that must fail": len(files("crates", "*", "*", "*.edit")),
         "Tests in crates": sum(text_of(path).count("\n#[test]") for path in crates),
         "Rows": len(files("tests", "rows", "*", "script")),
         "Tests in Python of package and tools": tests_in("library/*.py"),

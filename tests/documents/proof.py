@@ -115,7 +115,7 @@ def files_by_row() -> List[Tuple[str, List[str]]]:
         ("definitions (`specs/`)", below("specs/**/*.antt")),
         ("of these, what must be believed", sorted(files_in_reach())),
         ("proofs (`proofs/`)", below("proofs/**/*.antt")),
-        ("edits that must fail (`must-fail/`)", below("must-fail/*.edit")),
+        ("edits that must fail (`edits/`, `must-fail/`)", below("edits/*.edit") + below("must-fail/*.edit")),
     ]
 
 

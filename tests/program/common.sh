@@ -76,8 +76,8 @@ built() {
 }
 
 if (($# == 0)); then
-    plaindesk=$(built plaindesk)
     askagain=$(built askagain)
+    plaindesk=${askagain:+$tests/program/plaindesk}
     histwatch=$(built histwatch)
 fi
 # The launcher builds the program if it is stale, for which there is no time limit.

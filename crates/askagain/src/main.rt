@@ -10,24 +10,25 @@
 //! One byte goes to standard error before each first call and one after it, so that whoever refuses
 //! growths, as `tests/program/refuse_growth.c` does, knows which are those of the call.
 //!
-//! `askagain watch-plain SCRIPT [TRACE]..` is another program: `histwatch` over the board that
-//! keeps no tables and whose edits have no report. And `askagain rows FOLDER..` reports whether
-//! worked examples hold.
+//! Three other programs for tests are in it, since a program costs a proof of all that it reaches:
+//! `askagain plain SCRIPT [TRACE]..` is `histdesk`, and `askagain watch-plain SCRIPT [TRACE]..` is
+//! `histwatch`, each over the board that keeps no tables; and `askagain rows FOLDER..` reports
+//! whether worked examples hold.
 //!
-//! The exit status is 1 if a worked example doesn't hold, 2 after a fault, which goes to standard
-//! error, and else 0.
+//! The exit status is 1 if a worked example doesn't hold, or if `plain` refuses a command; 2 after
+//! a fault, which goes to standard error; and else 0.
 #![tactic(auto)]
 
 ghost use Rattle.std.specs.Prelude.{◌≡◌, ◌≤◌, ◌↔◌, IsTrue};
 ghost use Rattle.std.specs.Result.{IsOkAnd, IsErr};
 
 mod calls;
+mod plain;
 mod rows;
-mod watching;
 
 use crate::calls::{Answer, call};
+use crate::plain::{run_plain, watch_plain};
 use crate::rows::check_rows;
-use crate::watching::watch;
 use ft_board::KeptBoard;
 use ft_desk::{Board, Changed, Desk, Edited, Kept, Latency, Refused};
 use ft_fields::Part;
@@ -39,14 +40,17 @@ use std::{env, fs, io};
 /// The first argument if rows are checked.
 const ROWS: &str = "rows";
 
-/// The first argument if a script is watched.
+/// The first argument if a script is run over the board that keeps no tables.
+const PLAIN: &str = "plain";
+
+/// The first argument if a script is watched over that board.
 const WATCH_PLAIN: &str = "watch-plain";
 
 fn main(rt: HostRuntime) -> ExitCode {
     ExitCode::from(exit_status(&rt, run_words(&rt)))
 }
 
-/// The exit status: whether what was checked holds. A fault is printed.
+/// The exit status: whether what was checked holds, or each command was accepted. A fault is printed.
 fn exit_status<P: Eprint>(rt: &P, ended: io::Result<bool>) -> u8
     ensures holds { (result ≡ 0) ↔ IsOkAnd ended IsTrue }
     ensures fault { (result ≡ 2) ↔ IsErr ended }
@@ -62,48 +66,49 @@ fn exit_status<P: Eprint>(rt: &P, ended: io::Result<bool>) -> u8
     }
 }
 
-/// Does what the program's arguments say. False if rows are checked, and some row doesn't hold.
+/// Does what the program's arguments say. False if rows are checked, and some row doesn't hold, or
+/// if a script is run over the board that keeps no tables, and a command is refused.
 fn run_words<P: Env + Files + Print + Eprint + AllocGlobal>(rt: &P) -> io::Result<bool> {
     let words: Vec<String> = env::args(rt)?.skip(1).collect(rt.alloc())?;
     match words.as_slice().split_first() {
         Some((first, folders)) if first.as_str() == ROWS => Ok(check_rows(rt, folders)?.all_hold()),
-        _ => {
-            run_files(rt, words.as_slice())?;
-            Ok(true)
+        Some((first, paths)) if first.as_str() == PLAIN => run_files(rt, Way::Plain, paths),
+        Some((first, paths)) if first.as_str() == WATCH_PLAIN => {
+            run_files(rt, Way::WatchPlain, paths)
         }
+        _ => run_files(rt, Way::Ask, words.as_slice()),
     }
 }
 
-/// Watches or asks what the program's arguments say.
-fn run_files<P: Files + Print + Eprint + AllocGlobal>(rt: &P, words: &[String]) -> io::Result<()> {
-    match words.split_first() {
-        Some((first, paths)) if first.as_str() == WATCH_PLAIN => watch_files(rt, paths),
-        _ => ask_files(rt, words),
-    }
+/// What is done with a script.
+enum Way {
+    /// It is run over the board that keeps no tables.
+    Plain,
+    /// It is watched over that board.
+    WatchPlain,
+    /// A desk over the board that keeps tables is asked, and asked again.
+    Ask,
 }
 
-/// Watches a plain board doing what the first of these files says; the others are what it may load.
-fn watch_files<P: Files + Print + Eprint + AllocGlobal>(
+/// Does what the first of these files says; the others are what it may load.
+fn run_files<P: Files + Print + Eprint + AllocGlobal>(
     rt: &P,
+    way: Way,
     paths: &[String],
-) -> io::Result<()> {
+) -> io::Result<bool> {
     let files = read_files(rt, paths)?;
-    match files.as_slice().split_first() {
-        Some((script, traces)) => watch(rt, script.as_slice(), traces),
-        None => Err(io::Error::from(io::ErrorKind::InvalidInput)),
-    }
-}
-
-/// Asks a desk what the first of these files says; the others are what it may load.
-fn ask_files<P: Files + Print + Eprint + AllocGlobal>(rt: &P, paths: &[String]) -> io::Result<()> {
-    let files = read_files(rt, paths)?;
-    match files.as_slice().split_first() {
-        Some((script, traces)) => {
+    let Some((script, traces)) = files.as_slice().split_first() else {
+        return Err(io::Error::from(io::ErrorKind::InvalidInput));
+    };
+    match way {
+        Way::Plain => return run_plain(rt, script.as_slice(), traces),
+        Way::WatchPlain => watch_plain(rt, script.as_slice(), traces)?,
+        Way::Ask => {
             let desk = Desk::new(rt.alloc(), KeptBoard::new(rt.alloc()));
-            ask_lines(rt, desk, script.as_slice(), traces)
+            ask_lines(rt, desk, script.as_slice(), traces)?;
         }
-        None => Err(io::Error::from(io::ErrorKind::InvalidInput)),
     }
+    Ok(true)
 }
 
 /// Asks a desk what the lines of a script say.
