@@ -1,7 +1,7 @@
 #!/usr/bin/env bash
 # gate.sh: runs the gate, `rt ci`, on a clean clone of what is committed, over nothing that an earlier gate has kept, and
-# prints what it took: for each crate its proof, its tests, the second proof that its edits begin with, and these edits that
-# must fail, in processor minutes, and by the clock in minutes and seconds. If the gate passes, what each proof took is written
+# prints what it took: for each crate its proof, the second proof that its edits begin with, and these edits that must fail,
+# in processor minutes, and by the clock in minutes and seconds. If the gate passes, what each proof took is written
 # to build/proof_seconds.
 # shellcheck source-path=SCRIPTDIR
 set -euo pipefail

@@ -2,7 +2,8 @@
 # program.sh [HISTDESK [PLAINDESK [ASKAGAIN [HISTWATCH]]]]: runs a program as a user would, by scripts of one subject
 # each, program/*.sh, which take the same arguments and can be run by themselves: the rows, the examples, arguments and
 # files, streams, limits, hostile bytes, growths of memory that are refused, and which rows edits change; then the launchers
-# (tools/launchers.sh), how they build (tools/building.sh), the tools around it (tools/tools.sh) and the documents.
+# (tools/launchers.sh), how they build (tools/building.sh), how mistakes are refused (tools/editing.py), the tools around it
+# (tools/tools.sh) and the documents.
 # PLAINDESK, if it is given, runs the rows, the full desks and the hostile bytes too; ASKAGAIN runs the rows in memory,
 # and asks a second time for what found no memory, in some of them; HISTWATCH prints which rows edits change. Without
 # arguments, it runs the launcher and those of the other three that are built. It prints what went wrong, what was skipped
@@ -18,6 +19,7 @@ for subject in rows examples words streams limits hostile growths changes; do
 done
 holds "$tests/tools/launchers.sh" "$program" ${histwatch:+"$histwatch"}
 holds "$tests/tools/building.sh"
+holds "$tests/tools/editing.py"
 holds "$tests/tools/tools.sh" "$program" ${histwatch:+"$histwatch"}
 holds "$tests/documents/crates.py"
 holds "$tests/documents/proof.py"

@@ -4,9 +4,8 @@
     crates.py > WHAT WENT WRONG
 
 docs/CRATES.md is what build/crates prints, and each file of sources and definitions begins with a sentence. docs/HACKING.md
-has each crate in its figure of layers, except those of tests, and none on a lower layer than a crate on which it stands. The
-functions, types and definitions that it names are there, and so is the edit that it shows. The last line says how many of
-these hold.
+has each crate in its figure of layers, and none on a lower layer than a crate on which it stands. The functions, types and
+definitions that it names are there, and so is the edit that it shows. The last line says how many of these hold.
 """
 
 import importlib.machinery
@@ -59,7 +58,7 @@ def layers(page: str) -> Told:
     figure = page.partition("\n## Layers\n")[2].split("```")[1]
     rows = [line for line in figure.split("\n") if line[:1].strip()]
     layer = {crate: len(rows) - at for at, row in enumerate(rows) for crate in re.findall(r"\w+", row) if crate in BELOW}
-    for crate in (crate for crate in BELOW if not crate.endswith("_tests")):
+    for crate in BELOW:
         yield f"HACKING.md: no layer has {crate}", crate in layer
         too_low = [other for other in BELOW[crate] if layer.get(other, 0) > layer.get(crate, 0)]
         yield f"HACKING.md: {crate} stands below {', '.join(too_low)}, on which it stands", not too_low

@@ -225,10 +225,10 @@ def files(*parts):
 
 def counts():
     """Return what docs/TESTING.md counts, and how much there is of it."""
-    crates = files("crates", "*", "src", "**", "*.rt")
+    crates = files("tests", "crates", "src", "**", "*.rt.in")
     return {
         "Edits that must fail": len(files("crates", "*", "*", "*.edit")),
-        "Tests in crates": sum(text_of(path).count("\n#[test]") for path in crates),
+        "Tests of the crates": sum(text_of(path).count("\n#[test]") for path in crates),
         "Rows": len(files("tests", "rows", "*", "script")),
         "Tests in Python of package and tools": tests_in("library/*.py"),
         "Tests of the page in a browser": tests_in("page/*.py"),

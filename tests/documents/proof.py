@@ -29,7 +29,6 @@ CARRIERS = [
 ]
 IMPORT = re.compile(r"^ *(?:ghost )?(?:pub )?use Rattle\.(\w+)\.specs\.((?:inner\.)?\w+)\b", re.MULTILINE)
 TABLE = re.compile(r"(?<=\n\n)\| What \| Files \| Lines \|\n(?:\|.*\n)+")
-TESTS = re.compile(r"ft_\w+_tests/|askagain/")
 
 
 def text_of(path: str) -> str:
@@ -104,14 +103,16 @@ def quotes(page: str) -> Tuple[int, List[str]]:
 def files_by_row() -> List[Tuple[str, List[str]]]:
     """Return what the table has rows for, each with its files."""
 
-    def below(form: str) -> List[str]:
-        paths = glob.glob(os.path.join(CRATES, "*", form), recursive=True)
+    def below(form: str, folder: str = os.path.join(CRATES, "*")) -> List[str]:
+        paths = glob.glob(os.path.join(folder, form), recursive=True)
         return [os.path.relpath(path, CRATES) for path in paths]
 
-    sources = below("src/**/*.rt")
+    tests = below("src/**/*.rt.in", os.path.join(ROOT, "tests", "crates")) + below(
+        "src/**/*.rt", os.path.join(CRATES, "askagain")
+    )
     return [
-        ("sources (`src/`)", [path for path in sources if not TESTS.match(path)]),
-        ("tests in Rattle (`ft_*_tests`, `askagain`)", [path for path in sources if TESTS.match(path)]),
+        ("sources (`src/`)", sorted(set(below("src/**/*.rt")) - set(tests))),
+        ("tests in Rattle (`tests/crates`, `askagain`)", tests),
         ("definitions (`specs/`)", below("specs/**/*.antt")),
         ("of these, what must be believed", sorted(files_in_reach())),
         ("proofs (`proofs/`)", below("proofs/**/*.antt")),

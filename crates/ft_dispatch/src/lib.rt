@@ -54,8 +54,6 @@ mod joining;
 mod laws;
 mod taking;
 mod tasks;
-#[cfg(test)]
-mod tests;
 
 pub use act::{Kind, PlacedAct, PrevState};
 pub use began::{Began, Cause};

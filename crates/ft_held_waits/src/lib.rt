@@ -23,8 +23,6 @@
 
 mod held;
 pub mod laws;
-#[cfg(test)]
-mod tests;
 
 pub use held::held_dispatches;
 pub use laws::woken_dispatches_are_latencies;

@@ -32,8 +32,6 @@ mod layouts;
 mod line;
 mod lines;
 mod losses;
-#[cfg(test)]
-mod tests;
 
 pub use laws::ends_cut_lines;
 pub use layouts::{LossesLayout, TextLineLayout, copy_lines};

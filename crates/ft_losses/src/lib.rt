@@ -51,8 +51,6 @@ mod late;
 mod losses;
 mod reading;
 mod stretches;
-#[cfg(test)]
-mod tests;
 
 pub use doubt::{Doubt, Wait};
 pub use hole::{Buffers, Hole};

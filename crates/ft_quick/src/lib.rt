@@ -36,7 +36,5 @@ mod marks;
 mod numbers;
 mod payload;
 mod same;
-#[cfg(test)]
-mod tests;
 
 pub use line::{cut_line, put_line};

@@ -28,8 +28,6 @@ mod standing;
 mod summary;
 mod sums;
 mod tasks;
-#[cfg(test)]
-mod tests;
 
 pub use summary::Summary;
 pub use sums::{CpuSum, Sums, TaskSum};

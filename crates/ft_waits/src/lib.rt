@@ -68,8 +68,6 @@ mod state;
 mod steps;
 mod stream;
 mod summing;
-#[cfg(test)]
-mod tests;
 mod whole;
 
 pub use fault::{BadLine, BadLines, LinesRead, TextRead, WaitsFault, WithoutFault};

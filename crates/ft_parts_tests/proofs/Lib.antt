@@ -1,2 +1,0 @@
-pub mod NewShelves
-pub mod OneEvent
