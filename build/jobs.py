@@ -12,9 +12,12 @@ from typing import NamedTuple
 
 import graph
 import recipes
+import schedule
 
 # A job takes up to 2 GB, and there are up to two for each processor; /proc counts in KB.
 MEMORY_PER_CRATE = 4_000_000
+# After so many seconds a terminal is told anew how long the build still takes.
+PAUSE = 20
 # These end a build, unless whoever began it ignores them.
 ENDS = {signal.SIGINT, signal.SIGTERM, signal.SIGHUP}
 
@@ -37,6 +40,8 @@ class Job(NamedTuple):
     name: str
     process: subprocess.Popen[bytes]
     since: str
+    # By the clock of the build.
+    begun: float
 
     def send(self, number: int) -> None:
         """Send a signal to all processes of the job."""
@@ -54,8 +59,12 @@ class Progress:
 
     def show(self, text: str) -> None:
         """Show where the build is."""
-        before, after = ("\r\x1b[K", "") if self.is_terminal else ("", "\n")
-        print(f"{before}build: {text}", end=after, file=sys.stderr, flush=True)
+        line = f"build: {text}"
+        if self.is_terminal:
+            # A line that wraps would not be replaced as a whole. A terminal may not know its width, which is then 0.
+            columns = os.get_terminal_size(sys.stderr.fileno()).columns
+            line = "\r\x1b[K" + (line[: columns - 1] if columns else line)
+        print(line, end="" if self.is_terminal else "\n", file=sys.stderr, flush=True)
 
     def end(self, text: str) -> None:
         """End the line of `show` on a terminal, by a text."""
@@ -77,25 +86,28 @@ class Build:
     ----------
     kit
         The kit.
-    order
-        All crates of what is built, each after those that it depends on.
-    below
-        What each crate depends on.
-    stale
-        Those that are to be proved.
+    count
+        How many crates there are of what is built, with those that needn't be proved.
+    estimate
+        What is to be proved, by which rules, and how long that takes.
     lock
         A descriptor that each job keeps, so that no other build begins before its end.
     """
 
-    def __init__(self, kit: recipes.Kit, order: list[str], below: graph.Below, stale: set[str], lock: int) -> None:
-        self.kit, self.below, self.lock, self.all = kit, below, lock, len(order)
-        self.left = set(stale)
-        self.chain = graph.chains(order, below, graph.proof_seconds())
-        self.waiting = sorted(stale, key=lambda name: (-self.chain[name], name))
+    def __init__(self, kit: recipes.Kit, count: int, estimate: schedule.Estimate, lock: int) -> None:
+        self.kit, self.all, self.estimate, self.rules, self.lock = kit, count, estimate, estimate.rules, lock
+        self.left, self.waiting = set(estimate.names), list(estimate.names)
         self.running: list[Job] = []
-        self.most = most_at_once()
+        # By the clock of the build, the seconds that each crate took that is done.
+        self.took: dict[str, float] = {}
+        # For how many seconds the build was held.
+        self.held = 0.0
         self.work = Path(tempfile.mkdtemp(prefix="build.", dir=graph.OUT))
         self.progress = Progress()
+
+    def clock(self) -> float:
+        """Return a time in seconds, which goes on except while the build is held."""
+        return time.monotonic() - self.held
 
     def run(self) -> None:
         """Prove the crates.
@@ -120,11 +132,9 @@ class Build:
     def prove(self, heard: set[signal.Signals]) -> None:
         """Start what is ready, and wait, until nothing is left."""
         while self.left:
-            for name in [name for name in self.waiting if self.left.isdisjoint(self.below[name])]:
-                if len(self.running) < self.most:
-                    self.start(name)
-            self.show()
-            number = signal.sigwait(heard)
+            for name in self.rules.ready(self.waiting, self.left)[: self.rules.most - len(self.running)]:
+                self.start(name)
+            number = self.show(heard)
             if number in ENDS:
                 raise Ended(signal.Signals(number))
             if number == signal.SIGTSTP:
@@ -133,11 +143,8 @@ class Build:
                 self.settle(job)
 
     def start(self, name: str) -> None:
-        """Start a crate. One whose chain is not a tenth shorter than the longest of those that run gets all processors; any
-        other one gets two jobs, which give way by a step for each tenth."""
-        longest = max(self.chain[other] for other in [name, *(job.name for job in self.running)])
-        steps = 10 * (longest - self.chain[name]) // longest
-        jobs = self.most if steps == 0 or self.most < 2 else 2
+        """Start a crate."""
+        jobs, steps = self.rules.share(name, [job.name for job in self.running])
 
         def begin() -> None:
             # A group of processes for each job, by which it is ended with all that it started. A session of its own would set
@@ -148,7 +155,7 @@ class Build:
 
         (graph.OUT / f"{name}.proved").unlink(missing_ok=True)
         (self.work / f"{name}.started").touch()
-        script = recipes.recipe(self.kit, name, self.below, jobs, self.work)
+        script = recipes.recipe(self.kit, name, self.rules.below, jobs, self.work)
         with open(self.work / f"{name}.log", "wb") as log:
             process = subprocess.Popen(
                 ["sh", "-c", script],
@@ -160,7 +167,7 @@ class Build:
                 pass_fds=[self.lock],
             )
         self.waiting.remove(name)
-        self.running.append(Job(name, process, time.strftime("%H:%M:%S")))
+        self.running.append(Job(name, process, time.strftime("%H:%M:%S"), self.clock()))
 
     def settle(self, job: Job) -> None:
         """Take note of a job that has ended: the crate is proved, or the build ends with what the job printed last."""
@@ -173,19 +180,28 @@ class Build:
             raise Failure("\n".join([*text.splitlines()[-20:], f"build: not built: {job.name} is not proved"]))
         (self.work / f"{job.name}.started").rename(graph.OUT / f"{job.name}.proved")
         self.left.remove(job.name)
+        self.took[job.name] = self.clock() - job.begun
 
-    def show(self) -> None:
-        """Show how many crates are proved, and which ones are being proved since when."""
-        running = ", ".join(f"{job.name} since {job.since}" for job in self.running)
-        self.progress.show(
-            f"{self.all - len(self.left)} of {self.all} crates proved" + (f"; proving {running}" if running else "")
-        )
+    def show(self, heard: set[signal.Signals]) -> int:
+        """Show how far the build is until a signal comes, and return its number."""
+        while True:
+            now = self.clock()
+            left = schedule.in_minutes(self.estimate.left(self.took, {job.name: now - job.begun for job in self.running}))
+            running = ", ".join(f"{job.name} since {job.since}" for job in self.running)
+            self.progress.show(f"{self.all - len(self.left)} of {self.all} crates proved, {left} left; proving {running}")
+            if not self.progress.is_terminal:
+                return signal.sigwait(heard)
+            told = signal.sigtimedwait(heard, PAUSE)
+            if told:
+                return told.si_signo
 
     def hold(self) -> None:
         """Hold what runs as long as this is held: Ctrl-Z reaches only the terminal's own group of processes."""
+        since = time.monotonic()
         self.send(signal.SIGSTOP)
         os.kill(os.getpid(), signal.SIGSTOP)
         self.send(signal.SIGCONT)
+        self.held += time.monotonic() - since
 
     def send(self, number: int) -> None:
         """Send a signal to all jobs."""

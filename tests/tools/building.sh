@@ -13,6 +13,7 @@ left=$root/build/out
 mkdir -p -- "$root"/crates/{ft_low,ft_desk,histdesk,histwatch,ft_c}/src "$folder"/{bin,toolchain/bin}
 tar -C "$tests/.." --exclude=out -cf - build helpers | tar -C "$root" -xf -
 printf '%s\n' 'ft_low:' 'ft_desk: ft_low' 'histdesk: ft_desk' 'histwatch: ft_desk' 'ft_c static: ft_desk' >"$root/crates.txt"
+printf '%s\n' 'ft_low 320' 'ft_desk 150' 'ft_c 140' 'histwatch 120' 'histdesk 50' >"$root/build/proof_seconds"
 echo one >"$folder/KIT-ID"
 export STAND_IN=$folder PATH=$folder/bin:$PATH
 
@@ -95,17 +96,21 @@ ends() {
 }
 
 building='build: building histdesk, histwatch and the library'
+first='
+build: proving takes this time, and the kit builds nothing unproved; later builds prove only what changed and what depends on it
+build: packages need no kit and no build: build/package makes them on a machine that has built (README.md, Install)'
 all=(ft_c ft_desk ft_low histdesk histwatch)
 above=(ft_c ft_desk histdesk histwatch)
 
 # A program needs only the crates below it, and the rest is built when it is asked for.
 asked=(histdesk)
-builds first 0 "build: building histdesk, all 3 crates, which takes about [1-9]* minutes; see $left/log"$'\n*' ft_desk ft_low histdesk
+builds first 0 "build: building histdesk, all 3 crates, which takes about [1-9]* minutes; see $left/log$first"$'\n*' \
+    ft_desk ft_low histdesk
 head -n 2 -- "$folder/proved" >"$folder/out"
 prints "first, the lower ones first" $'ft_low\nft_desk'
 builds nothing 0 ""
 asked=()
-builds "the rest" 0 "$building, 2 of 5 crates; see *" ft_c histwatch
+builds "the rest" 0 "$building, 2 of 5 crates, which takes about [1-9] minutes; see *" ft_c histwatch
 builds "nothing is left" 0 ""
 # What is compiled from C, if a compiler and the headers are there: a fault in it keeps nothing else from being built.
 compiled() {
@@ -127,13 +132,15 @@ else
     skip "the program for trace-cmd: no compiler, or no headers of its libraries"
 fi
 touch -- "$root/crates/ft_desk/src/lib.rt"
-builds "a source" 0 "$building, 4 of 5 crates; see *" "${above[@]}"
+builds "a source" 0 "$building, 4 of 5 crates, which takes about [1-9] minutes; see *" "${above[@]}"
 rm -- "$root/crates/histwatch/out/histwatch"
-builds "no program" 0 "$building, 1 of 5 crates; see *" histwatch
+builds "no program" 0 "$building, 1 of 5 crates, which takes about 2 minutes; see $left/log
+build: 4 of 5 crates proved, about 2 minutes left; proving histwatch since ??:??:??" histwatch
 touch -- "$root/crates.txt"
-builds crates.txt 0 "$building, all 5 crates, which takes about [1-9]* minutes; see *" "${all[@]}"
+builds crates.txt 0 "$building, all 5 crates, which takes about [1-9]* minutes; see $left/log$first"$'\n*' "${all[@]}"
 touch -- "$root/crates.txt"
-builds "crates.txt again" 0 "$building, all 5 crates, which took 0:0? minutes the last time; see *" "${all[@]}"
+builds "crates.txt again" 0 "$building, all 5 crates, which took 0:0? minutes the last time; see $left/log
+build: 0 of *" "${all[@]}"
 echo two >"$folder/KIT-ID"
 builds "another kit" 0 ""
 touch -- "$root/crates/ft_low/src/lib.rt"
@@ -142,7 +149,7 @@ echo ft_desk >"$folder/faulty"
 touch -- "$root/crates/ft_low/src/lib.rt"
 builds "a fault" 2 $'build: building *\nnot so\nbuild: not built: ft_desk is not proved' ft_desk ft_low
 rm -- "$folder/faulty"
-builds "after a fault" 0 "$building, 4 of 5 crates; see *" "${above[@]}"
+builds "after a fault" 0 "$building, 4 of 5 crates, *" "${above[@]}"
 touch -- "$root/crates/ft_low/src/lib.rt"
 : >"$folder/slow"
 ends TERM
@@ -171,12 +178,26 @@ else
 fi
 has "a second build" "$folder/second" 'build: waits for another build to end' 'build: building histdesk, all 3 crates, .*'
 eventually "it is removed" test -z "$(find "$left" -name 'build.*')"
-# The longest chain of crates is built first.
+# The longest chain of crates is built first. On one processor, the crates take the sum of their times; what stands in for the
+# prover takes almost no time, but the build expects at least half of that for the rest.
 : >"$folder/proved"
 touch -- "$root/crates.txt"
-gives "one processor" 0 "*" taskset -c "$(taskset -cp $$ | sed 's/.*: \([0-9]*\).*/\1/')" "$root/build/build"
+rm -- "$left"/took.*
+gives "one processor" 0 "$building, all 5 crates, which takes about 13 minutes; see $left/log$first
+build: 0 of 5 crates proved, about 13 minutes left; proving ft_low since ??:??:??
+build: 1 of 5 crates proved, about 4 minutes left; proving ft_desk since ??:??:??
+build: 2 of 5 crates proved, about 3 minutes left; proving ft_c since ??:??:??
+build: 3 of 5 crates proved, about 1 minute left; proving histwatch since ??:??:??
+build: 4 of 5 crates proved, less than a minute left; proving histdesk since ??:??:??" \
+    taskset -c "$(taskset -cp $$ | sed 's/.*: \([0-9]*\).*/\1/')" "$root/build/build"
 tr '\n' ' ' <"$folder/proved" >"$folder/out"
 prints "one processor" "ft_low ft_desk ft_c histwatch histdesk "
+# On a terminal, one line says how far the build is, and never wraps.
+touch -- "$root/crates/histwatch/src/lib.rt"
+gives "a terminal" 0 "" script -qec "stty cols 40; '$root/build/build' histwatch" /dev/null
+tr '\r' '\n' <"$folder/out" | sed -n 's/^.\[K\(build\)/\1/p' >"$folder/err"
+mv -- "$folder/err" "$folder/out"
+prints "a terminal" 'build: 2 of 3 crates proved, about 2 mi'
 rm -- "$folder/bin/rt"
 touch -- "$root/crates.txt"
 PATH=/usr/bin:/bin gives "no kit" 2 "build: needs the Rattle kit's rt on the PATH to build" "$root/build/build"

@@ -1,4 +1,4 @@
-"""Counts the things that hold, for tests of the converters."""
+"""Counts the things that hold, for tests of the converters and of the build."""
 
 import sys
 from typing import Any, NoReturn
