@@ -33,13 +33,7 @@ class Pair(NamedTuple):
 
 
 class Sources:
-    """The sources of a crate, and where their functions are.
-
-    Parameters
-    ----------
-    home
-        The folder of the crate.
-    """
+    """The sources of the crate that has this folder, and where their functions are."""
 
     def __init__(self, home: Path) -> None:
         files = sorted((home / "src").rglob("*.rt"))
@@ -178,12 +172,9 @@ def key_of(crate: str, below: graph.Below, kit_name: str) -> str:
     crates below it."""
     told = hashlib.sha256(kit_name.encode())
     scripts = sorted((graph.ROOT / "build").glob("*.py"))
+    folders = [graph.ROOT / "crates" / name for name in graph.in_order([crate], below)]
     parts = [
-        path
-        for name in graph.in_order([crate], below)
-        for part in ("src", "specs", "proofs")
-        for path in sorted((graph.ROOT / "crates" / name / part).rglob("*"))
-        if path.is_file()
+        path for folder in folders for part in ("src", "specs", "proofs") for path in sorted((folder / part).rglob("*.*t"))
     ]
     for path in [*scripts, *graph.edits_of(crate), *parts]:
         content = path.read_bytes()

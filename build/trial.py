@@ -162,7 +162,7 @@ class Trial:
         found = re.search(r"^fn (.*: (?:not proved; it stands on|no proof: expected answers).*)", said, re.MULTILINE)
         if found:
             return Verdict(edit, True, found[1])
-        return Verdict(edit, False, "it is still proved" if "logic=proved" in said else ended_early(said))
+        return Verdict(edit, False, "it is proved" if "logic=proved" in said else ended_early(said))
 
     def check(self, copies: list[Edit], in_place: list[Edit], only: list[str]) -> str:
         """Return what a check of these functions prints, or of all if there are none."""
@@ -231,9 +231,10 @@ class Trial:
             found = re.findall(rf"^fn {self.crate}::(?:\S+::)?{path}: (.*)$", said, re.MULTILINE)
             texts += found or [ended_early(said)]
             goals += open_goals(path.replace("::", "."), said, found)
+        if all(is_proved(text, edit.copy_name) for text in texts):
+            return Verdict(edit, self.is_control, "it is proved")
         if self.is_control:
-            is_right = all(is_proved(text, edit.copy_name) for text in texts)
-            return Verdict(edit, is_right, "; ".join(texts))
+            return Verdict(edit, False, "; ".join(texts))
         return Verdict(edit, bool(goals), ", ".join(goals) or "; ".join(texts))
 
 

@@ -167,10 +167,10 @@ class Tried(NamedTuple):
 
 EDITS = [
     Tried("adds_two", "lib", [("    x + 1", "    x + 2")], ""),
-    Tried("adds_one_from_the_left", "lib", [("    x + 1", "    1 + x")], "proved"),
+    Tried("adds_one_from_the_left", "lib", [("    x + 1", "    1 + x")], "it is proved"),
     Tried("counts_two", "steps", [("self.count + 1;", "self.count + 2;")], ""),
-    Tried("counts_one_from_the_left", "steps", [("self.count + 1;", "1 + self.count;")], "proved"),
-    Tried("steps_once", "lib", [("    one_more(once)", "    once")], ""),
+    Tried("counts_one_from_the_left", "steps", [("self.count + 1;", "1 + self.count;")], "it is proved"),
+    Tried("steps_once", "lib", [("    one_more(once)", "    { let _twice = one_more(once); once }")], ""),
     Tried("name_is_gone", "lib", [("let once =", "let first ="), ("one_more(once)", "one_more(first)")], "not proved"),
     Tried(
         "loop_of_which_nothing_is_known",
@@ -179,9 +179,9 @@ EDITS = [
         "no proof",
     ),
     Tried("raises_too_far", "lib", [("        100", "        101")], ""),
-    Tried("raises_in_two", "lib", [("        100", "        50 + 50")], "proved"),
+    Tried("raises_in_two", "lib", [("        100", "        50 + 50")], "it is proved"),
     Tried("longer_step", "lib", [("STEP: u32 = 5", "STEP: u32 = 6")], ""),
-    Tried("step_in_two", "lib", [("STEP: u32 = 5", "STEP: u32 = 2 + 3")], "it is still proved"),
+    Tried("step_in_two", "lib", [("STEP: u32 = 5", "STEP: u32 = 2 + 3")], "it is proved"),
 ]
 # Edits that can't be applied, and what is said of them.
 BAD = {
@@ -246,6 +246,7 @@ def of_crate(root: Path) -> Told:
     ran = run(root, "--control")
     is_said = "low/adds_one_from_the_left.edit: NOT PROVED: no" in ran.stdout and ran.returncode == 1
     yield f"a control that is not proved: {ran.stdout}", is_said
+    (root / "crates" / "low" / "src" / "lib.rt").write_text(LIB)
 
 
 def of_bad_edits(root: Path) -> Told:
