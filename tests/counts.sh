@@ -6,6 +6,9 @@ limit=120
 passed=0
 failed=0
 skipped=0
+# A test that takes as many seconds is named at the end.
+long=30
+slow=()
 
 folder=$(mktemp -d)
 trap 'rm -rf -- "$folder"' EXIT
@@ -26,10 +29,20 @@ skip() {
 }
 
 # part NAME COMMAND..: runs a test whose last line has counts, such as `7 passed, 0 failed, 1 skipped` or `7 of 7 rows hold`. If
-# something has failed, all that it prints is printed, otherwise only what was skipped.
+# something has failed, all that it prints is printed, otherwise only what was skipped or slow.
 part() {
-    local name=$1 said last left good=0 bad=1
+    local begun=$SECONDS said
     said=$("${@:2}" 2>&1 </dev/null)
+    count "$1" $((SECONDS - begun)) "$said"
+}
+
+# count NAME SECONDS TEXT: counts what such a test printed, which took so long.
+count() {
+    local name=$1 said=$3 last left good=0 bad=1
+    (($2 < long)) || slow+=("slow: $1, $2 s")
+    while read -r last; do
+        slow+=("${last/#slow: /slow: $1, }")
+    done < <(grep '^slow: ' <<<"$said")
     last=${said##*$'\n'}
     left=$(grep -E '(^|: )(not tried|[0-9]+ skipped): ' <<<"$said")
     if [[ $last =~ ^([0-9]+)' passed, '([0-9]+)' failed'(', '([0-9]+)' skipped')?$ ]]; then
@@ -80,7 +93,11 @@ print(count - wrong - skipped, wrong, skipped)' "$report" 2>/dev/null)
 # beside NAME COMMAND..: starts a test of that kind, which runs beside those that come after it.
 names=()
 beside() {
-    "${@:2}" >"$folder/beside.${#names[@]}" 2>&1 </dev/null &
+    local begun=$SECONDS to=$folder/beside.${#names[@]}
+    {
+        "${@:2}" >"$to" 2>&1 </dev/null
+        echo $((SECONDS - begun)) >"$to.seconds"
+    } &
     names+=("$1")
 }
 
@@ -89,7 +106,7 @@ gather() {
     local at
     wait
     for at in "${!names[@]}"; do
-        part "${names[at]}" cat -- "$folder/beside.$at"
+        count "${names[at]}" "$(<"$folder/beside.$at.seconds")" "$(<"$folder/beside.$at")"
     done
     names=()
 }
@@ -101,6 +118,7 @@ holds() {
 
 # Prints the last line, with the counts, and ends the script, with status 0 if nothing has failed.
 finish() {
+    ((${#slow[@]} == 0)) || printf '%s\n' "${slow[@]}"
     printf '%d passed, %d failed' "$passed" "$failed"
     if ((skipped > 0)); then
         printf ', %d skipped' "$skipped"
