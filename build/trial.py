@@ -159,10 +159,10 @@ class Trial:
     def judge_alone(self, edit: Edit) -> Verdict:
         """Try an edit in a check of the whole crate, and return the verdict: any function may refuse it."""
         said = self.check([], [edit], [])
-        found = re.search(r"^fn (.*: (?:not proved; it stands on|no proof: expected answers).*)", said, re.MULTILINE)
-        if found:
-            return Verdict(edit, True, found[1])
-        return Verdict(edit, False, "it is proved" if "logic=proved" in said else ended_early(said))
+        found = re.findall(rf"^fn {self.crate}::(\S+): (.*)$", said, re.MULTILINE)
+        goals = [f"{path}: {goal}" for path, line in found for goal in open_goals(path.replace("::", "."), said, [line])]
+        why = "it is proved" if "logic=proved" in said else "; ".join(line for _, line in found) or ended_early(said)
+        return Verdict(edit, bool(goals), ", ".join(goals) or why)
 
     def check(self, copies: list[Edit], in_place: list[Edit], only: list[str]) -> str:
         """Return what a check of these functions prints, or of all if there are none."""
@@ -242,10 +242,11 @@ def open_goals(path: str, said: str, lines: list[str]) -> list[str]:
     """Return the goals of a function that are not proved, by these lines of a check. There are none if its proof files only
     mention names that an edit has removed, since that shows nothing."""
     goals: list[str] = []
+    path = re.escape(path)
     for line in lines:
         goals += re.findall(rf"it stands on `Rattle\.\w+\.proofs\.(?:\S+\.)?{path}\.\w+\.([^`]+)`", line)
-        goals += re.findall(r"`search` did not prove (.*)", line)
-    folder = path.replace(".", "/")
+        goals += re.findall(r"`search` did not prove ([^;]*)", line)
+    folder = path.replace(r"\.", "/")
     errors = [line for line in said.split("\n") if re.match(rf"\./proofs/(\S+/)?{folder}/\S+ error", line)]
     return [] if errors and all(IS_GONE.search(line) for line in errors) else goals
 
