@@ -11,7 +11,7 @@ use Rattle.std.specs.List.{prefix_len, list_all, starts_with}
 use Rattle.std.specs.Str.Parse.{digits_value}
 use Rattle.ft_text.specs.Tokens.{is_in_name, is_decimal, is_hexadecimal, number_of, word_len, number_at}
 use Rattle.ft_filter.specs.Numbers.{IsDecimal, IsHexadecimal, Writes, plain, negative, hexadecimal, IsWord, IsNumber}
-use Rattle.ft_event.proofs.Runs.{run_len, run_splits, label_joined}
+use Rattle.ft_text.proofs.Runs.{run_len, run_splits, label_joined}
 
 -- ---- forms
 

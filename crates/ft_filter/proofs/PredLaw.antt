@@ -7,7 +7,7 @@ use Rattle.std.specs.Int.{w64}
 use Rattle.ft_fields.specs.declared.event.Name.{Name}
 use Rattle.ft_fields.specs.declared.field.Field.{Field}
 use Rattle.ft_fields.specs.Fields.{is_field_named, all_fields, is_text}
-use Rattle.ft_event.specs.LineIs.{Where, WhereCut}
+use Rattle.ft_text.specs.Cuts.{Where, WhereCut}
 use Rattle.ft_text.specs.Ranged.{fits_i64}
 use Rattle.ft_text.specs.Tokens.{skip, name_at, is_quote, quoted_at, number_at}
 use Rattle.ft_filter.specs.declared.fault.FilterFault.{FilterFault}

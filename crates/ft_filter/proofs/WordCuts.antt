@@ -14,7 +14,7 @@ use Rattle.ft_fields.specs.declared.field.Field.{Field}
 use Rattle.ft_fields.specs.Fields.{field_text, is_field_named, all_fields, has_field}
 use Rattle.ft_fields.proofs.FieldTable.{field_found}
 use Rattle.ft_text.proofs.Spellings.{find_passes}
-use Rattle.ft_event.proofs.Runs.{IsRun, run_len, run_splits, label_joined}
+use Rattle.ft_text.proofs.Runs.{IsRun, run_len, run_splits, label_joined}
 use Rattle.ft_text.specs.Tokens.{is_gap, skip, begins_name, is_in_name, name_at, is_quote, cut_at, quoted_at}
 use Rattle.ft_filter.specs.declared.tree.Op.{Op}
 use Rattle.ft_filter.specs.declared.tree.Op.TheVariants as ops

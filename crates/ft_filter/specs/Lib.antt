@@ -12,7 +12,7 @@ pub mod Canonical
 pub mod Shape
 pub mod inner
 pub use Rattle.ft_fields.specs.Fields
-pub use Rattle.ft_event.specs.LineIs
+pub use Rattle.ft_text.specs.Cuts
 pub use Rattle.ft_fields.specs.Traced
 pub use Rattle.ft_text.specs.Glob
 pub use Rattle.ft_text.specs.Matching

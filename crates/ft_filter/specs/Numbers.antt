@@ -3,7 +3,7 @@ use Rattle.std.specs.Prelude.{◌≡◌, ◌≢◌, ◌⊎◌, ◌<◌, ◌≤�
 use Rattle.std.specs.Char.{is_ascii_digit, is_ascii_hexdigit}
 use Rattle.std.specs.List.{list_all}
 use Rattle.std.specs.Str.Parse.{digits_value}
-use Rattle.ft_event.specs.LineIs.{Stops}
+use Rattle.ft_text.specs.Cuts.{Stops}
 use Rattle.ft_text.specs.Tokens.{is_in_name}
 
 -- decimal digits: `0` alone, or a digit from 1 to 9 and then any digits (our own choice: the kernel reads a zero in front as octal)

@@ -5,7 +5,7 @@ use Rattle.std.specs.List.{list_all}
 use Rattle.ft_fields.specs.declared.event.Name.{Name}
 use Rattle.ft_fields.specs.declared.field.Field.{Field}
 use Rattle.ft_fields.specs.Fields.{field_text, has_field, is_text}
-use Rattle.ft_event.specs.LineIs.{Where, WhereCut, Stops}
+use Rattle.ft_text.specs.Cuts.{Where, WhereCut, Stops}
 use Rattle.ft_text.specs.Tokens.{is_gap, begins_name, is_in_name}
 use Rattle.ft_filter.specs.declared.fault.FilterFault.TheVariants.{Syntax, NoField, WrongKind, BadGlob, NumberRange}
 use Rattle.ft_filter.specs.declared.tree.Op.{Op}

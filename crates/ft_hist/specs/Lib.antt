@@ -9,7 +9,6 @@ pub mod Matching
 pub mod Modifiers
 pub mod Powers
 pub mod Sound
-pub mod Steps
 pub mod Tests
 pub mod TriggerFault
 pub mod Triggers
@@ -22,3 +21,4 @@ pub use Rattle.ft_filter.specs.Holds
 pub use Rattle.ft_fields.specs.Orders
 pub use Rattle.ft_fields.specs.Parts
 pub use Rattle.ft_fields.specs.Ties
+pub use Rattle.ft_maps.specs.Steps

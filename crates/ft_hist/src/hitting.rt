@@ -9,9 +9,9 @@ ghost use Rattle.ft_hist.specs.Tests.{tests_taken};
 
 use crate::item::KeyItem;
 use crate::trigger::Trigger;
-use crate::work::Work;
 use ft_fields::{Event, Key, Name, Part};
 use ft_filter::Filter;
+use ft_maps::Work;
 
 impl Trigger {
     /// The key that it counts the event under, or `None` if the event is no hit: it is not the

@@ -9,7 +9,7 @@
 //! modifiers. Attached triggers stand by id.
 //!
 //! The crate `ft_fields` below says what a key is; its `Key`, `Part` and laws `one_key_order` and
-//! `equal_keys` are passed on.
+//! `equal_keys` are passed on, and so is `Work` of `ft_maps`, which counts steps.
 //!
 //! ```ignore
 //! let parts = TriggerParts { keys, values, sort, variable, size: 2048 };
@@ -62,8 +62,6 @@
 //! - `Triggers`: contracts see a finite map from ids to triggers (`specs/Triggers.antt`). `new`,
 //!   `len`, `get`, `iter`, `remove`, `set_filter`: exact. `insert` puts a trigger at an id, or leaves
 //!   the map as it was. It lets through: running out of memory at any time.
-//! - `Work`: two counters that only contracts see (`specs/Steps.antt`). Lets through: a tick for
-//!   anything. No clause says what a step is.
 //! - Law `powers`: `.log2` gives the least n for which 2 to the n is not below the value.
 //! - Law `multiples`: `.buckets` gives the greatest multiple that is not above the value.
 //! - Law `fitting_parts`: the key of a hit has a part of its kind for each key item.
@@ -83,11 +81,11 @@ mod onmatch;
 mod trigger;
 mod triggers;
 mod values;
-mod work;
 mod writing;
 
 pub use fault::TriggerFault;
 pub use ft_fields::{Key, Part};
+pub use ft_maps::Work;
 pub use item::{Item, KeyItem, SortBy, SortItem};
 pub use label::{Label, Var};
 pub use laws::{
@@ -97,4 +95,3 @@ pub use modifier::{Mode, mode_named};
 pub use onmatch::Onmatch;
 pub use trigger::{Trigger, TriggerParts};
 pub use triggers::Triggers;
-pub use work::Work;

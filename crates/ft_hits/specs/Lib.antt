@@ -5,6 +5,6 @@ pub mod Marks
 pub mod Spots
 pub mod inner
 pub use Rattle.ft_fields.specs.Places
-pub use Rattle.ft_hist.specs.Steps
+pub use Rattle.ft_maps.specs.Steps
 pub use Rattle.ft_fields.specs.Parts
 pub use Rattle.ft_maps.specs.Seen

@@ -19,7 +19,7 @@ use crate::hit::Hit;
 use crate::mark::Mark;
 use crate::series::{Series, added, is_after};
 use crate::spot::Spot;
-use ft_hist::Key;
+use ft_fields::Key;
 use ft_maps::take;
 use std::alloc::{AllocError, Global};
 use std::collections::BTreeMap;

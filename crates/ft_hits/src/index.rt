@@ -14,7 +14,7 @@ use crate::entry::{
 use crate::hit::Hit;
 use crate::mark::Mark;
 use crate::spot::Spot;
-use ft_hist::Key;
+use ft_fields::Key;
 use ft_maps::put;
 use std::alloc::{AllocError, Global};
 use std::collections::BTreeMap;

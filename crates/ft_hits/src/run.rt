@@ -3,7 +3,7 @@
 ghost use Rattle.std.specs.Prelude.{◌≡◌, ◌+◌, length};
 
 use crate::spot::Spot;
-use ft_hist::Work;
+use ft_maps::Work;
 
 /// Counts a put for each hit of a run. At run time it is nothing.
 pub fn count_puts(run: &[(Spot, [i64; 3])], work: &mut Work)

@@ -5,7 +5,8 @@
 //! numbers, and for structs of numbers with a derived order, a caller's check finds that by itself.
 //!
 //! A count is a number of any size, which begins at 0 and is raised by one. At run time it is
-//! nothing, so that counting calls or steps costs nothing.
+//! nothing, so that counting calls or steps costs nothing. `Work` is two counts of steps: tests of
+//! events against triggers, and puts into maps.
 //!
 //! ```ignore
 //! let mut map: BTreeMap<u32, u64> = BTreeMap::new(rt.alloc());
@@ -33,9 +34,12 @@
 //!   exact. `put` and `take` require an order in which keys that tie are equal. A refused `put`
 //!   leaves the map as it was. `put` lets through: running out of memory at any time.
 //! - `Count::zero`, `Count::raise`: 0, and one more than before; exact.
+//! - `Work::new`, `tick_eval`, `tick_put`: no steps yet, and one more of either kind
+//!   (`specs/Steps.antt`); exact. Lets through: a tick for anything. No clause says what a step is.
 #![tactic(auto)]
 
 mod count;
+mod work;
 
 ghost use Rattle.std.specs.Prelude.{◌≡◌, ◌<◌, ◌^◌, length, OnOk, OnErr};
 ghost use Rattle.std.specs.Option.{option_copied};
@@ -48,6 +52,7 @@ pub use count::Count;
 use std::alloc::AllocError;
 use std::collections::BTreeMap;
 use std::collections::btree_map::Iter;
+pub use work::Work;
 
 /// Puts a value at a key, in place of what the key had. Refused for memory, and then the map is as
 /// it was.

@@ -10,4 +10,4 @@ pub mod Variables
 pub mod inner
 pub use Rattle.ft_fields.specs.Places
 pub use Rattle.ft_fields.specs.Parts
-pub use Rattle.ft_hist.specs.Steps
+pub use Rattle.ft_maps.specs.Steps

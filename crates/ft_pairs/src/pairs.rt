@@ -12,8 +12,8 @@ ghost use Rattle.ft_pairs.specs.Runs.{ops_listed, with_reads, FindEach};
 
 use crate::at::{At, Op};
 use crate::sequence::Sequence;
-use ft_hist::{Key, Work};
-use ft_maps::{put, take};
+use ft_fields::Key;
+use ft_maps::{Work, put, take};
 use std::alloc::{AllocError, Global};
 use std::collections::BTreeMap;
 use std::marker::Model;
@@ -43,7 +43,7 @@ impl Model for Pairs {
 }
 
 impl Pairs {
-    ghost use Rattle.ft_hist.specs.Steps.{StepsGrow};
+    ghost use Rattle.ft_maps.specs.Steps.{StepsGrow};
     ghost use Rattle.ft_pairs.specs.Next.{IsNext};
     ghost use Rattle.ft_pairs.specs.Source.{IsSource};
 

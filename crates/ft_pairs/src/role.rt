@@ -1,6 +1,6 @@
 //! What triggers do with variables.
 
-use ft_hist::Key;
+use ft_fields::Key;
 
 /// What a trigger does with a variable.
 #[derive(Clone, Copy, Debug, PartialEq, Eq)]

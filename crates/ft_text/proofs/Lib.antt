@@ -13,6 +13,7 @@ pub mod Deciding
 pub mod FirstMembers
 pub mod GlobMembers
 pub mod Readings
+pub mod Runs
 pub mod SameReading
 pub mod Stars
 pub mod Tries

@@ -2,6 +2,7 @@ pub mod Digits
 pub mod Fronts
 pub mod Tokens
 pub mod Ranged
+pub mod Cuts
 pub mod inner
 pub mod Items
 pub mod Lines

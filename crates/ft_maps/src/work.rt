@@ -2,7 +2,7 @@
 
 ghost use Rattle.std.specs.Prelude.{◌≡◌, ◌+◌};
 
-use ft_maps::Count;
+use crate::count::Count;
 use std::marker::Model;
 
 /// Two counts of steps: how often an event was tested against a trigger, and how often something
@@ -16,7 +16,7 @@ pub struct Work {
 }
 
 impl Model for Work {
-    ghost use Rattle.ft_hist.specs.Steps.{Steps};
+    ghost use Rattle.ft_maps.specs.Steps.{Steps};
 
     ghost Value = { Steps };
 
@@ -36,7 +36,7 @@ impl Work {
     }
 
     /// Counts one test of an event against a trigger.
-    pub(crate) fn tick_eval(&mut self)
+    pub fn tick_eval(&mut self)
         ensures evals { self.new.evals ≡ self.old.evals + 1 }
         ensures puts { self.new.puts ≡ self.old.puts }
     {
