@@ -6,6 +6,7 @@ pub mod After
 pub mod Answers
 pub mod Edited
 pub mod OneTrigger
+pub mod PlainHits
 pub mod Reachable
 pub use Rattle.ft_fields.specs.Traced
 pub use Rattle.ft_filter.specs.Tree

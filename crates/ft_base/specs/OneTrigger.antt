@@ -5,7 +5,11 @@ use Rattle.ft_hist.specs.Hist.{Hist}
 use Rattle.ft_pairs.specs.declared.role.Role.{Role}
 use Rattle.ft_pairs.specs.declared.role.Role.TheVariants.{Plain, Saves, Reads}
 use Rattle.ft_base.specs.Base.{Triggers, Base}
-use Rattle.ft_base.specs.Roles.{role_at}
+use Rattle.ft_base.specs.Roles.{is_reader, role_at}
+
+-- the trigger with an id, if there is one, reads no variable (kernel: histogram.rst, inter-event hist triggers)
+abbrev pub ReadsNothing : Triggers → ℕ → Type 0
+ReadsNothing triggers id = (hist : Hist) → map.get triggers id ≡ Some hist → is_reader hist.variable ≡ false
 
 -- no trigger reads what this one saves, and without it the others do with their variables what they do with it (kernel: histogram.rst, inter-event hist triggers)
 pub record IsUnread (triggers : Triggers) (id : ℕ) : Type 0 where

@@ -32,7 +32,7 @@ use Rattle.ft_repair.specs.inner.Joining.{CanMove, own_after, own_before, is_one
 use Rattle.ft_repair.proofs.Alike.{never_any}
 use Rattle.ft_repair.proofs.Changing.{IsChanging, changing_all, none_left, next_of, Changes, changing_none}
 use Rattle.ft_repair.proofs.KeptFor.{act_in, acts_held, AllHeld, held_is, merged_held, no_hit, acts_alike, for_kept, kept_for, plain_shelf}
-use Rattle.ft_answers.specs.Deferral.{IsPlainLane}
+use Rattle.ft_base.specs.PlainHits.{IsPlainLane}
 use Rattle.ft_base.specs.Base.{Base, Triggers}
 use Rattle.ft_base.specs.Reachable.{HasSavers}
 use Rattle.ft_fields.specs.Places.{pos_cmp, pos_cmp_total, pos_same}

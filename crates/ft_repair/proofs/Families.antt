@@ -7,9 +7,8 @@ use Rattle.ft_hist.specs.declared.label.Var.TheVariants as vars
 use Rattle.ft_base.specs.Reachable.{HasSaver, HasSavers}
 use Rattle.ft_base.specs.Roles.{saves_name, is_reader, role_at, role_of}
 use Rattle.ft_repair.specs.inner.Joining.{is_meant, family_of}
-use Rattle.ft_answers.specs.Deferral.{ReadsNothing}
 use Rattle.ft_base.specs.Base.{Triggers}
-use Rattle.ft_base.specs.OneTrigger.{is_in_family, reads_from}
+use Rattle.ft_base.specs.OneTrigger.{ReadsNothing, is_in_family, reads_from}
 use Rattle.ft_hist.specs.Hist.{Hist}
 use Rattle.ft_pairs.specs.declared.role.Role.{Role}
 use Rattle.ft_pairs.specs.declared.role.Role.TheVariants.{Plain, Reads, Saves}

@@ -8,8 +8,8 @@ use Rattle.ft_kept.specs.Bounds.{SomeSaverMoves}
 use Rattle.ft_kept.specs.Memory as memory
 use Rattle.ft_kept.specs.Signs.{table_edit, NeedsNoMemory, event_after, event_before}
 use Rattle.ft_kept.specs.Views.{AreViewsOf, act_under, with_event}
-use Rattle.ft_answers.specs.Costs.{SaversStay}
-use Rattle.ft_answers.specs.Deferral.{IsNoHit, IsPlainHit}
+use Rattle.ft_replay.specs.Costs.{SaversStay}
+use Rattle.ft_base.specs.PlainHits.{IsPlainHit}
 use Rattle.ft_repair.specs.OneEvent.{AreKeptBefore, AreKeptAfter, ChangeCosts, EventNeedsNoMemory, events_before, events_after}
 use Rattle.std.specs.List.{IsDistinct}
 use Rattle.ft_repair.proofs.Changing.{changing_fewer}
@@ -38,7 +38,7 @@ use Rattle.ft_fields.specs.Traced.{Traced}
 use Rattle.ft_fields.specs.declared.key.Part.{Part}
 use Rattle.ft_fields.specs.declared.pos.Pos.{Pos}
 use Rattle.ft_hist.specs.Hist.{Hist}
-use Rattle.ft_hist.specs.Hit.{hit}
+use Rattle.ft_hist.specs.Hit.{hit, IsNoHit}
 use Rattle.ft_kept.specs.Acts.{acts_of}
 use Rattle.ft_kept.specs.Entries.{IsEntry, one_hit}
 use Rattle.ft_kept.specs.Input.{input_of}

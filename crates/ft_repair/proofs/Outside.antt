@@ -3,13 +3,12 @@ use Rattle.std.proofs.Common.{◌≡◌, ℕ, Bool, true, false, true≢false, L
 use Rattle.std.specs.Prelude.{if◌then◌else◌, option_and_then}
 use Rattle.std.specs.FinMap as map
 use Rattle.ft_pairs.specs.ByKey.{ops_of}
-use Rattle.ft_base.specs.OneTrigger.{IsUnread, JoinsAs, is_in_family}
+use Rattle.ft_base.specs.OneTrigger.{IsUnread, JoinsAs, ReadsNothing, is_in_family}
 use Rattle.ft_repair.specs.ButOneTrigger.{AreKeptBut, AwaitFilter, OtherShelvesStay}
 use Rattle.ft_repair.specs.inner.Joining.{CanLeave, is_one, with_acts}
 use Rattle.ft_repair.proofs.Alike.{rest, acts_same, rest_same, rest_none, rest_no_act, same_ops, op_same, no_act_of, no_op_there, no_op_of, right_moves, right_none, shelf_same}
 use Rattle.ft_repair.proofs.Families.{closed, inside_is, nothing_read, outside_apart}
 use Rattle.ft_repair.proofs.KeptFor.{for_right, HaveShelves, input_is, kept_for, kept_of, merged_held, right_for}
-use Rattle.ft_answers.specs.Deferral.{ReadsNothing}
 use Rattle.ft_base.specs.Base.{Base, Triggers}
 use Rattle.ft_base.specs.Reachable.{HasSavers}
 use Rattle.ft_base.specs.Roles.{role_at}

@@ -9,7 +9,7 @@ use Rattle.std.proofs.lemmas.Map.Keys.{sorted_tail}
 use Rattle.ft_hist.specs.Tests.{tests_taken}
 use Rattle.ft_maps.specs.Entries.{get-insert_other, get-insert_same, strictly_sorted}
 use Rattle.ft_base.proofs.Apart.{entries_found}
-use Rattle.ft_answers.specs.Costs.{named_in}
+use Rattle.ft_replay.specs.Costs.{named_in}
 use Rattle.ft_repair.proofs.Alike.{no_act_of}
 use Rattle.ft_repair.proofs.KeptFor.{input_is, told_for, held_is, shelves_stay}
 use Rattle.ft_repair.proofs.EventLists.{own_events, all_of_them, IsAmong, act_by, among_all, all_acts_held, on_held, own_acts}

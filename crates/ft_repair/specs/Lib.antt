@@ -12,5 +12,5 @@ pub use Rattle.ft_kept.specs.Shelves
 pub use Rattle.ft_kept.specs.Changes
 pub use Rattle.ft_base.specs.OneTrigger
 pub use Rattle.ft_base.specs.Base
-pub use Rattle.ft_answers.specs.Costs
-pub use Rattle.ft_answers.specs.Deferral
+pub use Rattle.ft_replay.specs.Costs
+pub use Rattle.ft_base.specs.PlainHits

@@ -7,8 +7,9 @@ use Rattle.ft_kept.specs.Shelves.{Shelves}
 use Rattle.ft_shelves.specs.declared.sign.Sign.{Sign}
 use Rattle.ft_shelves.specs.declared.sign.Sign.TheVariants.{Insert, Retract}
 use Rattle.ft_base.specs.Base.{Base, Triggers}
-use Rattle.ft_answers.specs.Costs.{CostsOf}
-use Rattle.ft_answers.specs.Deferral.{IsNoHit, IsPlainHit}
+use Rattle.ft_replay.specs.Costs.{CostsOf}
+use Rattle.ft_hist.specs.Hit.{IsNoHit}
+use Rattle.ft_base.specs.PlainHits.{IsPlainHit}
 use Rattle.ft_replay.specs.Merged.{Events, merged}
 use Rattle.ft_repair.specs.KeptShelves.{AreKept}
 

@@ -8,6 +8,7 @@ pub mod Found
 pub mod Operations
 pub mod Elsewhere
 pub mod Counters
+pub mod Costs
 pub mod inner
 pub use Rattle.ft_base.specs.Base
 pub use Rattle.ft_base.specs.Roles

@@ -9,7 +9,7 @@ use Rattle.ft_repair.proofs.Changing.{next_of, next_views, next_held, next_befor
 use Rattle.ft_repair.proofs.EventLists.{IsGoing, placed, line_next, going_all, line_plain, events_none, no_lines, its_lines, count_events, counted}
 use Rattle.ft_kept.proofs.Told.{readings_same, readings_trans}
 use Rattle.ft_repair.proofs.Repaired.{if_there, there_if}
-use Rattle.ft_answers.specs.Costs.{count_on_lane}
+use Rattle.ft_replay.specs.Costs.{count_on_lane}
 use Rattle.ft_base.specs.Base.{Base, Triggers}
 use Rattle.ft_base.specs.Reachable.{HasSavers}
 use Rattle.ft_fields.specs.Traced.{Traced}

@@ -1,8 +1,8 @@
 use Rattle.std.proofs.Common.{◌≡◌, ◌+◌, ◌≤◌, Some}
 use Rattle.std.specs.FinMap as map
 use Rattle.ft_repair.proofs.EventLists.{IsGoing, count_events}
-use Rattle.ft_answers.specs.Costs.{count_on_lane}
-use Rattle.ft_answers.specs.Deferral.{IsPlainLane}
+use Rattle.ft_replay.specs.Costs.{count_on_lane}
+use Rattle.ft_base.specs.PlainHits.{IsPlainLane}
 use Rattle.ft_hist.specs.Steps.{StepsGrow}
 use Rattle.ft_kept.specs.Changes.{ReadingsTold}
 use Rattle.ft_kept.specs.Shelves.{FormsStay}

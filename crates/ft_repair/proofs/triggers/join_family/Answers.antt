@@ -3,7 +3,7 @@ use Rattle.std.specs.FinMap as map
 use Rattle.ft_repair.proofs.Families.{in_family}
 use Rattle.ft_repair.proofs.Putting.{IsPut, tests_in, next_put, put_none, put_skip, put_more, put_all, told_idle, idle_first, tests_next, own_listed}
 use Rattle.ft_repair.proofs.KeptFor.{for_kept}
-use Rattle.ft_answers.specs.Costs.{family_tests}
+use Rattle.ft_replay.specs.Costs.{family_tests}
 use Rattle.ft_base.specs.Base.{Triggers}
 use Rattle.ft_base.specs.OneTrigger.{is_in_family}
 use Rattle.ft_base.specs.Reachable.{HasSavers}

@@ -1,6 +1,6 @@
 use Rattle.std.proofs.Common.{◌+◌, ◌≤◌}
 use Rattle.ft_repair.proofs.Putting.{IsPut, tests_in}
-use Rattle.ft_answers.specs.Costs.{family_tests}
+use Rattle.ft_replay.specs.Costs.{family_tests}
 use Rattle.ft_base.specs.OneTrigger.{is_in_family}
 use Rattle.ft_hist.specs.Steps.{StepsGrow}
 use Rattle.ft_kept.specs.Views.{triggers_of}
