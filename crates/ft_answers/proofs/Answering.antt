@@ -19,7 +19,7 @@ use Rattle.ft_base.specs.Base.{Base}
 use Rattle.ft_answers.specs.Answers.{tally_at, tally_made, tally_shown, of_attached, latencies, latency_of, latencies_as, pairs_as, pairs_shown}
 use Rattle.ft_answers.specs.Edited.{AnswersFrom}
 use Rattle.ft_answers.specs.Shown.{Shown}
-use Rattle.ft_answers.specs.declared.latency.Latency.{Latency}
+use Rattle.ft_base.specs.declared.latency.Latency.{Latency}
 use Rattle.ft_hist.specs.Made.{counts_made}
 use Rattle.ft_replay.specs.Replay.{State, replay}
 use Rattle.ft_replay.specs.Counters.{Counting, Counters, tally_in, HasCounter, HaveCounters}

@@ -11,7 +11,7 @@ use Rattle.ft_table.specs.declared.row.Totals.{Totals}
 use Rattle.ft_table.specs.Counted.{Counted}
 use Rattle.ft_table.specs.Keyed.{KeyedText}
 use Rattle.ft_table.specs.Text.{heading, rows_text, row_text, keyed_text}
-use Rattle.ft_answers.specs.declared.latency.Latency.{Latency}
+use Rattle.ft_base.specs.declared.latency.Latency.{Latency}
 use Rattle.ft_base.specs.declared.refused.Place.{Place}
 use Rattle.ft_base.specs.declared.refused.Refused.{Refused}
 use Rattle.ft_base.specs.declared.refused.Refused.TheVariants.{NoTrigger, NotReading}

@@ -2,8 +2,7 @@
 
 use crate::done::Done;
 use crate::edited::Edited;
-use crate::latency::Latency;
-use ft_base::{Content, Refused};
+use ft_base::{Content, Latency, Refused};
 use ft_fields::{Event, Name};
 use ft_filter::Filter;
 use ft_hist::{Key, Trigger};

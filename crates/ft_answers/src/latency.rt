@@ -1,24 +1,12 @@
-//! Latencies: the time between a saving and its reading.
+//! Latencies of what readings found.
 
 ghost use Rattle.std.specs.Prelude.{◌≡◌, IfOk, map as list_map};
 ghost use Rattle.ft_answers.specs.Answers.{latency_of, line_at};
 
-use ft_base::Place;
+use ft_base::{Latency, Place};
 use ft_fields::Pos;
 use ft_replay::Pair;
 use std::alloc::{AllocError, Global};
-
-/// What a reading trigger measured: the line whose stamp was saved, the line that read it, and the
-/// time between them.
-#[derive(Clone, Copy, Debug, PartialEq, Eq)]
-pub struct Latency {
-    /// The line of the event that saved.
-    pub saved: Place,
-    /// The line of the event that read.
-    pub read: Place,
-    /// The microseconds from the saving to the reading.
-    pub micros: u64,
-}
 
 /// What readings found, as latencies, in the same order. Refused for memory.
 pub fn latencies_of(alloc: Global, pairs: &[Pair]) -> Result<Vec<Latency>, AllocError>

@@ -122,13 +122,14 @@ pub use board::Board;
 pub use done::{Done, Kept};
 pub use edited::Edited;
 pub use ft_base::{
-    AttachedTrigger, Content, Place, Refused, is_reader, one_saver, reachable_bases, role_of,
+    AttachedTrigger, Content, Latency, Place, Refused, is_reader, one_saver, reachable_bases,
+    role_of,
 };
 pub use ft_changes::Changed;
 pub use ft_replay::Pair;
 pub use ft_table::{Row, TableRow};
 pub use in_lane::lane_places;
 pub use in_order::{matching_places, places};
-pub use latency::{Latency, latencies_of, latency_of};
+pub use latency::{latencies_of, latency_of};
 pub use plain::{PlainBoard, plain_board_keeps_none};
 pub use tables::{rows_make_the_text, table_row_text, table_row_texts, table_rows, table_text};

@@ -8,8 +8,8 @@ use crate::answers::{
 use crate::board::Board;
 use crate::done::{Done, Kept};
 use crate::edited::Edited;
-use crate::latency::{Latency, latencies_of};
-use ft_base::{Content, Place, Refused};
+use crate::latency::latencies_of;
+use ft_base::{Content, Latency, Place, Refused};
 use ft_fields::{Event, Name};
 use ft_filter::Filter;
 use ft_hist::{Key, Trigger, Work};

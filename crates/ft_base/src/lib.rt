@@ -29,6 +29,7 @@
 //! - `Content::list`, `name_of`, `attached_triggers`, `trigger_text`, and `find_trigger`,
 //!   `role_of`, `is_reader`, `Refused::number`: exact. `list`, `attached_triggers` and
 //!   `trigger_text` let through: running out of memory at any time.
+//! - `Place`, `Latency`: plain fields, for answers that name lines and measure the time between them.
 //! - Law `reachable_bases`: `IsReachable` (`specs/Reachable.antt`: limits, line numbers below the
 //!   lane's next one, one saver of a name, a saver with matching keys for each reader) holds of the
 //!   empty base, and each edit keeps it. Both boards have it as their invariant.
@@ -39,12 +40,14 @@
 
 mod attach;
 mod content;
+mod latency;
 pub mod laws;
 mod listed;
 mod refused;
 mod roles;
 
 pub use content::Content;
+pub use latency::Latency;
 pub use laws::{last_numbers, one_saver, reachable_bases};
 pub use listed::AttachedTrigger;
 pub use refused::{Place, Refused};

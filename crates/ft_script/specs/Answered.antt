@@ -3,7 +3,7 @@ use Rattle.std.specs.Prelude.{ℕ, List, ◌++◌, length, codes, decimal}
 use Rattle.std.specs.List.{flat_map}
 use Rattle.ft_table.specs.declared.row.Totals.{Totals}
 use Rattle.ft_base.specs.declared.refused.Place.{Place}
-use Rattle.ft_answers.specs.declared.latency.Latency.{Latency}
+use Rattle.ft_base.specs.declared.latency.Latency.{Latency}
 
 -- the line of totals
 unfoldable pub totals_line : Totals → List ℕ

@@ -2,11 +2,11 @@
 
 ghost use Rattle.std.specs.Prelude.{◌≡◌, ℕ, List, ◌++◌, IfOk, OnOk};
 ghost use Rattle.ft_table.specs.declared.row.Totals.{Totals};
-ghost use Rattle.ft_answers.specs.declared.latency.Latency.{Latency};
+ghost use Rattle.ft_base.specs.declared.latency.Latency.{Latency};
 ghost use Rattle.ft_script.specs.Answered.{totals_line, latency_line, latency_lines};
 
 use crate::numbers::{add, add_numbered};
-use ft_answers::Latency;
+use ft_base::Latency;
 use ft_table::Totals;
 use std::alloc::{AllocError, Global};
 

@@ -1,6 +1,6 @@
 use Rattle.std.proofs.Common.{◌≡◌, ◌∙◌, List, Result, Ok, sym, ap}
 use Rattle.std.proofs.lemmas.Result.{err_from_is_err_and}
-use Rattle.ft_answers.specs.declared.latency.Latency.{Latency}
+use Rattle.ft_base.specs.declared.latency.Latency.{Latency}
 use Rattle.ft_replay.specs.declared.pair.Pair.{Pair}
 use Rattle.ft_base.specs.declared.refused.Refused.{Refused}
 use Rattle.ft_answers.specs.Answers.{latencies}
