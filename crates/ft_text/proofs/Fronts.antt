@@ -1,5 +1,7 @@
 -- Texts that begin with an older one, through several steps.
-use Rattle.std.proofs.Common.{◌≡◌, List, ℕ, ◌++◌, take, length, sym, ap, ◌∙◌, ◌≤◌, arith}
+use Rattle.std.proofs.Common.{◌≡◌, List, ℕ, ◌++◌, take, length, Result, Ok, Err, subst, sym, ap, ◌∙◌, ◌≤◌, arith}
+use Rattle.std.specs.Prelude.{OnErr, if◌then◌else◌}
+use Rattle.std.specs.Result.{is_ok}
 use Rattle.std.proofs.lemmas.List.{take_at, take-take, length-take}
 use Rattle.ft_text.specs.Fronts.{IsFront}
 
@@ -20,3 +22,8 @@ front_before old mid new end h front = front_of_front old mid new (front_of_more
 -- a text begins with a front of something if it begins with that and what was added to it
 pub front_past : (old mid later new end : List ℕ) → IsFront old mid → later ≡ mid ++ end → IsFront later new → IsFront old new
 front_past old mid later new end before h after = front_of_front old mid new before (front_before mid later new end h after)
+
+-- a text begins with a front of what stood before something that was refused
+pub front_refused : {T E : Type 0} (r : Result T E) (old mid more new : List ℕ) → IsFront old mid → new ≡ (if is_ok r then mid ++ more else mid) → OnErr r (IsFront old new)
+front_refused (Ok x) old mid more new front added = tt
+front_refused (Err e) old mid more new front added = subst (λ (t : List ℕ). IsFront old t) (sym added) front
