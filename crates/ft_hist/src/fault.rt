@@ -4,47 +4,66 @@ ghost use Rattle.std.specs.Prelude.{◌≡◌};
 ghost use Rattle.ft_hist.specs.TriggerFault.{trigger_number, trigger_place};
 
 use ft_filter::FilterFault;
-use thiserror::Error;
+use std::{error, fmt};
 
 /// The first thing that is wrong with a trigger's text. Places are bytes of the text, from 0.
-#[derive(Clone, Copy, Debug, PartialEq, Eq, Error)]
+#[derive(Clone, Copy, Debug, PartialEq, Eq)]
 pub enum TriggerFault {
     /// Memory ran out.
-    #[error("out of memory")]
     Memory,
     /// A part or an item that is not allowed here.
-    #[error("unexpected token")]
     Syntax(usize),
     /// The event has no such field, or the trigger has no such variable.
-    #[error("the event has no such field, or the trigger has no such variable")]
     NoField,
     /// The field of a value holds text.
-    #[error("expected a numeric field, but this one holds text")]
     NotNumeric,
     /// More than three keys, three values or two sort items.
-    #[error("more than 3 keys, 3 values besides hitcount, or 2 sort items")]
     TooMany,
     /// A part, an item or a name is given twice.
-    #[error("a part, an item or a name is given twice")]
     Duplicate,
     /// The size is not a number, or is out of range.
-    #[error("the size is not a number from 65 to 131072")]
     BadSize,
     /// A sort item is neither a key nor a value, or has an unknown suffix.
-    #[error("a sort item is neither a key nor a value, or has an unknown suffix")]
     BadSort,
     /// A modifier is unknown, or does not apply to its field.
-    #[error("a modifier is unknown, or does not apply to its field")]
     BadModifier,
     /// Kernel syntax that histdesk does not support.
-    #[error("kernel syntax that histdesk does not support")]
     LeftOut(usize),
     /// The filter's text cannot be read. Its place is counted in the filter's text.
-    #[error("its filter: {0}")]
     BadFilter(FilterFault),
 }
 
+impl fmt::Display for TriggerFault {
+    fn fmt<W: fmt::Write>(&self, f: &mut fmt::Formatter<W>) -> fmt::Result {
+        match self {
+            TriggerFault::BadFilter(fault) => write!(f, "{}: {fault}", self.text()),
+            _ => f.write_str(self.text()),
+        }
+    }
+}
+
+impl error::Error for TriggerFault {}
+
 impl TriggerFault {
+    /// What is wrong, in words.
+    fn text(self) -> &'static str {
+        match self {
+            TriggerFault::Memory => "out of memory",
+            TriggerFault::Syntax(_) => "unexpected token",
+            TriggerFault::NoField =>
+                "the event has no such field, or the trigger has no such variable",
+            TriggerFault::NotNumeric => "expected a numeric field, but this one holds text",
+            TriggerFault::TooMany => "more than 3 keys, 3 values besides hitcount, or 2 sort items",
+            TriggerFault::Duplicate => "a part, an item or a name is given twice",
+            TriggerFault::BadSize => "the size is not a number from 65 to 131072",
+            TriggerFault::BadSort =>
+                "a sort item is neither a key nor a value, or has an unknown suffix",
+            TriggerFault::BadModifier => "a modifier is unknown, or does not apply to its field",
+            TriggerFault::LeftOut(_) => "kernel syntax that histdesk does not support",
+            TriggerFault::BadFilter(_) => "its filter",
+        }
+    }
+
     /// Its number in the desk's texts.
     pub fn number(self) -> u8
         ensures { result ≡ trigger_number self }

@@ -9,36 +9,53 @@ use crate::reading::Reading;
 use crate::stream::Waits;
 use ft_dispatch::Dispatch;
 use std::alloc::AllocError;
-use thiserror::Error;
+use std::{error, fmt};
 
 /// Why a part can't be joined.
-#[derive(Clone, Copy, Debug, PartialEq, Eq, Error)]
+#[derive(Clone, Copy, Debug, PartialEq, Eq)]
 pub enum JoinFault {
     /// One of the two failed.
-    #[error("one of the parts was refused")]
     Failed,
     /// The text before the part doesn't end with a line break.
-    #[error("the part starts in the middle of a line")]
     Unended,
     /// The two were read with different options.
-    #[error("the parts were read with different options")]
     Differs,
     /// One of the two sums up its tasks and CPUs.
-    #[error("parts with sums can't be joined")]
     Summed,
     /// Together they have more than 4,294,967,295 lines.
-    #[error("more than 4294967295 lines")]
     TooLong,
     /// The part's first event doesn't come after the last stamp before it.
-    #[error("the part starts in the microsecond of the last event, or before it")]
     Overlaps,
     /// A CPU lost events at the seam.
-    #[error("a CPU lost events where the part starts")]
     Torn,
     /// Out of memory.
-    #[error("out of memory")]
     Memory,
 }
+
+impl JoinFault {
+    /// What is wrong, in words.
+    fn text(self) -> &'static str {
+        match self {
+            JoinFault::Failed => "one of the parts was refused",
+            JoinFault::Unended => "the part starts in the middle of a line",
+            JoinFault::Differs => "the parts were read with different options",
+            JoinFault::Summed => "parts with sums can't be joined",
+            JoinFault::TooLong => "more than 4294967295 lines",
+            JoinFault::Overlaps =>
+                "the part starts in the microsecond of the last event, or before it",
+            JoinFault::Torn => "a CPU lost events where the part starts",
+            JoinFault::Memory => "out of memory",
+        }
+    }
+}
+
+impl fmt::Display for JoinFault {
+    fn fmt<W: fmt::Write>(&self, f: &mut fmt::Formatter<W>) -> fmt::Result {
+        f.write_str(self.text())
+    }
+}
+
+impl error::Error for JoinFault {}
 
 /// A line of a part that can't be read, behind so many lines.
 fn bad_behind(lines: u64, bad: Option<BadLine>) -> Option<BadLine>
