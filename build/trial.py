@@ -16,8 +16,6 @@ from mistakes import Edit, Sources, Way, edits_of
 
 # What the prover says of a name that an edit has removed, and that a proof file mentions.
 IS_GONE = re.compile(r"is not in scope|has no field|has no `|is no name|was not admitted")
-# What the prover says of a lemma, which is in no function's proof.
-IN_LEMMA = re.compile(r"\./proofs/(?!\S*(?:Answers|Invariants|Proof)\.antt)\S+\.antt:\d+:\d+: error")
 # The lines that a check ends with, unless it ends early.
 ENDS = re.compile(r"^(only=|holes=|logic=)", re.MULTILINE)
 HOLE = """use Rattle.{crate}.proofs.{path}.Statement.{{statement}}
@@ -159,11 +157,12 @@ class Trial:
         return [self.verdict(edit, said) for edit in [*copies, *in_place]]
 
     def judge_alone(self, edit: Edit) -> Verdict:
-        """Try an edit in a check of the whole crate, and return the verdict: any function may refuse it, or a lemma."""
+        """Try an edit in a check of the whole crate, and return the verdict: any goal or lemma may refuse it."""
         said = self.check([], [edit], [])
         found = re.findall(rf"^fn {self.crate}::(\S+): (.*)$", said, re.MULTILINE)
         goals = [f"{path}: {goal}" for path, line in found for goal in open_goals(path.replace("::", "."), said, [line])]
-        goals += [line[:100] for line in said.split("\n") if IN_LEMMA.match(line) and not IS_GONE.search(line)]
+        errors = [line for line in said.split("\n") if re.match(r"\./proofs/\S+: error", line)]
+        goals += [line[:100] for line in errors if not IS_GONE.search(line)]
         why = "it is proved" if "logic=proved" in said else "; ".join(line for _, line in found) or ended_early(said)
         return Verdict(edit, bool(goals), ", ".join(goals) or why)
 
