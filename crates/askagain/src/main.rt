@@ -81,6 +81,7 @@ fn run_words<P: Env + Files + Print + Eprint + AllocGlobal>(rt: &P) -> io::Resul
 }
 
 /// What is done with a script.
+#[derive(Drop)]
 enum Way {
     /// It is run over the board that keeps no tables.
     Plain,
