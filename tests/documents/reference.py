@@ -99,7 +99,11 @@ def compare(name, rows, expected):
 def fault_table(name):
     """Compare numbers, names and words. What a program puts into the words is a word in capitals in the table."""
     text = source(FAULTS[name])
+    # They stand at the variants, or in a function that matches them, after which one has the words of its filter's fault.
     words = {of: words for words, of in re.findall(r'#\[error\("([^"]*)"\)\]\s+(\w+)', text)}
+    words.update(re.findall(r'\w+::(\w+)(?:\([_, ]+\))? =>\s+"([^"]*)"', text))
+    for of in re.findall(r'\w+::(\w+)\(\w+\) => write!\(f, "\{\}: \{\w+\}", self\.text\(\)\)', text):
+        words[of] += ": {0}"
     numbers = re.findall(r"\w+::(\w+)(?:\([_, ]+\))? => (\d+),", text)
     expected = [(number, f"`{of}`", re.sub(r"\{\d\}", "@", words[of])) for of, number in numbers]
     table = [(cells[0], cells[1], re.sub(r"\b(?:WORDS|ID|C|L)\b", "@", cells[2])) for cells in rows(name)]
