@@ -246,7 +246,8 @@ def open_goals(path: str, said: str, lines: list[str]) -> list[str]:
     goals: list[str] = []
     path = re.escape(path)
     for line in lines:
-        goals += re.findall(rf"it stands on `Rattle\.\w+\.proofs\.(?:\S+\.)?{path}\.\w+\.([^`]+)`", line)
+        stands = line.partition("it stands on")[2]
+        goals += re.findall(rf"`Rattle\.\w+\.proofs\.(?:\S+\.)?{path}\.\w+\.([^`]+)`", stands)
         goals += re.findall(r"`search` did not prove ([^;]*)", line)
     folder = path.replace(r"\.", "/")
     errors = [line for line in said.split("\n") if re.match(rf"\./proofs/(\S+/)?{folder}/\S+ error", line)]
