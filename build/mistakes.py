@@ -19,9 +19,9 @@ class Way(Enum):
 
     # In a copy of its function, beside it.
     COPY = 1
-    # In its function, in a check with other edits: the function is a trait's, or in a cycle of calls, which has one proof.
+    # Where it is, in a check with others: in a trait's method, in a cycle of calls, which has one proof, or in two functions.
     IN_PLACE = 2
-    # In the crate, in a check of its own: it is in a constant or a type, or in several functions.
+    # Where it is, in a check of its own: in a constant or a type.
     ALONE = 3
 
 
@@ -106,7 +106,7 @@ class Edit:
 
     @property
     def units(self) -> set[str]:
-        """What no other edit of a check may change in place: functions, or the cycles that they are in."""
+        """What no other edit of a check may change in place: these functions, or the cycles that they are in."""
         return {it.cycle or "::".join(it.names) for it in self.functions or []}
 
     @property
