@@ -1,7 +1,7 @@
 #!/usr/bin/env bash
 # kept.sh [EVENTS..]: times an insert and a strike, each by itself and followed by `totals` or by `hist` of the reader, and the
-# same answers of `tests/program/plaindesk`, which replays at each, in one run. So many events are held (10,000, 100,000 and 1,000,000), and
-# a saver and a reader are attached. HISTDESK and PLAINDESK may name programs that are built already.
+# same answers of `tests/program/plaindesk`, which replays at each, in one run. So many events are held (10,000, 100,000 and
+# 1,000,000), and a saver and a reader are attached. HISTDESK and PLAINDESK may name programs that are built already.
 # shellcheck source-path=SCRIPTDIR
 set -euo pipefail
 

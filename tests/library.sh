@@ -3,8 +3,8 @@
 # have it: from C (library/c_library.sh); from Python with the tools over it (library/python_*.py, by pytest), by the python3 on
 # the PATH and by the system's, if they have numpy and pytest; the page of tools/view in a browser (page/page.py); and installed
 # with the programs (tools/install.sh) and in packages (tools/packages.sh). The scripts that all of this stands on are checked
-# too (lint.sh). What records the machine runs by itself, the rest side by side. It prints what went wrong, what was skipped and
-# why, and a last line with the counts.
+# too (lint.sh). Most of this runs side by side, but what records the machine runs one after the other. It prints what went
+# wrong, what was skipped and why, and a last line with the counts.
 # shellcheck disable=SC2154 # what counts.sh assigns
 set -uo pipefail
 
