@@ -35,6 +35,12 @@ gives tar 0 "" tar -C "$folder" -xf "$tarball"
 tree=$folder/histdesk-$version-linux-x86_64
 gives unzip 0 "" python3 -m zipfile -e "$wheel" "$folder/wheel"
 
+# ---- What it is for, in one line of at most 80 characters.
+
+purpose="analysis of Linux scheduler traces: which tasks waited for a processor, and why"
+same "the deb's purpose" "$(dpkg-deb -f "$deb" Description | head -n 1)" "$purpose"
+has "the wheel's purpose" "$folder/wheel/histdesk-$version.dist-info/METADATA" "Summary: $purpose"
+
 # ---- The version.
 
 doc=share/doc/histdesk

@@ -18,6 +18,8 @@ import signal
 import sys
 from typing import Callable
 
+from . import interpreter
+
 SUCCESS, PARTIAL, FAILURE = 0, 1, 2
 # What is missing in the answer, which is reported at the end.
 _missing: list[str] = []
@@ -39,7 +41,8 @@ class Stop(Exception):
 
 
 def run(tool: str, work: Callable[[], int]) -> int:
-    """Run a tool, and report what goes wrong in one line on standard error.
+    """Run a tool, and report what goes wrong in one line on standard error. If a package is missing that this Python should
+    have, another Python may take its place (`interpreter.run_next`).
 
     Parameters
     ----------
@@ -78,9 +81,13 @@ def run(tool: str, work: Callable[[], int]) -> int:
 
 def report(tool: str, error: Exception) -> int:
     """Print why a tool failed, and return the exit status. Raises the error itself if it is a fault of the program."""
+    from .._requirements import is_missing
+
     if isinstance(error, Stop):
         say(tool, str(error))
         return error.status
+    if is_missing(error):
+        interpreter.run_next()
     line = message_of(error)
     if line is None:
         raise error
@@ -113,7 +120,7 @@ def message_of(error: Exception) -> str | None:
     if isinstance(error, OSError):
         return f"{error.filename or 'standard output'}: {error.strerror or error}"
     if isinstance(error, ImportError):
-        return str(explained(error))
+        return str(explained(error, interpreter.tried()))
     return str(error) if isinstance(error, ValueError) else None
 
 
