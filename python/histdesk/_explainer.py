@@ -2,7 +2,6 @@
 
 from __future__ import annotations
 
-import operator
 from collections.abc import Callable, Iterator
 from typing import TYPE_CHECKING, Any
 
@@ -33,9 +32,26 @@ class Explainer:
     def __init__(self, waits: Waits) -> None:
         self.waits = waits
 
-    def explain_at(self, cpu: int, line: int) -> Why:
-        """Explain the wait of the event of a CPU at a line. Raises what `wait_at` raises."""
-        return self.explain(self.wait_at(operator.index(cpu), operator.index(line)))
+    def explain_at(self, cpu: int, line: int, stamp: int | None = None) -> Why:
+        """Explain the wait of the event of a CPU at a line.
+
+        Raises
+        ------
+        LookupError
+            What `wait_at` raises; or if the event should have another stamp.
+        """
+        wait = self.wait_at(cpu, line)
+        if stamp is not None:
+            self._check_stamp(wait, Place(stamp, cpu, line))
+        return self.explain(wait)
+
+    def _check_stamp(self, wait: Wait, place: Place) -> None:
+        """Raise `LookupError` if an event of a wait isn't at this place, although one is at this line."""
+        ends = [end for end in (wait.begin, wait.end) if end and end[1:] == place[1:]]
+        found = ends[0] if ends else self.event(place.cpu, place.line)
+        if found and found.stamp != place.stamp:
+            stamps = f"{seconds(found.stamp)}, and not {seconds(place.stamp)}"
+            raise LookupError(f"the event at {place.cpu}:{place.line} is at {stamps}: that place is of another recording")
 
     def explain_longest(self) -> Why:
         """Explain the longest of its waits that aren't doubtful. Raises `LookupError` if there is none."""

@@ -16,9 +16,12 @@ import io
 import os
 import signal
 import sys
-from typing import Callable
+from typing import TYPE_CHECKING, Callable
 
 from . import interpreter
+
+if TYPE_CHECKING:
+    from .._refusal import Refused
 
 SUCCESS, PARTIAL, FAILURE = 0, 1, 2
 # What is missing in the answer, which is reported at the end.
@@ -124,16 +127,14 @@ def message_of(error: Exception) -> str | None:
     return str(error) if isinstance(error, ValueError) else None
 
 
-def refusal_of(error: Exception) -> str:
+def refusal_of(error: Refused) -> str:
     """Return a refusal in one line, and below it the line of the trace or the text that it is about."""
-    path, line = getattr(error, "path", None), getattr(error, "line", None)
-    message = f"{path}: {error}" if path else str(error)
     hint = ""
-    if line:
+    if error.line:
         from .fault_hints import lenient_hint
 
-        hint = f"; {lenient_hint(path)}"
-    return "\n".join([message + hint, *getattr(error, "__notes__", [])])
+        hint = f"; {lenient_hint(error.path)}"
+    return "\n".join([f"{error}{hint}", *getattr(error, "__notes__", [])])
 
 
 def end_by(number: signal.Signals) -> None:
