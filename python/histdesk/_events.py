@@ -180,7 +180,8 @@ def has(name: int, field: str) -> bool:
 
 def having(array: np.recarray[Any, Any], field: str) -> NDArray[np.bool_]:
     """Return which events have a field, as a mask."""
-    return np.array([has(name, field) for name in range(len(_schema.EVENT_NAMES))])[array["name"]]
+    mask: NDArray[np.bool_] = np.array([has(name, field) for name in range(len(_schema.EVENT_NAMES))])[array["name"]]
+    return mask
 
 
 # ---- columns of a DataFrame

@@ -4,8 +4,8 @@ from __future__ import annotations
 
 import html
 import warnings
-from collections.abc import Sequence
-from typing import TYPE_CHECKING, Any, NamedTuple, Protocol, overload
+from collections.abc import Iterator, Sequence
+from typing import TYPE_CHECKING, Any, NamedTuple, Protocol, cast, overload
 
 from . import _why_text
 from ._chain import STEPS, Chain
@@ -13,11 +13,11 @@ from ._columns import COLUMNS
 from ._losses import Hole, LossWarning
 from ._public import public
 from ._recording import Recording
-from ._scene import FORKED, PREEMPTED, Scene, Steps, spanned
+from ._scene import FORKED, PREEMPTED, Scene, Steps, Wants, spanned
 from ._scene import Wait as FoundWait
 from ._slices import Source
 from ._stretches import Runner, Share, Stretch, shares_of
-from ._surroundings import gather
+from ._surroundings import gather, groups_of, shared_scene
 from ._values import Event, Wait
 from .native.arguments import Located, whole
 
@@ -280,12 +280,33 @@ def chosen_by(event: Wait | Located | int | None, line: int | None, cpu: int | N
         return whole(event.cpu, "cpu"), whole(event.line, "line"), None if stamp is None else whole(stamp, "stamp")
     if event is not None and cpu is not None:
         raise TypeError("the CPU of an event is given twice")
-    number = cpu if event is None else event
+    number = cpu if event is None else cast(int, event)
     if number is None and line is None:
         return None
     if number is None or line is None:
         raise TypeError("an event has both a CPU and a line; without both, the longest wait is explained")
     return whole(number, "cpu"), whole(line, "line"), None
+
+
+def whys_in(source: Source, waits: Sequence[FoundWait]) -> Iterator[tuple[int, Why]]:
+    """Explain waits of a recording, of which events are read once for all that are near each other. Each comes with its index,
+    in the order of time. Raises what `Source.between` raises."""
+    for group in groups_of(source, waits):
+        some = [waits[at] for at in group]
+        if len(some) == 1:
+            yield group[0], why_in(source, some[0])
+            continue
+
+        def look_at_all(scene: Scene, some: Sequence[FoundWait] = some) -> None:
+            for wait in some:
+                look(scene, wait)
+
+        scene = shared_scene(source, some, look_at_all)
+        for at in group:
+            scene.wants = Wants()
+            why = why_of(scene, waits[at])
+            # What is wanted at the ends of the scene is read for this wait.
+            yield at, why_in(source, waits[at]) if scene.wants.any() else why
 
 
 def scene_in(source: Source, wait: FoundWait) -> Scene:

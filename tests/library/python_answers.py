@@ -607,8 +607,8 @@ class Refusals(unittest.TestCase):
                     file.write(in_time + end)
             words = histdesk.refusal_words("refused 3: line 6 fault 3")
             for call in (
-                Desk().load,
-                lambda path: Desk().load(pathlib.Path(path)),
+                lambda path: histdesk.Desk().load(path),
+                lambda path: histdesk.Desk().load(pathlib.Path(path)),
                 lambda path: histdesk.read(path).desk(),
                 histdesk.waits,
                 lambda path: histdesk.waits(histdesk.read(path)),
