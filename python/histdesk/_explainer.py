@@ -55,7 +55,7 @@ class Explainer:
 
     def explain_longest(self) -> Why:
         """Explain the longest of its waits that aren't doubtful. Raises `LookupError` if there is none."""
-        for _, why in self.explain_each(greatest(self.waits, 1, doubtful=False)):
+        for why in self.explain_each(greatest(self.waits, 1, doubtful=False)):
             return why
         raise LookupError("there is no wait that isn't doubtful")
 
@@ -77,10 +77,14 @@ class Explainer:
                 raise LookupError(self._reason(event))
         return wait
 
-    def explain_each(self, waits: Waits) -> Iterator[tuple[int, Why]]:
-        """Explain some of its waits, each with its index, in any order."""
-        for at, wait in enumerate(map(wait_of, waits.array)):
-            yield at, self.explain(wait)
+    def explain_each(self, waits: Waits) -> Iterator[Why]:
+        """Explain some of its waits, one after the other."""
+        for row in waits.array:
+            yield self.explain(wait_of(row))
+
+    def explain_together(self, waits: Waits) -> Iterator[tuple[int, Why]]:
+        """Explain some of its waits, in the order that takes least time. Each comes with its index among them."""
+        return enumerate(self.explain_each(waits))
 
     def explain(self, wait: Wait) -> Why:
         """Explain one of its waits."""
@@ -234,7 +238,7 @@ class SourceExplainer(Explainer):
     def explain(self, wait: Wait) -> Why:
         return why_in(self._source, wait)._known_to(self)
 
-    def explain_each(self, waits: Waits) -> Iterator[tuple[int, Why]]:
+    def explain_together(self, waits: Waits) -> Iterator[tuple[int, Why]]:
         for at, why in whys_in(self._source, list(map(wait_of, waits.array))):
             yield at, why._known_to(self)
 

@@ -89,11 +89,11 @@ class Slices(Cut):
                 "GAP": chance.choice([0, 10]),
             }
             slices, whole = self.slices(text, **sizes), self.whole(text)
-            told = dict(slices.explain_each(slices.waits))
-            self.assertEqual(told, dict(whole.explain_each(whole.waits)), seed)
-            # Each by itself is the same.
-            one = {at: slices.explain(_explainer.wait_of(row)) for at, row in enumerate(slices.waits.array)}
-            self.assertEqual(told, one, seed)
+            told = list(slices.explain_each(slices.waits))
+            self.assertEqual(told, list(whole.explain_each(whole.waits)), seed)
+            # All together are the same, and each comes once.
+            together = sorted(slices.explain_together(slices.waits), key=lambda pair: pair[0])
+            self.assertEqual(together, list(enumerate(told)), seed)
             waits += len(told)
             for _ in range(12):
                 place = chance.choice([0, 0, 1, 2, 3, 4, 5]), chance.randrange(45)
@@ -109,7 +109,7 @@ class Slices(Cut):
             waits = _explainer.greatest(teller.waits, count, True)
             self.assertEqual(len(waits), count)
             with mock.patch.object(_slices.Source, "_read", autospec=True, side_effect=_slices.Source._read) as read:
-                self.assertEqual(sorted(dict(teller.explain_each(waits))), list(range(count)))
+                self.assertEqual(sorted(dict(teller.explain_together(waits))), list(range(count)))
             size[count] = sum(last.at - first.at for _, _, first, last in (call.args for call in read.call_args_list))
         self.assertLessEqual(size[1000], 3 * size[20])
 

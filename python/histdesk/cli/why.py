@@ -192,7 +192,7 @@ def in_order(explainer: Explainer, waits: Waits, text_of: Callable[[Why], str]) 
     from .._text import KeptText
 
     kept, ends = KeptText(), {}
-    for at, why in explainer.explain_each(waits):
+    for at, why in explainer.explain_together(waits):
         start = kept.size or 0
         kept.add(text_of(why).encode("utf-8", "surrogatepass"))
         ends[at] = (start, kept.size or 0)
