@@ -11,7 +11,7 @@ import numpy as np
 from ._events import Events
 from ._losses import Hole, seconds
 from ._recording import LIMIT, Recording
-from ._scene import NEVER, Bounds, Contexts, Scene, Wait, context_of, lines_with
+from ._scene import FOREVER, NEVER, Bounds, Contexts, Scene, Wait, context_of, lines_with
 from ._schema import WAKEUP_NEW, WAKING
 from ._slices import Source
 from ._stream import Checkpoint
@@ -159,8 +159,8 @@ class Around:
 
     def __init__(self, source: Source, wait: Wait, margin: int, is_alone: bool, contexts: Contexts | None = None) -> None:
         """Take a wait, and how many microseconds on both sides of it are read too. If it is explained by itself (`is_alone`),
-        the events are for nothing else. `contexts` finds the contexts of events; without it, the text of the wait's beginning
-        does."""
+        the events are for nothing else. If it stands for several waits, `contexts` finds the contexts of their events, and no
+        event is left out."""
         self._source, self._wait, self._is_alone = source, wait, is_alone
         self._start = wait.begin.stamp - margin
         self._until = (wait.end.stamp if wait.end else last_of(source)) + margin + 1
@@ -171,6 +171,8 @@ class Around:
         self._before: set[int] = set()
         self._after: set[int] = set()
         self._text: Buffer | Contexts | None = contexts
+        # With more events than this, only those are kept that the wait needs.
+        self._room = FOREVER if contexts else PART if is_alone else LIMIT
         self._long: Long | None = None
         # What was read, in one array, once that is asked for.
         self._store: Store | None = None
@@ -212,7 +214,7 @@ class Around:
             del recording
             count += len(stamps)
             self._pieces.append(self._long.keep(piece) if self._long else piece)
-            if self._long is None and count > (PART if self._is_alone else LIMIT):
+            if self._long is None and count > self._room:
                 self._leave_out(count)
 
     def _leave_out(self, count: int) -> None:

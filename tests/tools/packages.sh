@@ -174,12 +174,7 @@ print(importlib.metadata.metadata("histdesk")["License-Expression"])'
     same "pip uninstall" "$(find "$folder/env" -name '*histdesk*' ! -type d)" ""
 }
 
-for python in /usr/bin/python3 python3 ''; do
-    if [[ -n $python ]] && "$python" -c 'import ensurepip, numpy' 2>/dev/null; then
-        break
-    fi
-done
-if [[ -n $python ]]; then
+if python=$(python_with ensurepip numpy); then
     gives "an environment" 0 "" "$python" -m venv --system-site-packages "$folder/env"
     used
 else
