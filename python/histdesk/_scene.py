@@ -9,9 +9,11 @@ from typing import TYPE_CHECKING, Any, NamedTuple, cast
 import numpy as np
 
 from ._events import Events, texts
+from ._lines import lines_in
 from ._losses import Hole, seconds
 from ._recording import Recording
 from ._schema import SWITCH, WAIT_KINDS, WAKEUP, WAKEUP_NEW, WAKING
+from ._source import searchable
 from ._stretches import IDLE, NOTHING, Columns, Runner, Stretch, Stretches, Wakings, stretches_of
 from ._values import Event, Place
 from .native import layout
@@ -473,7 +475,39 @@ def of_desk(desk: Desk, recording: Recording | None = None) -> Scene:
     lines = events.array["line"].copy()
     if recording is None:
         return Scene(events, lines, desk.holes)
-    return Scene(events, recording.lines(events.array["cpu"], lines), recording.holes, recording.text)
+    contexts = LineContexts(recording.text)
+    return Scene(events, recording.lines(events.array["cpu"], lines), recording.holes, contexts)
+
+
+class LineContexts:
+    """Finds the contexts of events by the lines of a text, whose stamps are read once if there are several events."""
+
+    def __init__(self, text: Buffer) -> None:
+        """Take a text, which stays as it is."""
+        self._text = searchable(text)
+        self._is_first = True
+        # The stamps in order, and for each of them where its line begins and ends.
+        self._stamps: NDArray[np.int64] | None = None
+        self._begins = self._ends = np.zeros(0, "i8")
+
+    def __call__(self, event: Event) -> str | None:
+        """Return the context of an event."""
+        if self._is_first:
+            self._is_first = False
+            return context_of(event, lines_with(self._text, stamp_of(event).encode()))
+        if self._stamps is None:
+            self._read()
+        assert self._stamps is not None
+        low, high = (int(self._stamps.searchsorted(event.stamp, side)) for side in ("left", "right"))
+        lines = zip(self._begins[low:high].tolist(), self._ends[low:high].tolist())
+        return context_of(event, (self._text[begin:end] for begin, end in lines))
+
+    def _read(self) -> None:
+        """Read the stamps of all lines."""
+        lines = lines_in(self._text)
+        order = lines.stamps.argsort(kind="stable")
+        begins = np.concatenate([np.zeros(1, "i8"), lines.ends[:-1]])[: len(lines.ends)]
+        self._stamps, self._begins, self._ends = lines.stamps[order], begins[order], lines.ends[order]
 
 
 def runner_of(task: str | None, pid: int | None, prio: int | None) -> Runner:
