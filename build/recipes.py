@@ -1,5 +1,6 @@
 """How the kit proves a crate and compiles it: the commands for that."""
 
+import re
 import shlex
 import shutil
 from collections.abc import Callable
@@ -9,6 +10,9 @@ from typing import NamedTuple
 import graph
 
 TARGET = "x86_64-unknown-linux-gnu"
+# The logic by which all crates were proved, and the kits of it that were used. Documents name them.
+LOGIC = "dac8208d650f15bf"
+KITS = ("rattle-kit-13b", "rattle-kit-13f")
 
 
 class NoKit(Exception):
@@ -25,6 +29,12 @@ class Kit(NamedTuple):
         """Which kit this is."""
         file = self.folder / "KIT-ID"
         return file.read_text(encoding="utf-8") if file.exists() else ""
+
+    @property
+    def logic(self) -> str | None:
+        """The sum of its logic, by which it proves; None if it doesn't say."""
+        match = re.search(r"\blogic ([0-9a-f]+)", self.name)
+        return match[1] if match else None
 
     @property
     def backend(self) -> list[str]:

@@ -1,5 +1,5 @@
 /* event_lines.h: the text of the scheduler's four events, made from their raw bytes, for perf_filter.c and trace_cmd_lines.c;
- * and the blocks in which both of them hand it to turning_blocks.py. If a field isn't plain, there is no text: the tool itself
+ * and the blocks in which both of them hand it to blocks.py. If a field isn't plain, there is no text: the tool itself
  * then prints the event, and Python converts what it prints. */
 #ifndef EVENT_LINES_H
 #define EVENT_LINES_H

@@ -28,6 +28,18 @@ skip() {
     printf 'not tried: %s\n' "$1"
 }
 
+# python_with MODULE..: prints the first Python that has these modules: `python3`, or the system's. It fails if neither has.
+python_with() {
+    local python
+    for python in python3 /usr/bin/python3; do
+        if command -v "$python" >/dev/null && "$python" -c 'import sys; [*map(__import__, sys.argv[1:])]' "$@" 2>/dev/null; then
+            echo "$python"
+            return
+        fi
+    done
+    return 1
+}
+
 # part NAME COMMAND..: runs a test whose last line has counts, such as `7 passed, 0 failed, 1 skipped` or `7 of 7 rows hold`. If
 # something has failed, all that it prints is printed, otherwise only what was skipped or slow.
 part() {

@@ -27,19 +27,13 @@ export HISTDESK_ROWS=$folder/rows
 
 beside "from C" "$tests/library/c_library.sh" "$library" "$histdesk"
 
-# The package needs numpy; with a Python without it, only what the tools report can be tested.
+# The package needs numpy. install.sh shows what the tools do with a Python without it.
 pythons=()
 for python in python3 /usr/bin/python3; do
     command -v "$python" >/dev/null || continue
     [[ ${#pythons[@]} == 0 || ! $python -ef $(command -v "${pythons[0]}") ]] || continue
-    if ! "$python" -c 'import numpy' 2>/dev/null; then
-        said=$("$python" "$tests/../tools/waits" "$tests/../examples/wakeups.trace" 2>&1)
-        if [[ $said == 'waits: '*' has no numpy, '* ]]; then
-            pass
-        else
-            fail "$python has no numpy, and tools/waits reports: $said"
-        fi
-    elif ! "$python" -c 'import pytest' 2>/dev/null; then
+    "$python" -c 'import numpy' 2>/dev/null || continue
+    if ! "$python" -c 'import pytest' 2>/dev/null; then
         skip "the package by $python, which has no pytest"
     else
         pythons+=("$python")
@@ -56,6 +50,7 @@ done
 python=python3
 if ((${#pythons[@]} > 0)); then
     python=${pythons[-1]}
+    beside "README with a bare Python" "$python" "$tests/documents/sessions.py" --bare "$histdesk" "$histwatch" README.md
     beside "the page" pytest_counts "$python" "$tests"/page/{page,page_keys,page_looks,timeline_page}.py
 fi
 beside scripts "$tests/lint.sh"

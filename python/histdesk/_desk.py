@@ -123,7 +123,7 @@ class Desk:
             try:
                 count = self._session.count(library.histdesk_load, address, length, text=content)
             except Refused as refused:
-                refused.path = path_of(trace) if refused.line else None
+                refused.path = path_of(trace)
                 if isinstance(trace, Recording) and refused.line:
                     raise at_later_line(refused, trace.lines_before()) from None
                 raise

@@ -50,7 +50,7 @@ class Figures(NamedTuple):
     waited
         How long all of them took together in each second of the recording; None if it has no length.
     mean, p50, p90, p99, max
-        Their mean, percentiles and maximum.
+        Their mean, percentiles and maximum. `p99` is the least of them such that at least 99 % aren't longer (nearest rank).
     above
         The share, from 0 to 1, of those that are longer than was asked for; None if nothing was asked.
     doubtful

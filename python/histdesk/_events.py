@@ -25,6 +25,9 @@ if TYPE_CHECKING:
 NUMBERS = ("stamp", "cpu", "line", "common_pid", "pid", "prio", "target_cpu", "prev_pid", "prev_prio")
 COMMON_NUMBERS = ("stamp", "cpu", "line", "common_pid")
 NAMES = ("task", "comm", "prev_comm", "prev_state")
+# The columns of a table of all fields: those of `Event`, and fields that have the values of a column of another name.
+RENAMED = _schema.RENAMED
+COLUMNS = (*Event._fields, *RENAMED)
 # What a table of events shows of each.
 SHOWN = ("stamp", "cpu", "line", "name", "task", "common_pid", "comm", "pid", "prio")
 # The last field of the common part; only some names have the fields after it.
@@ -37,8 +40,9 @@ OWN = [tuple(column in event.columns for column in Event._fields[COMMON + 1 :]) 
 class Events(Sequence[Event]):
     """Events as they were held when they were asked for; `Desk.events` makes it. Nothing is decoded before it is looked at.
 
-    `events[3]` is an `Event`, `events[2:9]` is `Events`, and `events["pid"]` is one field of all: an array of numbers, or a
-    list of names, with None for an event that has no such field.
+    `events[3]` is an `Event`, `events[2:9]` is `Events`, and `events["pid"]` is one field of all: an array of numbers, with 0
+    for an event that has no such field, or a list of names, with None. The task that a switch runs is both `"pid"` and
+    `"next_pid"`, and so on; only switches have the latter.
 
     Parameters
     ----------
@@ -110,8 +114,9 @@ class Events(Sequence[Event]):
         Returns
         -------
         pandas.DataFrame
-            A row for each event, with the fields of `Event` as columns: texts and CPUs as categories, numbers of the
-            common part as `int64`, and others as `Int64`. A field is NA if the event doesn't have it.
+            A row for each event, with the fields of `Event` as columns, and `next_comm`, `next_pid` and `next_prio`: texts and
+            CPUs as categories, numbers of the common part as `int64`, and others as `Int64`. A field is NA if the event doesn't
+            have it.
 
         Raises
         ------
@@ -120,7 +125,7 @@ class Events(Sequence[Event]):
         """
         import pandas
 
-        columns = {field: frame_column(self.array, field) for field in Event._fields}
+        columns = {field: frame_column(self.array, field) for field in COLUMNS}
         return finished(pandas.DataFrame(columns, copy=False), times)
 
     def _part(self, places: range) -> Events:
@@ -132,13 +137,14 @@ class Events(Sequence[Event]):
 
     def _column(self, field: str) -> NDArray[Any] | list[Any]:
         """Return a field of all events. Raises `KeyError` if there is none of that name."""
-        if field not in Event._fields:
+        if field not in COLUMNS:
             raise KeyError(field)
-        if field in NUMBERS:
-            column: NDArray[Any] = self.array[field]
-            return column
-        if field in NAMES:
-            structs = layout.name_struct(field).iter_unpack(self._content.data)
+        held = RENAMED.get(field, field)
+        if held in NUMBERS:
+            column: NDArray[Any] = self.array[held]
+            return column if held == field else np.where(having(self.array, field), column, 0).astype(column.dtype)
+        if held in NAMES:
+            structs = layout.name_struct(held).iter_unpack(self._content.data)
             return [layout.text_of(text, length) if has(name, field) else None for name, text, length in structs]
         at = Event._fields.index(field)
         return [event[at] for event in self]
@@ -166,8 +172,16 @@ def event_of(fields: Sequence[Any]) -> Event:
 
 def has(name: int, field: str) -> bool:
     """Return whether events whose name has this number have a field."""
+    if field in RENAMED:
+        return any(own.name == field for own in _schema.EVENTS[name].fields)
     at = Event._fields.index(field)
     return at <= COMMON or OWN[name][at - COMMON - 1]
+
+
+def having(array: np.recarray[Any, Any], field: str) -> NDArray[np.bool_]:
+    """Return which events have a field, as a mask."""
+    mask: NDArray[np.bool_] = np.array([has(name, field) for name in range(len(_schema.EVENT_NAMES))])[array["name"]]
+    return mask
 
 
 # ---- columns of a DataFrame
@@ -179,12 +193,12 @@ def frame_column(array: np.recarray[Any, Any], field: str) -> NDArray[Any] | Ext
 
     if field == "name":
         return from_codes(array["name"].astype("i8"), _schema.EVENT_NAMES)
-    having = np.array([has(name, field) for name in range(len(_schema.EVENT_NAMES))])[array["name"]]
-    if field in NAMES:
-        names, codes = name_codes(array, field)
-        return from_codes(np.where(having, codes, -1), names.tolist())
-    numbers: NDArray[np.int64] = array[field].astype("int64")
-    return numbers if field in COMMON_NUMBERS else pandas.arrays.IntegerArray(numbers, ~having)
+    held = RENAMED.get(field, field)
+    if held in NAMES:
+        names, codes = name_codes(array, held)
+        return from_codes(np.where(having(array, field), codes, -1), names.tolist())
+    numbers: NDArray[np.int64] = array[held].astype("int64")
+    return numbers if field in COMMON_NUMBERS else pandas.arrays.IntegerArray(numbers, ~having(array, field))
 
 
 def texts(array: NDArray[Any], field: str) -> NDArray[np.object_]:

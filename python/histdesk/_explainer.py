@@ -2,8 +2,7 @@
 
 from __future__ import annotations
 
-import operator
-from collections.abc import Callable, Iterator
+from collections.abc import Iterator
 from typing import TYPE_CHECKING, Any
 
 import numpy as np
@@ -13,7 +12,7 @@ from ._chain import Chain, Follower, Past, place_of, scenes_before
 from ._desk import Desk, Trace
 from ._losses import seconds
 from ._recording import Choice, Recording, path_of, read_text
-from ._scene import Scene, Wait, context_of, lines_with, numbers, of_desk
+from ._scene import Contexts, Scene, Wait, numbers, of_desk
 from ._schema import SWITCH, WAKEUP
 from ._slices import Source
 from ._stream import held_waits
@@ -21,7 +20,7 @@ from ._text import is_read_once, text_again
 from ._values import Event, Place
 from ._wait_answer import KINDS
 from ._waits import ReadOptions, Waits, judge, waits_of, waits_of_recording, waits_of_text
-from ._why import Why, scene_in, why_in, why_of
+from ._why import Why, scene_in, why_in, why_of, whys_in
 
 if TYPE_CHECKING:
     from numpy.typing import NDArray
@@ -33,9 +32,26 @@ class Explainer:
     def __init__(self, waits: Waits) -> None:
         self.waits = waits
 
-    def explain_at(self, cpu: int, line: int) -> Why:
-        """Explain the wait of the event of a CPU at a line. Raises what `wait_at` raises."""
-        return self.explain(self.wait_at(operator.index(cpu), operator.index(line)))
+    def explain_at(self, cpu: int, line: int, stamp: int | None = None) -> Why:
+        """Explain the wait of the event of a CPU at a line.
+
+        Raises
+        ------
+        LookupError
+            What `wait_at` raises; or if the event should have another stamp.
+        """
+        wait = self.wait_at(cpu, line)
+        if stamp is not None:
+            self._check_stamp(wait, Place(stamp, cpu, line))
+        return self.explain(wait)
+
+    def _check_stamp(self, wait: Wait, place: Place) -> None:
+        """Raise `LookupError` if an event of a wait isn't at this place, although one is at this line."""
+        ends = [end for end in (wait.begin, wait.end) if end and end[1:] == place[1:]]
+        found = ends[0] if ends else self.event(place.cpu, place.line)
+        if found and found.stamp != place.stamp:
+            stamps = f"{seconds(found.stamp)}, and not {seconds(place.stamp)}"
+            raise LookupError(f"the event at {place.cpu}:{place.line} is at {stamps}: that place is of another recording")
 
     def explain_longest(self) -> Why:
         """Explain the longest of its waits that aren't doubtful. Raises `LookupError` if there is none."""
@@ -66,6 +82,10 @@ class Explainer:
         for row in waits.array:
             yield self.explain(wait_of(row))
 
+    def explain_together(self, waits: Waits) -> Iterator[tuple[int, Why]]:
+        """Explain some of its waits, in the order that takes least time. Each comes with its index among them."""
+        return enumerate(self.explain_each(waits))
+
     def explain(self, wait: Wait) -> Why:
         """Explain one of its waits."""
         return why_of(self.scene(wait), wait)._known_to(self)
@@ -80,7 +100,7 @@ class Explainer:
         """Return the events up to a stamp."""
         raise NotImplementedError
 
-    def contexts(self) -> Callable[[Event], str | None]:
+    def contexts(self) -> Contexts:
         """Return what finds the context of a waking."""
         raise NotImplementedError
 
@@ -188,7 +208,7 @@ class DeskExplainer(Explainer):
     def past(self, stamp: int) -> Past:
         return Past(iter([self._scene]), self._scene.holes)
 
-    def contexts(self) -> Callable[[Event], str | None]:
+    def contexts(self) -> Contexts:
         return self._scene.context_of
 
     def scene(self, wait: Wait) -> Scene:
@@ -218,11 +238,15 @@ class SourceExplainer(Explainer):
     def explain(self, wait: Wait) -> Why:
         return why_in(self._source, wait)._known_to(self)
 
+    def explain_together(self, waits: Waits) -> Iterator[tuple[int, Why]]:
+        for at, why in whys_in(self._source, list(map(wait_of, waits.array))):
+            yield at, why._known_to(self)
+
     def past(self, stamp: int) -> Past:
         return Past(scenes_before(self._source, stamp + 1), self._source.losses.holes)
 
-    def contexts(self) -> Callable[[Event], str | None]:
-        return Contexts(self._source)
+    def contexts(self) -> Contexts:
+        return _surroundings.contexts_in(self._source)
 
     def scene(self, wait: Wait) -> Scene:
         return scene_in(self._source, wait)
@@ -241,22 +265,6 @@ class SourceExplainer(Explainer):
     def lines(self, cpu: int) -> tuple[int, int] | None:
         count = _surroundings.known(self._source)[-1].events.get(cpu, 0)
         return (1, count) if count else None
-
-
-class Contexts:
-    """Finds the contexts of a recording's wakings, by the flags of their lines."""
-
-    def __init__(self, source: Source) -> None:
-        self._source = source
-        # The part of its text that was read last, by its ends: the wakings of a chain are often near each other.
-        self._ends: tuple[int, int] | None = None
-        self._text = b""
-
-    def __call__(self, event: Event) -> str | None:
-        first, last = self._source._around(event.stamp, event.stamp + 1, 0)
-        if self._ends != (first.at, last.at):
-            self._ends, self._text = (first.at, last.at), self._source._text.read(first.at, last.at)
-        return context_of(event, lines_with(self._text, f"{seconds(event.stamp)}:".encode()))
 
 
 def explainer_of(trace: Desk | Trace | Recording | Waits) -> Explainer:

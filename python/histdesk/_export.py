@@ -8,10 +8,10 @@ from typing import TYPE_CHECKING, Iterable, Iterator, NamedTuple, Sequence, Unio
 import numpy as np
 
 from . import _schema
-from ._events import COMMON, NAMES, Events, has, texts
+from ._events import COLUMNS, COMMON, NAMES, RENAMED, Events, having, texts
 from ._losses import Hole
 from ._recording import Recording
-from ._values import Event, Latency
+from ._values import Latency
 
 if TYPE_CHECKING:
     from numpy.typing import NDArray
@@ -52,7 +52,7 @@ class Table(NamedTuple):
 
 
 def events_table(desk: Desk, recording: Recording | None = None) -> Table:
-    """Return all events of a desk in merged order, with the fields of `Event`.
+    """Return all events of a desk in merged order, with the fields of `Event`, and the task of a switch by its own names too.
 
     Parameters
     ----------
@@ -61,7 +61,7 @@ def events_table(desk: Desk, recording: Recording | None = None) -> Table:
     recording
         What the desk was made for; lines are then those of the whole recording.
     """
-    return Table(Event._fields, event_rows(desk.events(), recording))
+    return Table(COLUMNS, event_rows(desk.events(), recording))
 
 
 def event_rows(events: Events, recording: Recording | None) -> Iterator[Sequence[object]]:
@@ -74,7 +74,7 @@ def event_rows(events: Events, recording: Recording | None) -> Iterator[Sequence
 def event_columns(events: Events, recording: Recording | None) -> list[list[object]]:
     """Return the fields of events, each as a list."""
     array = events.array
-    columns = {field: event_column(array, field) for field in Event._fields}
+    columns = {field: event_column(array, field) for field in COLUMNS}
     if recording:
         columns["line"] = recording.lines(array.cpu, array.line).tolist()
     return [*columns.values()]
@@ -82,12 +82,12 @@ def event_columns(events: Events, recording: Recording | None) -> list[list[obje
 
 def event_column(array: np.recarray[tuple[int], np.dtype[np.void]], field: str) -> list[object]:
     """Return a field of events; it is None for an event that doesn't have it."""
+    held = RENAMED.get(field, field)
     names = np.array(_schema.EVENT_NAMES, dtype=object)
-    column = names[array["name"]] if field == "name" else texts(array, field) if field in NAMES else array[field]
-    if Event._fields.index(field) > COMMON:
-        has_field = np.array([has(name, field) for name in range(len(names))])[array["name"]]
+    column = names[array["name"]] if field == "name" else texts(array, held) if held in NAMES else array[held]
+    if COLUMNS.index(field) > COMMON:
         column = column.astype(object)
-        column[~has_field] = None
+        column[~having(array, field)] = None
     values: list[object] = column.tolist()
     return values
 

@@ -199,7 +199,8 @@ def many(
     Raises
     ------
     TypeError
-        If `paths` is one path, if the question can't be handed to workers, or if both `processes` and `client` are given.
+        If `paths` is one path, if the question can't be handed to workers, if `processes` is no whole number, or if both
+        `processes` and `client` are given.
     ValueError
         If a path is given twice, or `processes` is negative.
     RuntimeError
@@ -255,6 +256,7 @@ def outcomes_of(
     """Ask recordings, and go through their answers as they come."""
     # This is imported here, since few need processes, and it takes long.
     from ._workers import by_dask, by_pool, by_this_process, task_of
+    from .native.arguments import whole
 
     if client is not None:
         if processes is not None:
@@ -262,7 +264,7 @@ def outcomes_of(
         if client.asynchronous:
             raise TypeError("many() waits for answers, so the client must not be asynchronous")
         return by_dask(client, task_of(question, choice, True), names)
-    count = len(os.sched_getaffinity(0)) if processes is None else processes
+    count = len(os.sched_getaffinity(0)) if processes is None else whole(processes, "processes")
     if count < 0:
         raise ValueError(f"processes must be a number from 0 on, not {count}")
     return by_pool(task_of(question, choice, False), names, count) if count else by_this_process(question, names, choice)

@@ -17,6 +17,7 @@ from ._text import Piece, Text
 from ._time_range import Halves
 from ._wait_records import Kept, WaitSink
 from .native import layout
+from .native.arguments import whole
 
 if TYPE_CHECKING:
     from numpy.typing import NDArray
@@ -30,12 +31,20 @@ MOST = 512
 Watch = Callable[[Piece], None] | None
 
 
+def check_jobs(jobs: int | None) -> int | None:
+    """Return in how many parts a caller wants a text to be read. Raises `TypeError` if that is neither a whole number nor None,
+    and `ValueError` if it isn't from 1 to 512."""
+    if jobs is None:
+        return None
+    count = whole(jobs, "jobs")
+    if not 1 <= count <= MOST:
+        raise ValueError(f"a text is read in 1 to {MOST} parts at once, not in {count}")
+    return count
+
+
 def jobs_for(text: Text | None, jobs: int | None) -> int:
     """Return in how many parts a text is read at once: `jobs`, if it can be read from any byte on, and otherwise 1. If `jobs`
-    is None, a large text is read in as many parts as there are processors, 16 at most, and any other one in 1. Raises
-    `ValueError` if `jobs` isn't from 1 to 512."""
-    if jobs is not None and not 1 <= jobs <= MOST:
-        raise ValueError(f"a text is read in 1 to {MOST} parts at once, not in {jobs}")
+    is None, a large text is read in as many parts as there are processors, 16 at most, and any other one in 1."""
     if text is None or text.size is None:
         return 1
     if jobs is None:

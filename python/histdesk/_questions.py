@@ -8,6 +8,7 @@ from typing import Any, NamedTuple, TypeAlias
 from . import _counting
 from ._counts import Counts
 from ._desk import Desk
+from ._parallel import check_jobs
 from ._public import public
 from ._recording import Part, Recording, choice_of, cpu_numbers, read_text
 from ._rows import Rows
@@ -198,6 +199,8 @@ class AskWaits:
     ------
     ValueError
         If one of them can't be asked for.
+    TypeError
+        If a CPU or `jobs` is no whole number.
     """
 
     adds_up = True
@@ -213,7 +216,7 @@ class AskWaits:
         doubtful: bool = False,
         jobs: int | None = 1,
     ) -> None:
-        self.by, self.doubtful, self.jobs = by, doubtful, jobs
+        self.by, self.doubtful, self.jobs = by, doubtful, check_jobs(jobs)
         self.kinds, self.cpus = kind_names(kinds), cpu_numbers(cpus)
         self.nothing = self._counts(waits(b""))
 

@@ -36,7 +36,8 @@ PARTS = {
 
 @public
 class Refused(Exception):
-    """The desk refused a call. Except for `strike_events`, nothing that it holds has changed. `str()` of it says why.
+    """The desk refused a call. Except for `strike_events`, nothing that it holds has changed. `str()` of it says why, and names
+    the file if the call was given one that can't be loaded.
 
     Attributes that don't belong to the number are None. The numbers are those of docs/REFERENCE.md, in Refusals and in the
     three sections of faults.
@@ -50,7 +51,7 @@ class Refused(Exception):
     line
         The first line that can't be read, from 1 (number 3).
     path
-        The file that holds the line, if a file was loaded (3).
+        The file that was to be loaded (3, 4 and 7), if the call was given a path, or what `read` made of one.
     fault
         What is wrong with that line (3), or with the trigger's text (8).
     filter_fault
@@ -85,10 +86,18 @@ class Refused(Exception):
     path: str | None = None
     struck: int | None = None
 
+    @property
+    def words(self) -> str:
+        """Why, in one line, without the file, as `refusal_words` returns it."""
+        return super().__str__()
+
+    def __str__(self) -> str:
+        return f"{_tables.printable(self.path)}: {self.words}" if self.path else self.words
+
 
 @public
 def refusal_words(text: str) -> str:
-    """Return what a refusal means, as `str()` of a `Refused` has it. No desk is needed.
+    """Return what a refusal means, as `Refused.words` has it. No desk is needed.
 
     Parameters
     ----------

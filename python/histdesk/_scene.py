@@ -3,15 +3,17 @@
 from __future__ import annotations
 
 import re
-from collections.abc import Iterable, Iterator
+from collections.abc import Callable, Iterable, Iterator
 from typing import TYPE_CHECKING, Any, NamedTuple, cast
 
 import numpy as np
 
-from ._events import Events
+from ._events import Events, texts
+from ._lines import lines_in
 from ._losses import Hole, seconds
 from ._recording import Recording
 from ._schema import SWITCH, WAIT_KINDS, WAKEUP, WAKEUP_NEW, WAKING
+from ._source import searchable
 from ._stretches import IDLE, NOTHING, Columns, Runner, Stretch, Stretches, Wakings, stretches_of
 from ._values import Event, Place
 from .native import layout
@@ -29,6 +31,8 @@ NO_NAME = "<...>"
 CONTEXTS = (("zZ", "nmi"), ("hH", "hardirq"), ("s", "softirq"))
 # Stamps before all others and after them.
 NEVER, FOREVER = -1, 1 << 62
+# What finds in which context an event was, as `context_of` returns it.
+Contexts = Callable[[Event], str | None]
 # For the events of a CPU: before which ones something was lost, from when on, and until when.
 Losses = tuple["NDArray[np.bool_]", "NDArray[np.int64]", "NDArray[np.int64]"]
 
@@ -97,7 +101,7 @@ class Scene:
         events: Events,
         lines: NDArray[np.integer[Any]],
         holes: tuple[Hole, ...] = (),
-        text: Buffer | None = None,
+        text: Buffer | Contexts | None = None,
         wakings: Wakings | None = None,
         bounds: Bounds = Bounds(),
     ) -> None:
@@ -112,7 +116,8 @@ class Scene:
         holes
             Where events of the recording were lost.
         text
-            A text with the lines of those events that begin waits; None if it isn't known.
+            A text with the lines of those events that begin waits, or what finds the context of an event; None if neither is
+            known.
         wakings
             Who was woken between the ends of the wait; if None, that is found among the events.
         bounds
@@ -128,6 +133,12 @@ class Scene:
         self._turns: dict[int, NDArray[np.int64]] = {}
         self._acts: dict[int, NDArray[np.int64]] = {}
         self._runs: dict[int, NDArray[np.int64]] = {}
+        # For each CPU: the lines of its events in ascending order, and which of its events these are.
+        self._lines: dict[int, tuple[NDArray[np.integer[Any]], NDArray[np.int64]]] = {}
+        self._holes: dict[int, list[tuple[int, int]]] = {}
+        # The texts of fields of all events, if many are asked for, and how many were asked for.
+        self._texts: dict[str, NDArray[np.object_]] = {}
+        self._asked: dict[str, int] = {}
         self.wants = Wants()
 
     def event(self, at: int) -> Event:
@@ -136,9 +147,15 @@ class Scene:
 
     def at(self, cpu: int, line: int) -> int | None:
         """Return the event of a CPU at a line of the whole recording; None if it isn't there."""
-        places = self.places_of(cpu)
-        events = places[self.line[places] == line]
-        return int(events[0]) if len(events) else None
+        if cpu not in self._lines:
+            places = self.places_of(cpu)
+            lines = self.line[places]
+            # They ascend unless the text isn't in the order of time.
+            order = lines.argsort(kind="stable")
+            self._lines[cpu] = lines[order], places[order]
+        lines, events = self._lines[cpu]
+        at = int(lines.searchsorted(line))
+        return int(events[at]) if at < len(lines) and lines[at] == line else None
 
     def steps(self, wait: Wait) -> Steps:
         """Return the events of a wait. Raises `LookupError` if those of its ends aren't here."""
@@ -308,7 +325,27 @@ class Scene:
         """Return the same for an event."""
         if self._text is None:
             return None
+        if callable(self._text):
+            return self._text(event)
         return context_of(event, lines_with(self._text, stamp_of(event).encode()))
+
+    # ---- what is found once for all waits
+
+    def holes_of(self, cpu: int) -> list[tuple[int, int]]:
+        """Return from when to when events of a CPU were lost."""
+        if cpu not in self._holes:
+            self._holes[cpu] = [times_of(hole) for hole in self.holes if hole.cpu == cpu]
+        return self._holes[cpu]
+
+    def texts(self, field: str, events: NDArray[np.int64]) -> list[str] | NDArray[np.object_]:
+        """Return a field of some events, which holds a text. If many are asked for, all are decoded together."""
+        self._asked[field] = self._asked.get(field, 0) + len(events)
+        if field not in self._texts and self._asked[field] <= len(self.events):
+            array = self.array[events]
+            return list(map(layout.text_of, array[field].tolist(), array[f"{field}_length"].tolist()))
+        if field not in self._texts:
+            self._texts[field] = texts(self.array, field)
+        return self._texts[field][events]
 
 
 class Walk:
@@ -321,7 +358,7 @@ class Walk:
 
     def __init__(self, scene: Scene, cpu: int, start: int, stop: int) -> None:
         self.scene, self.cpu, self.start, self.stop = scene, cpu, start, stop
-        self.holes = [times_of(hole) for hole in scene.holes if hole.cpu == cpu]
+        self.holes = scene.holes_of(cpu)
         # The end of the last stretch, the stamp of the last event of the CPU, and the event that shows what ran since then: its
         # number, or ~ of that if it shows what ran before it.
         self.since, self.seen, self.setter = start, NEVER, NOTHING
@@ -419,23 +456,17 @@ class Walk:
         columns = Columns.empty(len(cuts))
         is_turn = cuts < len(self.turns)
         turns = self.turns[cuts[is_turn]]
-        fields = scene.array[turns]
-        pids = fields["prev_pid"]
-        columns.pid[is_turn], columns.prio[is_turn] = pids, np.where(pids, fields["prev_prio"], NOTHING)
+        pids = scene.prev_pid[turns]
+        columns.pid[is_turn], columns.prio[is_turn] = pids, np.where(pids, scene.array["prev_prio"][turns], NOTHING)
         columns.line[is_turn] = scene.line[turns]
-        columns.task[is_turn] = texts_of(fields, "prev_comm")
+        columns.task[is_turn] = scene.texts("prev_comm", turns)
         columns.task[is_turn & (columns.pid == 0)] = IDLE.task
-        columns.left[is_turn] = texts_of(fields, "prev_state")
+        columns.left[is_turn] = scene.texts("prev_state", turns)
         for at in np.flatnonzero(~is_turn).tolist():
             setter = int(self.setters[cuts[at] - len(self.turns)])
             if setter != NOTHING:
                 columns.put(at, scene.running(~setter) if setter < 0 else scene.next_of(setter))
         return columns
-
-
-def texts_of(array: NDArray[np.void], field: str) -> list[str]:
-    """Return a field of some events, which holds a text."""
-    return list(map(layout.text_of, array[field].tolist(), array[f"{field}_length"].tolist()))
 
 
 def of_desk(desk: Desk, recording: Recording | None = None) -> Scene:
@@ -444,7 +475,39 @@ def of_desk(desk: Desk, recording: Recording | None = None) -> Scene:
     lines = events.array["line"].copy()
     if recording is None:
         return Scene(events, lines, desk.holes)
-    return Scene(events, recording.lines(events.array["cpu"], lines), recording.holes, recording.text)
+    contexts = LineContexts(recording.text)
+    return Scene(events, recording.lines(events.array["cpu"], lines), recording.holes, contexts)
+
+
+class LineContexts:
+    """Finds the contexts of events by the lines of a text, whose stamps are read once if there are several events."""
+
+    def __init__(self, text: Buffer) -> None:
+        """Take a text, which stays as it is."""
+        self._text = searchable(text)
+        self._is_first = True
+        # The stamps in order, and for each of them where its line begins and ends.
+        self._stamps: NDArray[np.int64] | None = None
+        self._begins = self._ends = np.zeros(0, "i8")
+
+    def __call__(self, event: Event) -> str | None:
+        """Return the context of an event."""
+        if self._is_first:
+            self._is_first = False
+            return context_of(event, lines_with(self._text, stamp_of(event).encode()))
+        if self._stamps is None:
+            self._read()
+        assert self._stamps is not None
+        low, high = (int(self._stamps.searchsorted(event.stamp, side)) for side in ("left", "right"))
+        lines = zip(self._begins[low:high].tolist(), self._ends[low:high].tolist())
+        return context_of(event, (self._text[begin:end] for begin, end in lines))
+
+    def _read(self) -> None:
+        """Read the stamps of all lines."""
+        lines = lines_in(self._text)
+        order = lines.stamps.argsort(kind="stable")
+        begins = np.concatenate([np.zeros(1, "i8"), lines.ends[:-1]])[: len(lines.ends)]
+        self._stamps, self._begins, self._ends = lines.stamps[order], begins[order], lines.ends[order]
 
 
 def runner_of(task: str | None, pid: int | None, prio: int | None) -> Runner:

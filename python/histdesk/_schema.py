@@ -116,6 +116,8 @@ ATTACHABLE_EVENTS = tuple(event.name for event in EVENTS if event.is_attachable)
 LINE_EVENTS = (*TRACED_EVENTS, EVENT_NAMES[OTHER])
 MADE_EVENT = EVENT_NAMES[WAKEUP_LATENCY]
 TEXT_FIELDS = frozenset(field.name for event in EVENTS for field in event.fields if field.is_text)
+# The fields whose values an attribute of another name holds, and that attribute.
+RENAMED = {field.name: field.column for event in EVENTS for field in event.fields if field.column not in (None, field.name)}
 
 WAIT_KINDS = tuple(wait.name for wait in WAITS)
 WOKEN, NEW, PREEMPTED = range(len(WAITS))

@@ -57,7 +57,8 @@ class TaskSummary(NamedTuple):
         How often a CPU switched to it.
     waits, total, mean, p99, max
         How many waits for a processor it had; how long these were together, on average, by the 99th percentile and at most.
-        The last three are None if there is no wait.
+        The percentile is by nearest rank: the least wait such that at least 99 % aren't longer. The last three are None if
+        there is no wait.
     end_stamp, end_cpu, end_line
         Where the longest of these waits ended; None if there is none.
     preempted

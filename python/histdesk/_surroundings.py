@@ -3,7 +3,7 @@
 from __future__ import annotations
 
 import bisect
-from collections.abc import Callable, Iterable, Iterator
+from collections.abc import Callable, Iterable, Iterator, Sequence
 from typing import TYPE_CHECKING, Any, NamedTuple, TypeVar
 
 import numpy as np
@@ -11,7 +11,7 @@ import numpy as np
 from ._events import Events
 from ._losses import Hole, seconds
 from ._recording import LIMIT, Recording
-from ._scene import NEVER, Bounds, Scene, Wait, lines_with
+from ._scene import FOREVER, NEVER, Bounds, Contexts, Scene, Wait, context_of, lines_with
 from ._schema import WAKEUP_NEW, WAKING
 from ._slices import Source
 from ._stream import Checkpoint
@@ -23,6 +23,7 @@ if TYPE_CHECKING:
     from numpy.typing import NDArray
 
     from ._source import Buffer
+    from ._values import Event
 
 Answer = TypeVar("Answer")
 
@@ -31,6 +32,8 @@ Answer = TypeVar("Answer")
 LEAD, WIDTH, GROWTH = 2048, 1000, 8
 # About how many events are read at once.
 PART = 1 << 18
+# About how many events waits have together that are explained together, and how many events may be between two of them.
+GROUP, GAP = 1 << 19, 1 << 14
 # For how many more there is room at both ends of those that are kept.
 SPARE = 1 << 10
 
@@ -80,15 +83,59 @@ def gather(
     around = Around(source, wait, margin, look is not None)
     around.read()
     while True:
-        scene = around.scene()
-        if look:
-            look(scene)
-        if not (look and around.reads_more(scene)):
-            found = answer(scene)
-            if not around.reads_more(scene):
-                return found
+        scene = around.settled(look) if look else around.scene()
+        found = answer(scene)
+        if not around.reads_more(scene):
+            return found
         # There is no room for two of them.
         del scene
+
+
+def shared_scene(source: Source, waits: Sequence[Wait], look: Callable[[Scene], None]) -> Scene:
+    """Return the events around waits that are near each other, which begin in this order: one scene for all of them.
+
+    Parameters
+    ----------
+    source
+        The recording.
+    waits
+        The waits; a desk holds their events.
+    look
+        Finds out which events are wanted.
+
+    Raises
+    ------
+    ValueError, OSError
+        What `Source.between` raises.
+    """
+    last = max(wait.end or wait.begin for wait in waits)
+    around = Around(source, Wait("", 0, waits[0].begin, last), 0, is_alone=False, contexts=contexts_in(source))
+    around.read()
+    return around.settled(look)
+
+
+def groups_of(source: Source, waits: Sequence[Wait]) -> Iterator[list[int]]:
+    """Go through waits in groups of those that are near each other, as indices in the order in which they begin. A group has
+    about `GROUP` events at most, unless it is a single wait."""
+    stamps = [checkpoint.last for checkpoint in known(source)]
+    totals = [checkpoint.total for checkpoint in known(source)]
+
+    def before(stamp: int) -> int:
+        return totals[min(bisect.bisect_left(stamps, stamp), len(totals) - 1)]
+
+    group: list[int] = []
+    first = last = 0
+    for at in sorted(range(len(waits)), key=lambda at: waits[at].begin):
+        begin, end = before(waits[at].begin.stamp), before((waits[at].end or waits[at].begin).stamp)
+        if group and (begin - last > GAP or max(last, end) - first > GROUP):
+            yield group
+            group = []
+        if not group:
+            first = last = begin
+        group.append(at)
+        last = max(last, end)
+    if group:
+        yield group
 
 
 def acts_of(source: Source, pid: int, start: int, until: int) -> Scene:
@@ -110,9 +157,10 @@ def is_about(array: np.recarray[Any, Any], pid: int) -> NDArray[np.bool_]:
 class Around:
     """The events around a wait: those of a stretch of time, and those of some moments before and after it."""
 
-    def __init__(self, source: Source, wait: Wait, margin: int, is_alone: bool) -> None:
+    def __init__(self, source: Source, wait: Wait, margin: int, is_alone: bool, contexts: Contexts | None = None) -> None:
         """Take a wait, and how many microseconds on both sides of it are read too. If it is explained by itself (`is_alone`),
-        the events are for nothing else."""
+        the events are for nothing else. If it stands for several waits, `contexts` finds the contexts of their events, and no
+        event is left out."""
         self._source, self._wait, self._is_alone = source, wait, is_alone
         self._start = wait.begin.stamp - margin
         self._until = (wait.end.stamp if wait.end else last_of(source)) + margin + 1
@@ -122,7 +170,9 @@ class Around:
         self._moments: dict[int, Piece] = {}
         self._before: set[int] = set()
         self._after: set[int] = set()
-        self._text: Buffer | None = None
+        self._text: Buffer | Contexts | None = contexts
+        # With more events than this, only those are kept that the wait needs.
+        self._room = FOREVER if contexts else PART if is_alone else LIMIT
         self._long: Long | None = None
         # What was read, in one array, once that is asked for.
         self._store: Store | None = None
@@ -139,6 +189,16 @@ class Around:
             self._store = Store(self._pieces)
         return Scene(*self._store.between(before, after), self._source._losses.holes, self._text, wakings, bounds)
 
+    def settled(self, look: Callable[[Scene], None]) -> Scene:
+        """Return what was read, after reading all that `look` wants."""
+        while True:
+            scene = self.scene()
+            look(scene)
+            if not self.reads_more(scene):
+                return scene
+            # There is no room for two of them.
+            del scene
+
     def read(self) -> None:
         """Read the wait's own time, and some events before it."""
         count, begin = 0, self._wait.begin.stamp
@@ -154,7 +214,7 @@ class Around:
             del recording
             count += len(stamps)
             self._pieces.append(self._long.keep(piece) if self._long else piece)
-            if self._long is None and count > (PART if self._is_alone else LIMIT):
+            if self._long is None and count > self._room:
                 self._leave_out(count)
 
     def _leave_out(self, count: int) -> None:
@@ -287,6 +347,22 @@ def is_after(array: np.recarray[Any, Any], lines: NDArray[np.integer[Any]], plac
     for column, value in ((array["cpu"], place.cpu), (array["stamp"], place.stamp)):
         mask = (column > value) | (column == value) & mask
     return mask
+
+
+def contexts_in(source: Source) -> Contexts:
+    """Return what finds the contexts of a recording's wakings, by the flags of their lines."""
+    # The part of its text that was read last, by its ends: wakings are often near the one before.
+    ends: tuple[int, int] | None = None
+    text = b""
+
+    def context(event: Event) -> str | None:
+        nonlocal ends, text
+        first, last = source._around(event.stamp, event.stamp + 1, 0)
+        if ends != (first.at, last.at):
+            ends, text = (first.at, last.at), source._text.read(first.at, last.at)
+        return context_of(event, lines_with(text, f"{seconds(event.stamp)}:".encode()))
+
+    return context
 
 
 def lines_at(text: Buffer, stamp: int) -> bytes:

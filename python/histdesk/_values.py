@@ -5,6 +5,7 @@ from __future__ import annotations
 from typing import NamedTuple, TypeAlias
 
 from ._public import public
+from ._schema import ENDS_WITH as SWITCH
 
 MOST = 2**64 - 1
 
@@ -201,6 +202,8 @@ class Event(NamedTuple):
         The CPU on which a woken task is to run.
     prev_comm, prev_pid, prev_prio, prev_state
         The task that was switched from, and its state.
+    next_comm, next_pid, next_prio
+        The task that was switched to, as `comm`, `pid` and `prio` of a switch.
     """
 
     stamp: int
@@ -217,6 +220,21 @@ class Event(NamedTuple):
     prev_pid: int | None = None
     prev_prio: int | None = None
     prev_state: str | None = None
+
+    @property
+    def next_comm(self) -> str | None:
+        """The name of the task that was switched to."""
+        return self.comm if self.name == SWITCH else None
+
+    @property
+    def next_pid(self) -> int | None:
+        """The PID of the task that was switched to."""
+        return self.pid if self.name == SWITCH else None
+
+    @property
+    def next_prio(self) -> int | None:
+        """The priority of the task that was switched to."""
+        return self.prio if self.name == SWITCH else None
 
 
 @public

@@ -270,7 +270,8 @@ class WaitAnswer(Answer):
         -------
         list of named tuples
             The key and the kind; `count`, `total`, `mean`, `p50`, `p90`, `p99` and `max`, in microseconds; where the longest
-            wait ended (`end_stamp`, `end_cpu`, `end_line`) and whose it was; and how many waits were `doubtful`. By
+            wait ended (`end_stamp`, `end_cpu`, `end_line`) and whose it was; and how many waits were `doubtful`. Percentiles
+            are by nearest rank: `p99` is the least wait such that at least 99 % of the row's waits aren't longer. By
             `"task"`, the name is the one at the longest wait, since a task may change it. Figures are None if all waits of a
             row are doubtful.
 

@@ -368,10 +368,10 @@ def waits(trace: Trace | Recording | Desk, *, lenient: bool = False, jobs: int |
     OSError
         If the file can't be read.
     ValueError
-        If it is a recording of perf or trace-cmd, with the tool that converts it; or if a `Recording` holds only some CPUs,
-        since tasks are woken from any.
+        If it is a recording of perf or trace-cmd, with the tool that converts it; if a `Recording` holds only some CPUs, since
+        tasks are woken from any; or if `jobs` isn't from 1 to 512.
     TypeError
-        If it is no trace.
+        If it is no trace, or `jobs` is no whole number.
     ImportError
         If there is no numpy.
 
@@ -387,6 +387,7 @@ def waits(trace: Trace | Recording | Desk, *, lenient: bool = False, jobs: int |
     w      42  woken          1     50  50.0   50   50   50   50  1.000150  0:2
     a       1  preempted      1     20  20.0   20   20   20   20  1.000170  0:3
     """
+    jobs = _parallel.check_jobs(jobs)
     if isinstance(trace, Desk):
         return waits_of(trace, None)
     if isinstance(trace, Recording):

@@ -4,8 +4,8 @@ from __future__ import annotations
 
 import html
 import warnings
-from collections.abc import Sequence
-from typing import TYPE_CHECKING, Any, NamedTuple, Protocol
+from collections.abc import Iterator, Sequence
+from typing import TYPE_CHECKING, Any, NamedTuple, Protocol, cast, overload
 
 from . import _why_text
 from ._chain import STEPS, Chain
@@ -13,11 +13,13 @@ from ._columns import COLUMNS
 from ._losses import Hole, LossWarning
 from ._public import public
 from ._recording import Recording
-from ._scene import FORKED, PREEMPTED, Scene, Steps, Wait, spanned
+from ._scene import FORKED, PREEMPTED, Scene, Steps, Wants, spanned
+from ._scene import Wait as FoundWait
 from ._slices import Source
 from ._stretches import Runner, Share, Stretch, shares_of
-from ._surroundings import gather
-from ._values import Event
+from ._surroundings import gather, groups_of, shared_scene
+from ._values import Event, Wait
+from .native.arguments import Located, whole
 
 if TYPE_CHECKING:
     from ._desk import Desk, Trace
@@ -181,8 +183,29 @@ class Why(Fields):
         return f"<pre>{html.escape(self.text())}</pre>"
 
 
+@overload
+def why(trace: Desk | Trace | Recording | Waits, event: int | None = None, line: int | None = None) -> Why:
+    """Explain the wait of the event of a CPU at a line, or the longest one."""
+
+
+@overload
+def why(trace: Desk | Trace | Recording | Waits, event: Wait | Located) -> Why:
+    """Explain a wait, or that of an event."""
+
+
+@overload
+def why(trace: Desk | Trace | Recording | Waits, *, cpu: int | None, line: int | None) -> Why:
+    """Explain the wait of the event of a CPU at a line."""
+
+
 @public
-def why(trace: Desk | Trace | Recording | Waits, cpu: int | None = None, line: int | None = None) -> Why:
+def why(
+    trace: Desk | Trace | Recording | Waits,
+    event: Wait | Located | int | None = None,
+    line: int | None = None,
+    *,
+    cpu: int | None = None,
+) -> Why:
     """Explain a wait.
 
     The wait is the one that an event ends, or else the one that it begins, or in which the task that it wakes is waiting
@@ -193,8 +216,13 @@ def why(trace: Desk | Trace | Recording | Waits, cpu: int | None = None, line: i
     ----------
     trace
         What `waits` takes, of any length; or the `Waits` of a trace, of which only the events around the wait are read then.
-    cpu, line
-        The event: its CPU, and its line there, as `Waits` and the tools print places. Both or neither.
+    event
+        The wait, as a `Wait`, such as `waits[3]`; or an event, as a `Place`, such as `wait.begin`, an `Event`, or anything else
+        that has a CPU and a line; or the event's CPU, and then its `line` follows.
+    line
+        The event's line on that CPU, as `Waits` and the tools print places.
+    cpu
+        The event's CPU, as another name for `event`.
 
     Returns
     -------
@@ -204,10 +232,10 @@ def why(trace: Desk | Trace | Recording | Waits, cpu: int | None = None, line: i
     Raises
     ------
     LookupError
-        If no event is there, or it belongs to no wait; the message has the reason. Without an event, if there is no wait that
-        isn't doubtful.
+        If no event is there, or it belongs to no wait, or a `Wait` or a `Place` is of another recording; the message has the
+        reason. Without an event, if there is no wait that isn't doubtful.
     TypeError
-        If only one of `cpu` and `line` is given, or one is no number.
+        If a CPU is given without a line, or a line without a CPU, or one is no number.
     ValueError
         If `trace` is `Waits` that have no `source`; or without an event, if it is a `Recording` of only some CPUs.
 
@@ -226,9 +254,8 @@ def why(trace: Desk | Trace | Recording | Waits, cpu: int | None = None, line: i
     from ._explainer import explainer_of
     from ._waits import Waits
 
-    if (cpu is None) != (line is None):
-        raise TypeError("an event has both a CPU and a line; without both, the longest wait is explained")
-    if cpu is None and isinstance(trace, Recording) and trace.choice.cpus is not None:
+    chosen = chosen_by(event, line, cpu)
+    if chosen is None and isinstance(trace, Recording) and trace.choice.cpus is not None:
         raise ValueError("the longest wait needs the events of all CPUs, since tasks are woken from any; pass a CPU and a line")
     has_warned = isinstance(trace, (Desk, Waits))
     if isinstance(trace, Recording):
@@ -236,10 +263,53 @@ def why(trace: Desk | Trace | Recording | Waits, cpu: int | None = None, line: i
     explainer = explainer_of(trace)
     if explainer.waits.warning and not has_warned:
         warnings.warn(explainer.waits.warning, LossWarning, stacklevel=2)
-    return explainer.explain_longest() if cpu is None or line is None else explainer.explain_at(cpu, line)
+    return explainer.explain_longest() if chosen is None else explainer.explain_at(*chosen)
 
 
-def scene_in(source: Source, wait: Wait) -> Scene:
+def chosen_by(event: Wait | Located | int | None, line: int | None, cpu: int | None) -> tuple[int, int, int | None] | None:
+    """Return the CPU and the line of the event by which a wait is chosen, and its stamp if that is known; None if no event is
+    given. Raises `TypeError` if a part of it is missing, or isn't a number."""
+    if isinstance(event, Wait):
+        event = event.end
+    if event is not None and not hasattr(event, "__index__"):
+        if line is not None or cpu is not None:
+            raise TypeError("a Wait or a Place stands by itself, without another CPU or line")
+        if not (hasattr(event, "cpu") and hasattr(event, "line")):
+            raise TypeError(f"{event!r} is neither a Wait, nor a Place, nor the number of a CPU")
+        stamp = getattr(event, "stamp", None)
+        return whole(event.cpu, "cpu"), whole(event.line, "line"), None if stamp is None else whole(stamp, "stamp")
+    if event is not None and cpu is not None:
+        raise TypeError("the CPU of an event is given twice")
+    number = cpu if event is None else cast(int, event)
+    if number is None and line is None:
+        return None
+    if number is None or line is None:
+        raise TypeError("an event has both a CPU and a line; without both, the longest wait is explained")
+    return whole(number, "cpu"), whole(line, "line"), None
+
+
+def whys_in(source: Source, waits: Sequence[FoundWait]) -> Iterator[tuple[int, Why]]:
+    """Explain waits of a recording, of which events are read once for all that are near each other. Each comes with its index,
+    in the order of time. Raises what `Source.between` raises."""
+    for group in groups_of(source, waits):
+        some = [waits[at] for at in group]
+        if len(some) == 1:
+            yield group[0], why_in(source, some[0])
+            continue
+
+        def look_at_all(scene: Scene, some: Sequence[FoundWait] = some) -> None:
+            for wait in some:
+                look(scene, wait)
+
+        scene = shared_scene(source, some, look_at_all)
+        for at in group:
+            scene.wants = Wants()
+            why = why_of(scene, waits[at])
+            # What is wanted at the ends of the scene is read for this wait.
+            yield at, why_in(source, waits[at]) if scene.wants.any() else why
+
+
+def scene_in(source: Source, wait: FoundWait) -> Scene:
     """Return the events of a recording that explain a wait. Raises what `Source.between` raises."""
 
     def answer(scene: Scene) -> Scene:
@@ -249,12 +319,12 @@ def scene_in(source: Source, wait: Wait) -> Scene:
     return gather(source, wait, answer, look=lambda scene: look(scene, wait))
 
 
-def why_in(source: Source, wait: Wait) -> Why:
+def why_in(source: Source, wait: FoundWait) -> Why:
     """Explain a wait of a recording. Raises what `Source.between` raises."""
     return gather(source, wait, lambda scene: why_of(scene, wait), look=lambda scene: look(scene, wait))
 
 
-def look(scene: Scene, wait: Wait) -> None:
+def look(scene: Scene, wait: FoundWait) -> None:
     """Find out what is missing at the ends of a wait. Raises what `why_of` raises."""
     steps = scene.steps(wait)
     for cpu in cpus_of(steps):
@@ -268,7 +338,7 @@ def cpus_of(steps: Steps) -> list[int]:
     return [steps.cpu, *(cpu for cpu in [steps.queue_cpu] if cpu is not None and cpu != steps.cpu)]
 
 
-def why_of(scene: Scene, wait: Wait) -> Why:
+def why_of(scene: Scene, wait: FoundWait) -> Why:
     """Explain a wait. Raises `LookupError` if the scene doesn't have its events."""
     steps = scene.steps(wait)
     begin, end = scene.event(steps.begin), scene.event(steps.end) if wait.end else None

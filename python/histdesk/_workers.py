@@ -23,7 +23,7 @@ from . import _tables
 from ._losses import LossWarning
 from ._questions import Answer, Asked, Failed, Outcome
 from ._recording import read
-from ._refusal import refusal_words
+from ._refusal import Refused, refusal_words
 
 if TYPE_CHECKING:
     from ._many import Question
@@ -128,7 +128,7 @@ def words_of(error: BaseException) -> str:
         return refusal_words("refused 1")
     if isinstance(error, OSError):
         return _tables.printable(error.strerror or str(error))
-    words = str(error)
+    words = error.words if isinstance(error, Refused) else str(error)
     is_plain = isinstance(error, ImportError) or type(error).__module__.startswith("histdesk")
     return _tables.printable(words if words and is_plain else f"{type(error).__name__}: {words}")
 

@@ -10,6 +10,7 @@ A session isn't tried if the tools have no numpy. The last line says how many of
 
 import os
 import re
+import shutil
 import subprocess
 import sys
 import tempfile
@@ -57,10 +58,14 @@ def session_prints(folder, commands):
             yield subprocess.run(words, cwd=work, stdout=subprocess.PIPE, stderr=subprocess.STDOUT, text=True).stdout
 
 
+def has_numpy(python):
+    words = [python, "-c", "import numpy"]
+    return bool(shutil.which(python)) and subprocess.run(words, stderr=subprocess.DEVNULL, check=False).returncode == 0
+
+
 def main(folder, *pages):
     count, good = 0, 0
-    has_numpy = subprocess.run(["python3", "-c", "import numpy"], stderr=subprocess.DEVNULL).returncode == 0
-    for page in pages if has_numpy else ():
+    for page in pages if any(map(has_numpy, ("python3", "/usr/bin/python3"))) else ():
         for commands in sessions(page):
             for (command, expected), output in zip(commands, session_prints(folder, commands)):
                 count += 1

@@ -4,7 +4,8 @@
     options.py > WHAT WENT WRONG
 
 Each tool of tools/ is in build/install, python/pyproject.toml, tools/README.md, docs/GUIDE.md and histdesk-tools(1), whose
-synopsis has the options that its --help lists. The last line says how many things hold. It needs no library.
+synopsis has the options that its --help lists. What shows a percentile says what one is: --help of the tools with such
+columns, the reference and that man page. The last line says how many things hold. It needs no library.
 """
 
 import os
@@ -22,6 +23,8 @@ MAN = "man/histdesk-tools.1"
 # What stands for several options in the synopsis, and an option that the page describes for all tools that read files.
 PART = {"--from", "--until", "--cpu", "--events", "--lenient"}
 SHARED = {"--jobs"}
+# The tools that print percentiles.
+PERCENTILES = ["diff", "summary", "waits"]
 Thing = Tuple[str, bool]
 
 
@@ -43,11 +46,16 @@ def synopses(page: str) -> Dict[str, Set[str]]:
     return forms
 
 
-def options(tool: str) -> Set[str]:
-    """Return the options that --help of a tool lists, except for --help."""
+def usage(tool: str) -> str:
+    """Return what --help of a tool prints."""
     command = [os.path.join(ROOT, "tools", tool), "--help"]
     ran = subprocess.run(command, stdout=subprocess.PIPE, env={**os.environ, "PYTHONDONTWRITEBYTECODE": "1"}, check=True)
-    return set(re.findall(r"^  (?:-\w, )?(--?[a-z][a-z-]*)", ran.stdout.decode(), re.MULTILINE)) - {"-h", "--help"}
+    return ran.stdout.decode()
+
+
+def options(tool: str) -> Set[str]:
+    """Return the options that --help of a tool lists, except for --help."""
+    return set(re.findall(r"^  (?:-\w, )?(--?[a-z][a-z-]*)", usage(tool), re.MULTILINE)) - {"-h", "--help"}
 
 
 def things() -> Iterator[Thing]:
@@ -68,6 +76,9 @@ def things() -> Iterator[Thing]:
         yield f"docs/GUIDE.md doesn't show tools/{name}", f"tools/{name}" in text_of("docs/GUIDE.md")
         difference = (options(name) ^ synopses(page).get(name, set())) - SHARED
         yield f"{MAN}: other options of {name}: {' '.join(sorted(difference))}", not difference
+    percentiles = {f"tools/{name} --help": usage(name) for name in PERCENTILES}
+    for where, text in {**percentiles, MAN: page, "docs/REFERENCE.md": text_of("docs/REFERENCE.md")}.items():
+        yield f"{where} doesn't say what p99 is", "by nearest rank" in " ".join(text.split())
 
 
 def main() -> int:

@@ -7,7 +7,9 @@
 In each document, a link leads to a file that is there, and to a heading of it; each file and folder of the repository that it
 names is there; a line has at most 120 characters, except in tables and blocks; no word of AVOIDED stands in it. docs/ has the
 pages of PAGES and no others. A document or script that sources and scripts name is there. README.md has
-the line that build/needs prints, and docs/TESTING.md counts what there is; --write writes these counts there first.
+the line that build/needs prints; README.md, docs/TESTING.md and bench/README.md count what there is, and --write writes these
+counts there first. The logic and the kits that documents name are those of build/recipes.py, and the seconds in README.md are
+those of bench/README.md.
 --links looks only at the links of these pages, which may stand anywhere. The last line says how many things hold.
 """
 
@@ -15,6 +17,7 @@ import ast
 import glob
 import os
 import re
+import runpy
 import subprocess
 import sys
 import unicodedata
@@ -22,6 +25,12 @@ from collections import Counter
 from typing import List
 
 ROOT = os.path.realpath(os.path.join(os.path.dirname(os.path.realpath(__file__)), "..", ".."))
+# Nothing is written beside the sources.
+sys.dont_write_bytecode = True
+sys.path.append(os.path.join(ROOT, "build"))
+
+import graph
+
 # The pages, each for one reader.
 PAGES = [
     "README.md",
@@ -37,6 +46,7 @@ PAGES = [
 # The other documents: one about the past, one that a program writes, and those that point elsewhere.
 PAST = "CHANGELOG.md"
 OTHERS = [PAST, "docs/CRATES.md", "examples/README.md", "tools/README.md", "python/README.md"]
+# Has a table of what there is, by `counts`; the others have numbers in sentences, by `SENTENCES`.
 COUNTING = "docs/TESTING.md"
 MOST = 120
 AVOIDED = [
@@ -157,8 +167,8 @@ def mentions():
     own = ["*.md", "tests/rows", "examples/*.trace", "examples/*.expected", "*.edit"]
     words = ["git", "-C", ROOT, "ls-files", "-z", "--cached", "--others", "--exclude-standard", "--", "."]
     ran = subprocess.run([*words, *(f":!{form}" for form in own)], stdout=subprocess.PIPE, check=True)
-    pages = {os.path.basename(path) for path in files("**", "*.md")}
-    names, wrong = [], []
+    pages, names, wrong = {os.path.basename(path) for path in files("**", "*.md")}, [], []
+    scripts = {os.path.basename(path) for form in ("*.py", "*.sh") for path in files("**", form)}
     for path in ran.stdout.decode().split("\0")[:-1]:
         try:
             text = text_of(path) if is_there(path) else ""
@@ -168,9 +178,11 @@ def mentions():
             names.append(name)
             if not is_there(name) and not is_there(os.path.join(os.path.dirname(path), name)):
                 wrong.append(f"{path}: {name} isn't there")
-        for name in re.findall(r"(?<![\w/.-])[A-Z]{4,}\.md\b", text):
+        # Tests also name files that they make.
+        bare = [] if path.startswith("tests/") else re.findall(r"(?<![\w/.*{},}-])[a-z_]+\.(?:py|sh)\b", text)
+        for name in [*re.findall(r"(?<![\w/.-])[A-Z]{4,}\.md\b", text), *bare]:
             names.append(name)
-            if name not in pages:
+            if name not in pages | scripts:
                 wrong.append(f"{path}: {name} isn't there")
     return names, wrong
 
@@ -212,6 +224,30 @@ def packages():
     return [line], [] if there else ["README.md lacks what build/needs prints"]
 
 
+def kits():
+    """Return the names of kits and logics in documents, and those that are missing, or that nothing was proved with."""
+    # A script beside this one has the same name.
+    recipes = runpy.run_path(os.path.join(ROOT, "build", "recipes.py"))
+    wanted = {recipes["LOGIC"], *recipes["KITS"]}
+    pages = {path: set(re.findall(r"\brattle-kit-\w+|\b[0-9a-f]{16}\b", text_of(path))) for path in [*PAGES, "NOTICE"]}
+    wrong = [f"{path}: {name} is none of build/recipes.py" for path, names in pages.items() for name in names - wanted]
+    wrong += [f"{path}: lacks {name}" for path in ("README.md", "docs/PROOF.md") for name in wanted - pages[path]]
+    return [name for names in pages.values() for name in names], wrong
+
+
+def seconds():
+    """Return the seconds that README.md compares with perf's, and those that bench/README.md doesn't have, by events in
+    millions."""
+    table = text_of("bench/README.md").partition("two recordings of `perf bench sched`: ")[2]
+    events = [round(int(number.replace(",", "")) / 1e6, 1) for number in re.findall(r"([0-9,]{9,}) events", table)[:2]]
+    rows = dict(re.findall(r"^\| (`[^|]*`) \| (.*) \|$", table, re.MULTILINE))
+    columns = [(rows[f"`{name}`"].split(" | ")[0::2]) for name in ("tools/waits", "perf sched latency")]
+    measured = [(str(number), *times) for number, *times in zip(events, *columns)]
+    form = r"those of ([\d.]+) million[^;]*?,? ([\d.]+) s, compared with ([\d.]+) s"
+    told = re.findall(form, text_of("README.md").replace("The waits of", "those of"))
+    return told, [f"README.md: {' '.join(one)} isn't in bench/README.md" for one in set(told) ^ set(measured)]
+
+
 def tests_in(*names):
     """Return how many tests these files of Python have."""
     paths = (os.path.join(ROOT, "tests", name) for name in names)
@@ -235,19 +271,44 @@ def counts():
     }
 
 
-def write_counts(path):
+def sentences():
+    """Return the sentences of pages that count something, as patterns around the number, with how much there is of it."""
+    below = graph.read_crates()
+    first, products = [graph.PRODUCTS["histdesk"].crate], [product.crate for product in graph.PRODUCTS.values()]
+    return [
+        ("README.md", r"(refuses )([0-9,]+)( planted mistakes)", counts()["Edits that must fail"]),
+        ("bench/README.md", r"(`build/build` proves )([0-9,]+)( crates)", len(graph.in_order(products, below))),
+        ("bench/README.md", r"(`rt ci` proves all )([0-9,]+)(, with)", len(below)),
+        ("bench/README.md", r"(`\./histdesk`, proves )([0-9,]+)( of the)", len(graph.in_order(first, below))),
+        ("bench/README.md", r"( of the )([0-9,]+)( crates; it has)", len(graph.in_order(products, below))),
+    ]
+
+
+def counted(path):
+    """Return the text of a page with the counts of what there is."""
     text = text_of(path)
-    for what, count in counts().items():
+    for what, count in counts().items() if path == COUNTING else ():
         text = re.sub(rf"^(\| {what} \| )[0-9,]+ \|", rf"\g<1>{count:,} |", text, flags=re.MULTILINE)
+    for page, form, count in sentences():
+        text = re.sub(form.replace(" ", r"\s"), rf"\g<1>{count:,}\g<3>", text) if page == path else text
+    return text
+
+
+def write_counts(path):
+    text = counted(path)
     with open(os.path.join(ROOT, path), "w", encoding="utf-8") as file:
         file.write(text)
 
 
-def check_counts(path):
-    """Return what a page's table counts, and the counts that differ from what there is."""
-    rows = dict(re.findall(r"^\| ([^|]*?) \| ([0-9,]+) \|", text_of(path), re.MULTILINE))
-    wrong = [f"{path}: {what}: {count} (--write)" for what, count in counts().items() if rows.get(what) != f"{count:,}"]
-    return list(counts()), wrong
+def check_counts():
+    """Return what pages count, and where they count something else than there is, or nothing."""
+    rows = dict(re.findall(r"^\| ([^|]*?) \| ([0-9,]+) \|", text_of(COUNTING), re.MULTILINE))
+    wrong = [f"{COUNTING}: {what}: {count} (--write)" for what, count in counts().items() if rows.get(what) != f"{count:,}"]
+    for path, form, count in sentences():
+        found = re.findall(form.replace(" ", r"\s"), text_of(path))
+        if [number for _, number, _ in found] != [f"{count:,}"]:
+            wrong.append(f"{path}: {form}: {count} (--write)")
+    return [*counts(), *sentences()], wrong
 
 
 def all_things():
@@ -255,12 +316,13 @@ def all_things():
     documents = [path for path in [*PAGES, *OTHERS] if is_there(path)]
     results = [links(path) for path in documents]
     results += [check(path) for path in documents if path != PAST for check in (names, form)]
-    return results + [mentions(), pages(), packages(), check_counts(COUNTING)]
+    return results + [mentions(), pages(), packages(), kits(), seconds(), check_counts()]
 
 
 def main():
     if sys.argv[1:] == ["--write"]:
-        write_counts(COUNTING)
+        for path in {COUNTING, *(path for path, _, _ in sentences())}:
+            write_counts(path)
     is_of_links = sys.argv[1:2] == ["--links"]
     results = [links(os.path.abspath(path)) for path in sys.argv[2:]] if is_of_links else all_things()
     count, wrong = sum(len(things) for things, _ in results), [line for _, lines in results for line in lines]

@@ -1,7 +1,7 @@
 #!/usr/bin/env python3
 """Checks that documents show what their commands print.
 
-    sessions.py HISTDESK HISTWATCH [PAGE]..
+    sessions.py [--bare] HISTDESK HISTWATCH [PAGE]..
 
 The pages are all that pages.py knows; the script of a page of READ reads its other blocks. These are the kinds of blocks:
 
@@ -15,6 +15,10 @@ The pages are all that pages.py knows; the script of a page of READ reads its ot
 - `sh` has commands that need root, the reader's own files or much time: they are not run, and no output stands after them.
   Bash has to be able to read them.
 - A block of no kind is a form or a picture, and `rust` and `rattle` are code of this repository, which is not run here.
+
+With --bare, the first python3 on the PATH has no packages, as that of pyenv, conda or a new environment: the tools have to
+find the system's. Only the commands of sessions are run then, and of `sh` blocks those of tools and programs that need
+neither root nor files of the reader's own; each of these ends well, and tools/view prints an address.
 
 A block after a line `<!-- not run: WHY -->` is not run. What needs the library or numpy isn't tried if these are missing.
 The last lines say how many blocks were not run, and how many commands and blocks hold.
@@ -32,6 +36,7 @@ import subprocess
 import sys
 import tempfile
 import termios
+import threading
 from collections import Counter
 
 # Nothing is written beside the sources.
@@ -42,6 +47,12 @@ from pages import PAGES, ROOT, is_there, text_of
 # Kinds of blocks that are not run here, and pages whose own script reads their other blocks, whatever these are.
 CODE, READ = ["rust", "rattle"], ["docs/REFERENCE.md"]
 PROMPT = "desk> "
+# The Python that the tools find if the first one on the PATH has no packages.
+SYSTEM = "/usr/bin/python3"
+# A command of an `sh` block that --bare runs: of a tool or a program, with traces that are there.
+TOOL = re.compile(r"^((?:tools/|\./hist)[\w-]+(?: (?:my\.trace|examples/[\w.-]+|--?\w+|\w+))+)(?: +#.*)?$", re.MULTILINE)
+# The one that doesn't end, and what it prints first.
+SERVER, ADDRESS = "tools/view ", "http://127.0.0.1:"
 # Runs its argument as a session of Python.
 DOCTEST = """
 import doctest, sys
@@ -86,25 +97,41 @@ def blocks(text):
 class Place:
     """A folder in which the commands are run, as in the top folder of the repository."""
 
-    def __init__(self, folder, histdesk, histwatch):
-        self.folder = folder
+    def __init__(self, folder, histdesk, histwatch, is_bare):
+        self.folder, self.is_bare = folder, is_bare
         for name in ("tools", "examples", "python", "include", "docs"):
             os.symlink(os.path.join(ROOT, name), os.path.join(folder, name))
         os.symlink("examples/recipes.trace", os.path.join(folder, "my.trace"))
         os.symlink(histdesk, os.path.join(folder, "histdesk"))
         os.symlink(histwatch, os.path.join(folder, "histwatch"))
-        os.mkdir(os.path.join(folder, "bin"))
-        # The tools are run by the Python that runs this.
-        os.symlink(sys.executable, os.path.join(folder, "bin", "python3"))
-        path = os.path.join(folder, "bin") + ":" + os.environ["PATH"]
+        programs = os.path.join(folder, "bin")
+        if is_bare:
+            subprocess.run([sys.executable, "-m", "venv", "--without-pip", folder], check=True)
+        else:
+            # The tools are run by the Python that runs this.
+            os.mkdir(programs)
+            os.symlink(sys.executable, os.path.join(programs, "python3"))
         state = {"XDG_STATE_HOME": folder, "PAGER": "cat", "TERM": "dumb", "PYTHONDONTWRITEBYTECODE": "1"}
-        self.environment = {**os.environ, "PATH": path, "PYTHONPATH": "python", "HISTDESK": histdesk, **state}
+        path = {"PATH": f"{programs}:{os.environ['PATH']}", "PYTHONPATH": "" if is_bare else "python"}
+        self.environment = {**os.environ, **path, "HISTDESK": histdesk, **state}
 
     def printed(self, *words, text=""):
         """Return what a command prints, and its status."""
         streams = {"input": text.encode(), "stdout": subprocess.PIPE, "stderr": subprocess.STDOUT}
         done = subprocess.run(words, cwd=self.folder, env=self.environment, timeout=LIMIT, check=False, **streams)
         return done.stdout.decode(), done.returncode
+
+    def first_line(self, command):
+        """Return the first line that a command prints, which is ended then."""
+        words = shlex.split(command)
+        streams = {"stdout": subprocess.PIPE, "stderr": subprocess.STDOUT, "stdin": subprocess.DEVNULL}
+        with subprocess.Popen(words, cwd=self.folder, env=self.environment, **streams) as process:
+            timer = threading.Timer(LIMIT, process.kill)
+            timer.start()
+            line = process.stdout.readline().decode()
+            timer.cancel()
+            process.terminate()
+        return line
 
     def typed(self, command, lines):
         """Return what a terminal shows of a prompt at which lines are typed, and the status after Ctrl-D."""
@@ -135,18 +162,19 @@ def up_to_prompt(terminal):
 
 
 @functools.lru_cache(maxsize=None)
-def is_here(code):
-    """Return whether these lines of Python run."""
-    words = [sys.executable, "-B", "-c", code]
+def is_here(code, python=sys.executable):
+    """Return whether a Python runs these lines."""
+    words = [python, "-B", "-c", code]
     return not subprocess.run(words, cwd=ROOT, env={**os.environ, "PYTHONPATH": "python"}, stderr=subprocess.DEVNULL).returncode
 
 
-def lacking(kind, text):
+def lacking(kind, text, is_bare=False):
     """Return what a command needs that isn't here; None if it can be tried."""
-    reports = kind in ("pycon", "python") or re.search(r"\btools/(waits|why|diff|view|export|desk)\b", text)
-    if (reports or "tools/explain" in text) and not is_here("import histdesk"):
+    python = SYSTEM if is_bare else sys.executable
+    reports = kind in ("pycon", "python") or re.search(r"\btools/(summary|waits|why|diff|view|export|desk)\b", text)
+    if (reports or "tools/explain" in text) and not is_here("import histdesk", python):
         return "the library"
-    return "numpy" if reports and not is_here("import numpy") else None
+    return "numpy" if reports and not is_here("import numpy", python) else None
 
 
 class Count:
@@ -160,8 +188,8 @@ class Count:
         if not good:
             self.wrong.append(message)
 
-    def can_try(self, kind, text):
-        missing = lacking(kind, text)
+    def can_try(self, kind, text, is_bare=False):
+        missing = lacking(kind, text, is_bare)
         if missing:
             self.missing[missing] += 1
         return not missing
@@ -180,6 +208,24 @@ def try_run(place, title, expected, count, words, text=""):
     """Check that a command ends well and prints exactly what is expected."""
     output, status = place.printed(*words, text=text)
     count.hold(status == 0 and shows(expected, output), f"{title}: ends with {status} and prints\n{output}")
+
+
+def try_bare(place, page, count):
+    """Run the commands of a page's sessions, and those of other blocks that can be run here."""
+    for line, why, kind, text, _ in blocks(text_of(page)):
+        commands = [] if why else steps(text) if kind == "console" else TOOL.findall(text) if kind == "sh" else []
+        for command in commands:
+            title, shown = f"{page}:{line}", "".join(command)
+            if not count.can_try(kind, shown, True):
+                continue
+            if kind == "console":
+                try_command(place, title, *command, count)
+            elif command.startswith(SERVER):
+                said = place.first_line(command)
+                count.hold(said.startswith(ADDRESS), f"{title}: {command}: {said}")
+            else:
+                output, status = place.printed("bash", "-c", command)
+                count.hold(status == 0 and output, f"{title}: {command}: ends with {status} and prints\n{output}")
 
 
 def try_page(place, page, count):
@@ -216,12 +262,13 @@ def try_page(place, page, count):
 
 
 def main():
-    histdesk, histwatch = map(os.path.realpath, sys.argv[1:3])
-    count = Count()
+    is_bare = sys.argv[1] == "--bare"
+    histdesk, histwatch, *pages = sys.argv[1 + is_bare :]
+    count, try_one = Count(), try_bare if is_bare else try_page
     with tempfile.TemporaryDirectory() as folder:
-        place = Place(folder, histdesk, histwatch)
-        for page in sys.argv[3:] or [page for page in PAGES if is_there(page)]:
-            try_page(place, page, count)
+        place = Place(folder, os.path.realpath(histdesk), os.path.realpath(histwatch), is_bare)
+        for page in pages or [page for page in PAGES if is_there(page)]:
+            try_one(place, page, count)
     for why, number in count.left.items():
         print(f"not run: {number} blocks: {why}")
     for missing, number in count.missing.items():

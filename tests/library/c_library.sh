@@ -4,12 +4,12 @@
 # refused, a desk that is full, each growth of a session refused in turn, what is held of the heap once all events are struck,
 # buffers of just their size, threads, waits, parts and lines (under valgrind if it is installed), and the example. Where
 # HISTDESK is given, more random scripts are held against that program. Without a word, LIBRARY is the one that the variable
-# LIBHISTDESK names, or the one built here. It prints what went wrong, and a last line with the counts.
+# HISTDESK_LIBRARY names, or the one built here. It prints what went wrong, and a last line with the counts.
 # shellcheck disable=SC2154 # what counts.sh assigns
 set -uo pipefail
 
 tests=$(dirname -- "$(dirname -- "$(realpath -- "${BASH_SOURCE[0]}")")")
-library=$(realpath -- "${1:-${LIBHISTDESK:-$tests/../crates/ft_c/out/libhistdesk.so.0}}")
+library=$(realpath -- "${1:-${HISTDESK_LIBRARY:-$tests/../crates/ft_c/out/libhistdesk.so.0}}")
 histdesk=${2:+$(realpath -- "$2")}
 include=$tests/../include
 examples=$tests/../examples

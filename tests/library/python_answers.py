@@ -11,6 +11,7 @@ import sys
 import tempfile
 import threading
 import unittest
+import warnings
 
 import numpy
 
@@ -464,8 +465,15 @@ class Held(unittest.TestCase):
         self.assertEqual(events["name"][:2], ["other", "sched_waking"])
         self.assertEqual(events["comm"], [None, "w", "w", "x", "x"])
         self.assertEqual(events["prev_state"], [None, None, "S", None, "R+"])
+        # What a switch runs also has the kernel's own names; other events have none of these.
+        self.assertEqual([event.next_pid for event in events], [None, None, 42, None, 7])
+        self.assertEqual([event.next_comm for event in events], [None, None, "w", None, "x"])
+        self.assertEqual([event.next_prio for event in events], [None, None, 120, None, -1])
+        self.assertEqual(events["next_pid"].tolist(), [0, 0, 42, 0, 7])
+        self.assertEqual(events["next_prio"].tolist(), [0, 0, 120, 0, -1])
+        self.assertEqual(events["next_comm"], [None, None, "w", None, "x"])
         with self.assertRaises(KeyError):
-            events["next_pid"]
+            events["pid_next"]
 
     def test_events_stay_as_they_were(self):
         events = self.desk.events()
@@ -545,14 +553,14 @@ class Frames(unittest.TestCase):
         self.desk.unload(1)
         self.assertEqual(self.reader.to_pandas().shape, (0, 3))
         self.assertEqual(self.reader.latencies_to_pandas().shape, (0, 7))
-        self.assertEqual(self.desk.to_pandas().shape, (0, 14))
+        self.assertEqual(self.desk.to_pandas().shape, (0, 17))
         with self.assertRaises(Refused) as caught:
             self.saver.latencies_to_pandas()
         self.assertEqual(caught.exception.number, 17)
 
     def test_events(self):
         frame = self.desk.to_pandas()
-        self.assertEqual(list(frame.columns), list(Event._fields))
+        self.assertEqual(list(frame.columns), [*Event._fields, "next_comm", "next_pid", "next_prio"])
         self.assertEqual(frame.name.tolist(), [event.name for event in MERGED])
         self.assertEqual(frame.task.tolist(), [event.task for event in MERGED])
         for column in ("comm", "prev_state"):
@@ -562,6 +570,10 @@ class Frames(unittest.TestCase):
         self.assertEqual(frame.pid.isna().tolist(), [True, False, False, False, False])
         self.assertEqual(frame.target_cpu.isna().tolist(), [True, False, True, False, True])
         self.assertEqual(self.desk.to_pandas(1).prio.tolist(), [120, -1])
+        # Only switches have what they switch to.
+        self.assertEqual(frame.next_pid.isna().tolist(), [True, True, False, True, False])
+        self.assertEqual((frame.next_pid.tolist()[2::2], frame.next_prio.tolist()[2::2]), ([42, 7], [120, -1]))
+        self.assertEqual((frame.next_comm.tolist()[2::2], frame.next_comm.isna().sum()), (["w", "x"], 3))
         self.assertEqual(frame.stamp.tolist(), [event.stamp for event in MERGED])
 
     def test_zero_bytes_in_names(self):
@@ -581,9 +593,52 @@ class Refusals(unittest.TestCase):
         self.assertEqual(refused.text, text)
         self.assertEqual(refused.number, int(text.split(" ")[1].rstrip(":")))
         self.assertEqual({name: getattr(refused, name) for name in names}, {**dict.fromkeys(names), **details})
-        self.assertTrue(str(refused))
-        self.assertEqual(histdesk.refusal_words(text), str(refused))
+        self.assertTrue(refused.words)
+        self.assertEqual(histdesk.refusal_words(text), refused.words)
         return refused
+
+    def test_named_file(self):
+        """The file that can't be loaded is named, by whatever call and as it was named there."""
+        with tempfile.TemporaryDirectory() as folder:
+            torn, whole = (os.path.join(folder, name) for name in ("torn\n.trace", "whole.trace"))
+            in_time = b"".join(line for line in TRACE.splitlines(True) if b"LOST" not in line and b"update" not in line)
+            for path, end in ((torn, b"sim-1 [000] d.... 1.00\n"), (whole, b"")):
+                with open(path, "wb") as file:
+                    file.write(in_time + end)
+            words = histdesk.refusal_words("refused 3: line 6 fault 3")
+            for call in (
+                lambda path: histdesk.Desk().load(path),
+                lambda path: histdesk.Desk().load(pathlib.Path(path)),
+                lambda path: histdesk.read(path).desk(),
+                histdesk.waits,
+                lambda path: histdesk.waits(histdesk.read(path)),
+                lambda path: histdesk.waits(path, jobs=2),
+                histdesk.why,
+                histdesk.summary,
+                lambda path: histdesk.diff(path, whole),
+                lambda path: histdesk.diff(whole, path),
+                lambda path: histdesk.diff([whole, path], [whole]),
+                lambda path: histdesk.diff(path, without=["sched_waking"]),
+                lambda path: histdesk.AskWaits().ask_path(path),
+            ):
+                with self.assertRaises(Refused) as caught:
+                    call(torn)
+                told = f"{folder}/torn\\n.trace: {words}"
+                self.assertEqual((caught.exception.path, caught.exception.words, str(caught.exception)), (torn, words, told))
+            desk = desk_of()
+            refused = self.refused(lambda: desk.load(whole), "refused 4: cpu 1", cpu=1)
+            self.assertEqual((refused.path, str(refused)), (whole, f"{whole}: {refused.words}"))
+            # Several recordings are named beside what is wrong with them.
+            with warnings.catch_warnings():
+                warnings.simplefilter("ignore", histdesk.LeftOutWarning)
+                for question in (histdesk.AskWaits(), histdesk.AskRows("sched_waking", "hist:keys=pid")):
+                    (failed,) = histdesk.many([torn], question, processes=0).failed
+                    self.assertEqual((failed.path, failed.why), (torn, words))
+        # What has no name isn't named, and neither is a file that has nothing to do with it.
+        for call in (lambda: desk_of().load(TRACE), lambda: desk_of().load(io.BytesIO(TRACE)), lambda: desk_of().list(9)):
+            with self.assertRaises(Refused) as caught:
+                call()
+            self.assertEqual((caught.exception.path, str(caught.exception)), (None, caught.exception.words))
 
     def test_lines_and_lanes(self):
         desk = desk_of()

@@ -33,6 +33,8 @@ from python_runner import main
 from recordings import all_known, text_of
 
 EVENT = "stamp,cpu,line,name,task,common_pid,comm,pid,prio,target_cpu,prev_comm,prev_pid,prev_prio,prev_state"
+# The task that a switch runs is also there by the kernel's own names, at the end.
+EVENT += ",next_comm,next_pid,next_prio"
 PLACES = "saved_stamp,saved_cpu,saved_line,read_stamp,read_cpu,read_line,micros"
 SAVER = ["sched_waking", "hist:keys=pid:ts0=common_timestamp.usecs"]
 READER = ["sched_switch", "hist:keys=next_pid:lat=common_timestamp.usecs-$ts0"]
@@ -175,20 +177,19 @@ class Events(Tool):
         self.assertEqual(
             self.written(SMALL, "events").decode(),
             f"""{EVENT}
-1000050,1,1,other,sim,1,,,,,,,,
-1000100,0,1,sched_waking,sim,1,w,42,120,1,,,,
-1000150,1,2,sched_switch,<idle>,0,w,42,98,,swapper/1,0,120,R
-1000190,1,3,sched_switch,w,42,sim,1,-1,,w,42,98,S
+1000050,1,1,other,sim,1,,,,,,,,,,,
+1000100,0,1,sched_waking,sim,1,w,42,120,1,,,,,,,
+1000150,1,2,sched_switch,<idle>,0,w,42,98,,swapper/1,0,120,R,w,42,98
+1000190,1,3,sched_switch,w,42,sim,1,-1,,w,42,98,S,sim,1,-1
 """,
         )
 
     def test_json(self):
         rows = self.objects(SMALL, "events")
         self.assertEqual([*rows[0]], EVENT.split(","))
-        self.assertEqual([*rows[0].values()], [1000050, 1, 1, "other", "sim", 1, *[None] * 8])
-        self.assertEqual(
-            [*rows[2].values()], [1000150, 1, 2, "sched_switch", "<idle>", 0, "w", 42, 98, None, "swapper/1", 0, 120, "R"]
-        )
+        self.assertEqual([*rows[0].values()], [1000050, 1, 1, "other", "sim", 1, *[None] * 11])
+        own = ["w", 42, 98, None, "swapper/1", 0, 120, "R", "w", 42, 98]
+        self.assertEqual([*rows[2].values()], [1000150, 1, 2, "sched_switch", "<idle>", 0, *own])
 
     def test_nothing(self):
         self.assertEqual(self.written(b"", "events"), EVENT.encode() + b"\n")
@@ -239,10 +240,7 @@ class Events(Tool):
                 at,
                 at % 140,
                 1,
-                "",
-                "",
-                "",
-                "",
+                *[""] * 7,
             ]
             self.assertEqual(rows[at + 1], [*map(str, expected)])
 

@@ -7,6 +7,7 @@ Texts are cut wherever an engine may join them, and elsewhere."""
 
 import os
 import random
+import re
 import subprocess
 import sys
 import tempfile
@@ -234,6 +235,14 @@ class Refusals(unittest.TestCase):
         for jobs in (0, -1, 513):
             with self.assertRaisesRegex(ValueError, "in 1 to 512 parts at once"):
                 histdesk.waits(b"", jobs=jobs)
+        # Whatever the trace is.
+        for jobs in ("2", 2.0, [2]):
+            for call in (histdesk.waits, lambda trace, jobs: histdesk.AskWaits(jobs=jobs)):
+                for trace in (b"", histdesk.read(b"")):
+                    with self.assertRaisesRegex(TypeError, f"^jobs is {re.escape(repr(jobs))}, which is no whole number$"):
+                        call(trace, jobs=jobs)
+        with self.assertRaisesRegex(ValueError, "in 1 to 512 parts at once"):
+            histdesk.AskWaits(jobs=0)
         text = _text.text_again(b"x" * 100)
         with mock.patch.object(_parallel, "LARGE", 99), mock.patch.object(os, "sched_getaffinity", lambda _: range(30)):
             found = [_parallel.jobs_for(*words) for words in ((text, None), (text, 2), (None, 2))]

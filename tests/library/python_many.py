@@ -313,6 +313,9 @@ class Questions(Case):
             many(self.some(1), Events(), beginning=3)
         with self.assertRaisesRegex(ValueError, "-1"):
             many(self.some(1), Events(), processes=-1)
+        for processes in ("2", 2.0):
+            with self.assertRaisesRegex(TypeError, f"^processes is {processes!r}, which is no whole number$"):
+                many(self.some(1), Events(), processes=processes)
 
     def test_rows_that_are_refused(self):
         with self.assertRaises(histdesk.Refused) as caught:

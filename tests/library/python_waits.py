@@ -804,6 +804,9 @@ class Tool(unittest.TestCase):
             counts = Counter(wait.kind for wait in self.known["kinds"].waits if str(wait.pid) in names or wait.name == task)
             self.assertEqual({row["kind"]: int(row["count"]) for row in rows}, counts)
             self.assertEqual({row["pid"] for row in rows}, {"10"})
+        # Several times, it selects several tasks.
+        text, _ = self.run_tool(self.path("kinds"), "--task", "12", "--task", "a", "--task", "b-11", "--csv")
+        self.assertEqual({row["pid"] for row in csv.DictReader(io.StringIO(text))}, {"10", "11", "12"})
         text, _ = self.run_tool(self.path("kinds"), "--task", "12", "--histogram", "--csv")
         self.assertEqual(sum(int(row["count"]) for row in csv.DictReader(io.StringIO(text))), 1)
         text, _ = self.run_tool(self.path("kinds"), "--from", "1.0003", "--until", "1.0005", "--csv")
@@ -831,6 +834,7 @@ class Tool(unittest.TestCase):
             ([path, "--cpu", "9"], "no wait ended on CPU 9; its events are on CPUs 0-3"),
             ([path, "--cpu", "3", "--kind", "woken"], "no wait of kind woken ended on CPU 3"),
             ([path, "--task", "nobody", "--kind", "new"], "no wait of kind new of task nobody ended in it"),
+            ([path, "--task", "no", "--task", "9"], "no wait of task no or 9 ended in it"),
             ([path, "--from", "9999"], "no event is from 9999.000000; its events are from 1.000000 to 1.000803"),
             ([path, "--until", "1"], "no event is before 1.000000; its events are from 1.000000 to 1.000803"),
             ([path, "--from", "1.0008", "--until", "1.000801"], "no wait ended in it"),
@@ -876,7 +880,10 @@ class Tool(unittest.TestCase):
         environment = {**os.environ, "PYTHONPATH": self.folder.name}
         _, told_of = self.run_tool(self.path("kinds"), status=2, env=environment)
         how = "apt-get install python3-numpy gives it to Debian's own python3, pip install numpy to any"
-        self.assertEqual(told_of, f"waits: {sys.executable} has no numpy, which is needed here: {how}\n")
+        # Any other Python that is here was tried too.
+        self.assertTrue(told_of.startswith(("waits: neither /", f"waits: {sys.executable} has no numpy")), told_of)
+        self.assertIn(sys.executable, told_of)
+        self.assertTrue(told_of.endswith(f" numpy, which is needed here: {how}\n"), told_of)
         environment = {**os.environ, "HISTDESK_LIBRARY": os.path.join(self.folder.name, "none.so")}
         _, told_of = self.run_tool(self.path("kinds"), status=2, env=environment)
         self.assertTrue(told_of.startswith("waits: histdesk needs the library libhistdesk.so.0, which can't be loaded:\n"))

@@ -486,6 +486,43 @@ class Longest(unittest.TestCase):
         with self.assertRaisesRegex(ValueError, "all CPUs"):
             told(histdesk.read(text, cpus=why.cpu))
 
+    def test_wait_or_place(self):
+        """A wait is named by itself, by an event of it, or by a place, of a trace, of waits, and of a desk."""
+        text = trace(*BUSY)
+        waits = histdesk.waits(text)
+        for source in (text, waits, histdesk.read(text), desk_of(text)):
+            for wait in waits:
+                wanted = told(source, wait.end.cpu, wait.end.line)
+                self.assertEqual((wanted.begin[:3], wanted.end[:3]), (wait.begin, wait.end))
+                for event in (wait, wait.end, wanted.end):
+                    self.assertEqual(told(source, event), wanted)
+            self.assertEqual(told(source, histdesk.Place(1000104, 0, 2)), told(source, 2, 4))
+            self.assertEqual(told(source, cpu=2, line=4), told(source, 2, 4))
+            self.assertEqual(told(source, 2, line=4), told(source, 2, 4))
+
+    def test_of_another_recording(self):
+        """A place of another recording, where other events are at these lines, belongs to no wait of this one."""
+        wait = next(iter(histdesk.waits(trace(*BUSY))))
+        later = trace(*BUSY).replace(b" 1.000", b" 2.000")
+        for event in (wait, wait.begin, histdesk.Place(1000104, 0, 2)):
+            with self.assertRaisesRegex(LookupError, r"at \d:\d is at 2\.\d{6}, and not 1\.\d{6}: .* another recording$"):
+                told(later, event)
+        with self.assertRaisesRegex(LookupError, "no event of CPU 2 is at line 4"):
+            told(trace(*BUSY[:3]), histdesk.Place(1000500, 2, 4))
+
+    def test_neither(self):
+        for words, why in (
+            ((wait := next(iter(histdesk.waits(trace(*BUSY)))), 4), "stands by itself"),
+            ((wait.end, 4), "stands by itself"),
+            (("2:4",), "neither a Wait, nor a Place, nor the number of a CPU"),
+            (((2, 4),), "neither a Wait, nor a Place, nor the number of a CPU"),
+            ((2, 4.0), "line is 4.0, which is no whole number"),
+        ):
+            with self.assertRaisesRegex(TypeError, why):
+                told(trace(*BUSY), *words)
+        with self.assertRaisesRegex(TypeError, "given twice"):
+            told(trace(*BUSY), 2, 4, cpu=2)
+
     def test_none(self):
         with self.assertRaisesRegex(LookupError, "no wait that isn't doubtful"):
             told(b"")

@@ -158,6 +158,8 @@ class Chosen(Command):
         self.assertEqual(self.heads(text, "--cpu", "2-3", "--worst", "9"), ["d-13 40", "a-10 30", "e-13 7", "f-14 0"])
         self.assertEqual(self.heads(text, "--task", "10", "--worst", "9"), ["a-10 30", "a-10 30", "renamed-10 3"])
         self.assertEqual(self.heads(text, "--task", "renamed"), ["renamed-10 3"])
+        several = self.heads(text, "--task", "renamed", "--task", "13", "--task", "c-12", "--worst", "9")
+        self.assertEqual(several, ["d-13 40", "e-13 7", "c-12 5", "renamed-10 3"])
 
     def test_moment(self):
         """All waits that last at that moment: from the stamp at which they begin to that at which they end, both included."""

@@ -11,7 +11,7 @@ import warnings
 from unittest import mock
 
 import histdesk
-from histdesk import Share, Stretch, _surroundings, _text, _explainer
+from histdesk import Share, Stretch, _surroundings, _slices, _text, _explainer
 from why_traces import line, switch, trace, waking
 
 TOOL = os.path.join(os.path.dirname(os.path.realpath(__file__)), "..", "..", "tools", "why")
@@ -85,16 +85,33 @@ class Slices(Cut):
                 "PIECE": chance.choice([200, 1000, 1 << 22]),
                 "LEAD": chance.choice([1, 3]),
                 "PART": chance.choice([4, 30]),
+                "GROUP": chance.choice([1, 10, 40, 1000]),
+                "GAP": chance.choice([0, 10]),
             }
             slices, whole = self.slices(text, **sizes), self.whole(text)
             told = list(slices.explain_each(slices.waits))
             self.assertEqual(told, list(whole.explain_each(whole.waits)), seed)
+            # All together are the same, and each comes once.
+            together = sorted(slices.explain_together(slices.waits), key=lambda pair: pair[0])
+            self.assertEqual(together, list(enumerate(told)), seed)
             waits += len(told)
             for _ in range(12):
                 place = chance.choice([0, 0, 1, 2, 3, 4, 5]), chance.randrange(45)
                 self.assertEqual(answer(slices, *place), answer(whole, *place), (seed, place))
                 places += 1
         self.assertGreater(min(waits, places), 100)
+
+    def test_read_once(self):
+        """However many waits are explained, the text around them is read once, and not for each of them."""
+        teller = _explainer.explainer_of(noise(7, 6000))
+        size = {}
+        for count in (20, 1000):
+            waits = _explainer.greatest(teller.waits, count, True)
+            self.assertEqual(len(waits), count)
+            with mock.patch.object(_slices.Source, "_read", autospec=True, side_effect=_slices.Source._read) as read:
+                self.assertEqual(sorted(dict(teller.explain_together(waits))), list(range(count)))
+            size[count] = sum(last.at - first.at for _, _, first, last in (call.args for call in read.call_args_list))
+        self.assertLessEqual(size[1000], 3 * size[20])
 
     def test_what_ran_long_before(self):
         """CPU 1 switched to b long before the wait, and nothing is heard of it until it runs w; CPU 3, where w was queued, is

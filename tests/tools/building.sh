@@ -141,6 +141,16 @@ builds crates.txt 0 "$building, all 5 crates, which takes about [1-9]* minutes; 
 touch -- "$root/crates.txt"
 builds "crates.txt again" 0 "$building, all 5 crates, which took 0:0? minutes the last time; see $left/log
 build: 0 of *" "${all[@]}"
+# The logic that the proofs are for needs no remark, another one does.
+logic=$(sed -n 's/^LOGIC = "\(.*\)"$/\1/p' "$root/build/recipes.py")
+echo "stand-in logic $logic" >"$folder/KIT-ID"
+touch -- "$root/crates/histdesk/src/other.rt"
+builds "the logic" 0 "$building, all 5 crates, *" "${all[@]}"
+echo "stand-in logic 0123abc" >"$folder/KIT-ID"
+touch -- "$root/crates/histdesk/src/other.rt"
+builds "another logic" 0 "build: the logic of this kit is 0123abc, and the proofs were made for $logic: *"$'\n'"$building, *" \
+    "${all[@]}"
+builds "another logic, nothing to build" 0 ""
 echo two >"$folder/KIT-ID"
 builds "another kit" 0 ""
 touch -- "$root/crates/ft_low/src/lib.rt"

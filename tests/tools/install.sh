@@ -7,10 +7,14 @@ set -uo pipefail
 
 . "$(dirname -- "$(realpath -- "${BASH_SOURCE[0]}")")/built.sh" "$@"
 
+# The first python3 that is found has no packages, as that of pyenv, conda or a new environment.
+bare=$folder/bare/bin
+gives "a bare Python" 0 "" python3 -m venv --without-pip "$folder/bare"
+
 # below PREFIX: what is used next is installed there. "${alone[@]}" COMMAND.. runs with only this and what the system has.
 below() {
     prefix=$1
-    alone=(env -i "PATH=$prefix/bin:/usr/bin:/bin" "PYTHONPATH=$prefix/lib/python3/dist-packages"
+    alone=(env -i "PATH=$prefix/bin:$bare:/usr/bin:/bin" "PYTHONPATH=$prefix/lib/python3/dist-packages"
         "LD_LIBRARY_PATH=$prefix/lib" "PKG_CONFIG_PATH=$prefix/lib/pkgconfig")
 }
 
@@ -34,7 +38,7 @@ used_programs() {
     prints "$1, histwatch" "$(<"$examples/changes.expected")"
     gives "$1, words" 2 "histdesk: bad words*Examples and documents: $prefix/share/doc/histdesk.*" "${alone[@]}" histdesk --help
     # It finds the package and the library by itself.
-    gives "$1, explain" 1 "" env -i "PATH=$prefix/bin:/usr/bin:/bin" histdesk-explain bad.script
+    gives "$1, explain" 1 "" env -i "PATH=$prefix/bin:$bare:/usr/bin:/bin" histdesk-explain bad.script
     prints "$1, explain" $'refused 16\n  line 1: hits 1: there is no such command or event; did you mean hist?\n          ^'
     gives "$1, bars" 0 "" "${alone[@]}" bash -c 'histdesk latencies.script wakeups.trace | histdesk-bars | grep -c @@@'
     prints "$1, bars" 7
@@ -45,12 +49,13 @@ used_programs() {
     done
 }
 
-# The tools that need numpy, or what they report if there is none.
+# The tools that need numpy, which the system's Python runs, or what they report if that has none either.
 used_reports() {
     local tool
-    if ! "${alone[@]}" python3 -c 'import numpy' 2>"$folder/err"; then
+    if ! /usr/bin/python3 -c 'import numpy' 2>"$folder/err"; then
         for tool in summary waits why desk; do
-            gives "$1, $tool" 2 "$tool: *numpy*apt-get install python3-numpy*" "${alone[@]}" "histdesk-$tool" wakeups.trace
+            gives "$1, $tool" 2 "$tool: * nor *numpy*apt-get install python3-numpy*" "${alone[@]}" "histdesk-$tool" \
+                wakeups.trace
         done
         return
     fi
@@ -88,7 +93,7 @@ used_library() {
         gives "$1, $program" 0 "" env -i "./$program"
         prints "$1, $program" "pid 42: 2"
     done
-    gives "$1, Python" 0 "" "${alone[@]}" python3 "$folder/wakings.py"
+    gives "$1, Python" 0 "" "${alone[@]}" /usr/bin/python3 "$folder/wakings.py"
     prints "$1, Python" "2 Totals(hits=2, entries=1, dropped=0)"
 }
 
@@ -198,6 +203,8 @@ prints "deb's fields" "Package: histdesk"$'\n'"Version: $version"$'\n'"Architect
 gives "dpkg-deb -x" 0 "" dpkg-deb -x "$folder/packages/histdesk_${version}_amd64.deb" "$folder/deb"
 below "$folder/deb/usr"
 used deb
+same "what runs the deb's tools" "$(head -qn 1 -- "$prefix"/lib/histdesk/tools/* | LC_ALL=C sort -u)" \
+    $'#!/usr/bin/env bash\n#!/usr/bin/python3'
 gives tar 0 "" tar -C "$folder" -xf "$folder/packages/histdesk-$version-linux-x86_64.tar.gz"
 below "$folder/histdesk-$version-linux-x86_64"
 used tarball

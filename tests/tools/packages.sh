@@ -35,6 +35,12 @@ gives tar 0 "" tar -C "$folder" -xf "$tarball"
 tree=$folder/histdesk-$version-linux-x86_64
 gives unzip 0 "" python3 -m zipfile -e "$wheel" "$folder/wheel"
 
+# ---- What it is for, in one line of at most 80 characters.
+
+purpose="analysis of Linux scheduler traces: which tasks waited for a processor, and why"
+same "the deb's purpose" "$(dpkg-deb -f "$deb" Description | head -n 1)" "$purpose"
+has "the wheel's purpose" "$folder/wheel/histdesk-$version.dist-info/METADATA" "Summary: $purpose"
+
 # ---- The version.
 
 doc=share/doc/histdesk
@@ -168,12 +174,7 @@ print(importlib.metadata.metadata("histdesk")["License-Expression"])'
     same "pip uninstall" "$(find "$folder/env" -name '*histdesk*' ! -type d)" ""
 }
 
-for python in /usr/bin/python3 python3 ''; do
-    if [[ -n $python ]] && "$python" -c 'import ensurepip, numpy' 2>/dev/null; then
-        break
-    fi
-done
-if [[ -n $python ]]; then
+if python=$(python_with ensurepip numpy); then
     gives "an environment" 0 "" "$python" -m venv --system-site-packages "$folder/env"
     used
 else

@@ -71,8 +71,7 @@ is "no instance stays" test -z "$(ls -d "$tracefs"/instances/histdesk.* 2>/dev/n
 is "the advised buffer holds them, sixteen times: $(<"$folder/err")" grep -q '^record: [0-9]* events, 0 lost$' "$folder/err"
 is "nothing is said to be overwritten" test -z "$(grep ' overwritten$' "$folder/whole")"
 
-python=/usr/bin/python3
-[[ -x $python ]] || python=python3
+python=$(python_with numpy) || python=python3
 export PYTHONPATH=$tests/../python PYTHONDONTWRITEBYTECODE=1
 "$python" -c 'import histdesk' 2>"$folder/said" || not_tried "the package: $(tail -n 1 "$folder/said")"
 # Each CPU that has overwritten events, except for the one that begins first, has a hole before its first event.

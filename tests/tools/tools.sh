@@ -157,12 +157,10 @@ fi
 
 # ---- desk
 
-# With the system's Python, which may have numpy.
-python=/usr/bin/python3
-[[ -x $python ]] || python=python3
+python=$(python_with numpy) || python=python3
 holds "$python" "$tests/tools/desk_prompt.py" "$tools/desk" "$tests"/rows/*
 gives desk_usage 0 "" "$tools/desk" --help
-HISTDESK_LIBRARY=$folder/none gives desk_without_library 2 "desk: histdesk needs the library *" "$python" "$tools/desk"
+HISTDESK_LIBRARY=$folder/none gives desk_without_library 2 "desk: histdesk needs the library *" "$tools/desk"
 
 # ---- help without the library
 
@@ -173,7 +171,7 @@ done
 # A script called --help needs it.
 : >"$folder/--help"
 HISTDESK_LIBRARY=$folder/none gives "desk -- --help" 2 "desk: histdesk needs the library *" \
-    env -C "$folder" "$python" "$tools/desk" -- --help <"$folder/--help"
+    env -C "$folder" "$tools/desk" -- --help <"$folder/--help"
 
 # ---- bars
 

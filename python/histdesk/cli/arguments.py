@@ -90,9 +90,9 @@ def add_kinds(to: argparse._ActionsContainer, help: str) -> None:
 
 
 def add_task(to: argparse._ActionsContainer) -> None:
-    """Add the option that chooses tasks."""
-    help = "only waits of tasks with this name or PID; NAME-PID is one task"
-    to.add_argument("--task", dest="tasks", metavar="TASK", type=named_tasks, help=help)
+    """Add the option that chooses tasks. What it names each time it is given adds up."""
+    help = "only waits of tasks with this name or PID; NAME-PID is one task; several times for several tasks"
+    to.add_argument("--task", dest="tasks", metavar="TASK", type=named_tasks, action="extend", help=help)
 
 
 def add_table_size(to: argparse.ArgumentParser, in_terminal: int) -> None:

@@ -32,6 +32,7 @@ The first row is for all waits. Then come the rows that changed: by name for two
 PIDs differ between them, otherwise by task. A figure that changed is shown as BEFORE -> AFTER.
 Times are in microseconds. waited/s is how long all waits of a row took together per second of the
 recording: at 1000000, one task is waiting all the time. Rows are sorted by how much this changed.
+Percentiles are by nearest rank: p99 is the least wait such that at least 99 % aren't longer.
 Recordings may be of any length, and need not be equally long: waits are counted per second.
 Doubtful waits are left out.
 

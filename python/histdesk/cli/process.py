@@ -16,7 +16,12 @@ import io
 import os
 import signal
 import sys
-from typing import Callable
+from typing import TYPE_CHECKING, Callable
+
+from . import interpreter
+
+if TYPE_CHECKING:
+    from .._refusal import Refused
 
 SUCCESS, PARTIAL, FAILURE = 0, 1, 2
 # What is missing in the answer, which is reported at the end.
@@ -39,7 +44,8 @@ class Stop(Exception):
 
 
 def run(tool: str, work: Callable[[], int]) -> int:
-    """Run a tool, and report what goes wrong in one line on standard error.
+    """Run a tool, and report what goes wrong in one line on standard error. If a package is missing that this Python should
+    have, another Python may take its place (`interpreter.run_next`).
 
     Parameters
     ----------
@@ -78,9 +84,13 @@ def run(tool: str, work: Callable[[], int]) -> int:
 
 def report(tool: str, error: Exception) -> int:
     """Print why a tool failed, and return the exit status. Raises the error itself if it is a fault of the program."""
+    from .._requirements import is_missing
+
     if isinstance(error, Stop):
         say(tool, str(error))
         return error.status
+    if is_missing(error):
+        interpreter.run_next()
     line = message_of(error)
     if line is None:
         raise error
@@ -113,20 +123,18 @@ def message_of(error: Exception) -> str | None:
     if isinstance(error, OSError):
         return f"{error.filename or 'standard output'}: {error.strerror or error}"
     if isinstance(error, ImportError):
-        return str(explained(error))
+        return str(explained(error, interpreter.tried()))
     return str(error) if isinstance(error, ValueError) else None
 
 
-def refusal_of(error: Exception) -> str:
+def refusal_of(error: Refused) -> str:
     """Return a refusal in one line, and below it the line of the trace or the text that it is about."""
-    path, line = getattr(error, "path", None), getattr(error, "line", None)
-    message = f"{path}: {error}" if path else str(error)
     hint = ""
-    if line:
+    if error.line:
         from .fault_hints import lenient_hint
 
-        hint = f"; {lenient_hint(path)}"
-    return "\n".join([message + hint, *getattr(error, "__notes__", [])])
+        hint = f"; {lenient_hint(error.path)}"
+    return "\n".join([f"{error}{hint}", *getattr(error, "__notes__", [])])
 
 
 def end_by(number: signal.Signals) -> None:

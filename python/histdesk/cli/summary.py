@@ -21,8 +21,10 @@ microseconds. TRACE is the text of the kernel's trace file, compressed by gzip o
 recording of perf or trace-cmd; - is standard input. TRACE may be of any length.
 
 A run counts if both of its switches were recorded, and a wait as in tools/waits, which also prints
-the waits by kind. The columns `at` and `where` are the timestamp and the CPU:LINE of the switch
-that ended the longest wait: tools/why explains that wait. REFERENCE.md, Sums, has the rules."""
+the waits by kind. p99 is a percentile by nearest rank: the least wait of the row such that at least
+99 % of its waits aren't longer. The columns `at` and `where` are the timestamp and the CPU:LINE of
+the switch that ended the longest wait: tools/why explains that wait. REFERENCE.md, Sums, has the
+rules."""
 # How many rows are shown in a terminal.
 ROWS = 30
 

@@ -203,7 +203,9 @@ def why_empty(answer: Answer, options: argparse.Namespace, what: str) -> str:
         return f"{options.trace}: {why_no_events(options)}"
     kinds, cpus = getattr(options, "kinds", None), sorted(set(options.cpus or ()))
     kind = f" of kind {' or '.join(kinds)}" if kinds else ""
-    task = f" of task {printable(options.tasks[0])}" if getattr(options, "tasks", None) else ""
+    # A PID is among the tasks as a text, too.
+    tasks = [printable(task) for task in getattr(options, "tasks", None) or () if isinstance(task, str)]
+    task = f" of task {' or '.join(tasks)}" if tasks else ""
     place = f" on CPU{'s' * (len(cpus) > 1)} {ranges(cpus)}" if cpus else " in it"
     has_other = cpus and not set(cpus) & set(answer.held.cpus)
     hint = f"; its events are on CPU{'s' * (len(answer.held.cpus) > 1)} {ranges(answer.held.cpus)}" if has_other else ""

@@ -22,6 +22,8 @@ of any length.
 
 The kind of a wait (woken, new, preempted) depends on the event that it begins with. A wait is
 doubtful, and left out, if lost events may have made it false; REFERENCE.md, Waits, has the rules.
+Percentiles are by nearest rank: p99 is the least wait of the row such that at least 99 % of its
+waits aren't longer, and so on.
 The columns `at` and `where` are the timestamp and the CPU:LINE of the switch that ended the
 longest wait: tools/why explains that wait, and what ran meanwhile."""
 # How many rows are shown in a terminal, and how many signs the greatest bar of a histogram has.

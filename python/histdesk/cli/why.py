@@ -4,7 +4,7 @@ from __future__ import annotations
 
 import argparse
 import json
-from typing import TYPE_CHECKING, Any, Iterator, Sequence
+from typing import TYPE_CHECKING, Any, Callable, Iterator, Sequence
 
 from . import arguments, process
 from .texts import columns
@@ -122,22 +122,25 @@ def longest(options: argparse.Namespace, explainer: Explainer) -> Waits:
 # ---- output
 
 
-def write_text(options: argparse.Namespace, waits: Iterator[Why]) -> None:
+def text_of(why: Why, options: argparse.Namespace, width: int) -> str:
+    """Return a wait in words."""
+    text = why.text(options.all, width)
+    return f"{text}\n\n{why.chain(options.steps, options.beyond).text(width, options.all)}" if options.chain else text
+
+
+def write_text(waits: Iterator[str]) -> None:
     """Print each wait for people."""
-    width = columns()
-    for at, why in enumerate(waits):
-        print(*[LINE] * (at > 0), why.text(options.all, width), sep="\n")
-        if options.chain:
-            print("", why.chain(options.steps, options.beyond).text(width, options.all), sep="\n")
+    for at, text in enumerate(waits):
+        print(*[LINE] * (at > 0), text, sep="\n")
 
 
-def write_json(options: argparse.Namespace, path: str | None, waits: Iterator[Why]) -> None:
+def write_json(path: str | None, waits: Iterator[str]) -> None:
     """Print an object on several lines, one for each wait. It is complete even if a later wait can't be explained."""
     print(f'{{"trace": {json.dumps(path)}, "waits": [', end="")
     before = "\n"
     try:
-        for why in waits:
-            print(before + json.dumps(json_of(why, options)), end="")
+        for text in waits:
+            print(before + text, end="")
             before = ",\n"
     finally:
         print("\n]}")
@@ -177,11 +180,24 @@ def json_of_event(event: Event | None) -> dict[str, Any] | None:
     return event and {name: value for name, value in event._asdict().items() if value is not None}
 
 
-def explanations(options: argparse.Namespace, explainer: Explainer) -> Iterator[Why]:
-    """Go through the waits that are asked for."""
+def explanations(options: argparse.Namespace, explainer: Explainer, text_of: Callable[[Why], str]) -> Iterator[str]:
+    """Return the waits that are asked for, each as a text."""
     if options.places:
-        return (explainer.explain_at(*place) for place in options.places)
-    return explainer.explain_each(longest(options, explainer))
+        return (text_of(explainer.explain_at(*place)) for place in options.places)
+    return in_order(explainer, longest(options, explainer), text_of)
+
+
+def in_order(explainer: Explainer, waits: Waits, text_of: Callable[[Why], str]) -> Iterator[str]:
+    """Go through waits, each as a text. They are explained in another order, so that texts are kept meanwhile."""
+    from .._text import KeptText
+
+    kept, ends = KeptText(), {}
+    for at, why in explainer.explain_together(waits):
+        start = kept.size or 0
+        kept.add(text_of(why).encode("utf-8", "surrogatepass"))
+        ends[at] = (start, kept.size or 0)
+    for at in range(len(waits)):
+        yield kept.read(*ends[at]).decode("utf-8", "surrogatepass")
 
 
 def work(argv: Sequence[str] | None) -> int:
@@ -189,11 +205,11 @@ def work(argv: Sequence[str] | None) -> int:
     options = parsed(argv)
     explainer = explainer_of(options)
     try:
-        waits = explanations(options, explainer)
         if options.json:
-            write_json(options, explainer.waits.path, waits)
+            write_json(explainer.waits.path, explanations(options, explainer, lambda why: json.dumps(json_of(why, options))))
         else:
-            write_text(options, waits)
+            width = columns()
+            write_text(explanations(options, explainer, lambda why: text_of(why, options, width)))
     except LookupError as error:
         # A place that belongs to no wait.
         raise process.Stop(error.args[0], process.PARTIAL) from None

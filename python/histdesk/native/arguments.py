@@ -32,6 +32,27 @@ class Located(Protocol):
         """The line on that CPU, from 1."""
 
 
+def whole(value: int, name: str) -> int:
+    """Return a whole number that a caller has passed.
+
+    Parameters
+    ----------
+    value
+        The number, or what has `__index__`.
+    name
+        What it is, for the message.
+
+    Raises
+    ------
+    TypeError
+        If it is no whole number.
+    """
+    try:
+        return operator.index(value)
+    except TypeError:
+        raise TypeError(f"{name} is {value!r}, which is no whole number") from None
+
+
 def number(value: int, name: str) -> int:
     """Return a number as the library takes it.
 
@@ -49,10 +70,10 @@ def number(value: int, name: str) -> int:
     ValueError
         If it is out of range.
     """
-    whole = operator.index(value)
-    if not 0 <= whole <= MOST:
-        raise ValueError(f"{name} is {whole}, which isn't from 0 to {MOST}")
-    return whole
+    result = whole(value, name)
+    if not 0 <= result <= MOST:
+        raise ValueError(f"{name} is {result}, which isn't from 0 to {MOST}")
+    return result
 
 
 def pack_places(places: NDArray[Any] | Iterable[Located]) -> tuple[NDArray[Any] | bytes, int]:
