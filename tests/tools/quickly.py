@@ -12,6 +12,7 @@ is not tried, and a line says so. The last line says how many of how many things
 import io
 import os
 import random
+import re
 import shutil
 import signal
 import subprocess
@@ -434,6 +435,13 @@ def record_by_trace_cmd(folder: str) -> Dict[str, str]:
     return made
 
 
+def has_flags(path: str, trace: bytes) -> bool:
+    """Return whether the events of a trace have the flags, in order, that trace-cmd prints in its latency layout."""
+    told = subprocess.run(["trace-cmd", "report", "-l", "-i", path], capture_output=True, timeout=LIMIT)
+    wanted = re.findall(rb"^.{8}-[0-9]+ +[0-9]+([^ 0-9][^ ]*) ", told.stdout, re.MULTILINE)
+    return len(wanted) > 0 and wanted == re.findall(rb"^[^#].*?-[0-9]+ +\[[0-9]+\] ([^ 0-9][^ ]*) ", trace, re.MULTILINE)
+
+
 def check_trace_cmd(folder: str, made: Dict[str, str], slow: str, quick: str) -> None:
     """Check that both ways give the same, and that the quick one is taken exactly if it should be."""
     ended = os.path.join(folder, "ended")
@@ -450,6 +458,7 @@ def check_trace_cmd(folder: str, made: Dict[str, str], slow: str, quick: str) ->
         check(is_quick == BY_TRACE_CMD[name][1], f"{name}.dat: {'' if is_quick else 'not '}turned quickly")
         check(name != "lost" or b" EVENTS]" in found.trace, "no events were lost")
         check(name != "names" or b"would mislead" in found.said, f"no names are odd: {found.said!r}")
+        check(name != "plain" or has_flags(path, found.trace), "the events have other flags")
 
 
 def check_false(folder: str, path: str, slow: str, quick: str) -> None:

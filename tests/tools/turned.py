@@ -86,9 +86,24 @@ def perf_text(event: Happened) -> str:
     return f"{event.task:>16} {event.pid:5} [{event.cpu:03}] {nanos(event):>15}: {name:>24}: {event.fields}"
 
 
+def with_process(event: Happened) -> str:
+    """Return what `perf script -F +pid` prints for an event."""
+    front, stamp, rest = perf_text(event).partition(f" [{event.cpu:03}] {nanos(event):>15}: ")
+    return f"{event.task:>16} {event.pid // 2:5}/{event.pid:<5}{stamp}{rest}"
+
+
 def report_text(event: Happened) -> str:
     """Return what `trace-cmd report` prints for an event."""
     return f"{event.task:>16}-{event.pid:<5} [{event.cpu:03}] {nanos(event):>16}: {event.name + ':':<21} {event.fields}"
+
+
+def plugins_text(event: Happened) -> str:
+    """Return what `trace-cmd report` prints for an event by its plugins, which -N leaves out."""
+    if event.name in ("sched_waking", "irq_handler_entry"):
+        return report_text(event)
+    tasks = [f"{name}:{pid} [{prio}]" for name, pid, prio in zip(event.names, event.numbers[::2], event.numbers[1::2])]
+    fields = " S ==> ".join(tasks) if event.name == "sched_switch" else f"{tasks[0]} CPU:{event.numbers[2]:03}"
+    return report_text(event)[: -len(event.fields)] + fields
 
 
 def kernel_text(event: Happened) -> str:
@@ -101,6 +116,8 @@ FORMS: Dict[str, Tuple[Callable[[Happened], str], List[str]]] = {
     "from-perf": (perf_text, [os.path.join(TOOLS, "from-perf")]),
     "from-trace-cmd": (report_text, [os.path.join(TOOLS, "from-trace-cmd")]),
     "record": (kernel_text, ["-m", "histdesk.cli.kernel_text", "record"]),
+    "from-trace-cmd, of plugins": (plugins_text, [os.path.join(TOOLS, "from-trace-cmd")]),
+    "from-perf, with processes": (with_process, [os.path.join(TOOLS, "from-perf")]),
 }
 
 
@@ -357,6 +374,43 @@ def check_ahead(seed: int) -> None:
     check(said == "Is a directory", f"a folder is read ahead: {said}")
 
 
+# ---- flags
+
+
+def latency_text(event: Happened, flags: str) -> str:
+    """Return what `trace-cmd report -l` prints for an event."""
+    return f"{event.task[:8]:>8}-{event.pid:<5} {event.cpu:3}{flags} {nanos(event):>16}: {event.name + ':':<21} {event.fields}"
+
+
+def check_flags(seed: int) -> None:
+    """Check that each event gets its own flags from the latency layout, if it is there, however the texts come."""
+    from histdesk.convert.latency import MOST, Flagged
+
+    draw = random.Random(seed)
+    events = some_events(draw, 2000, lambda: odd_name(draw))
+    flags = [draw.choice(["d..2.", ".....", "dNh3.", "X.s..", "d.H5a1"]) for _ in events]
+    there = [draw.random() < 0.9 for _ in events]
+    lines = [(latency_text(event, letters) + "\n").encode("latin-1") for event, letters in zip(events, flags)]
+    latency = b"cpus=4\n" + b"".join(line for line, is_there in zip(lines, there) if is_there)
+    text = b"cpus=4\nCPU:1 [7 EVENTS DROPPED]\n" + "".join(report_text(event) + "\n" for event in events).encode("latin-1")
+    wanted = text
+    for event, letters, is_there in zip(events, flags, there):
+        front = f"-{event.pid:<5} [{event.cpu:03}] "
+        old = f"{front}{nanos(event):>16}: {event.name}:".encode("latin-1")
+        new = f"{front}{letters} {nanos(event):>16}: {event.name}:".encode("latin-1")
+        wanted = wanted.replace(old, new, 1) if is_there else wanted
+    for sources in ((io.BytesIO(text), io.BytesIO(latency)), (Drip(text, draw), Drip(latency, draw))):
+        flagged = Flagged(*sources, 5000)
+        found = b"".join(iter(lambda: flagged.read(1), b""))
+        check(found == wanted, f"flags: {sum(map(bytes.__ne__, found.splitlines(), wanted.splitlines()))} lines are others")
+    # So many events more that it isn't looked for the right one, and none at all.
+    for latency in (lines[0] * (MOST + 1) + lines[1], b"", b"no line"):
+        flagged = Flagged(io.BytesIO(text), io.BytesIO(latency), 5000)
+        found = b"".join(iter(lambda: flagged.read(1), b""))
+        other = report_text(events[1]).encode("latin-1")
+        check(len(found) - len(text) in (0, len(flags[0]) + 1) and other in found, "flags that are not there are put in")
+
+
 # ---- buffers
 
 
@@ -418,6 +472,7 @@ check_pieces(first)
 check_gone()
 check_kept(first)
 check_ahead(first)
+check_flags(first)
 for seed, names in enumerate([["", "one"], ["one", "two", ""], ["a", "longer name: "], ["one"]], first):
     check_buffers(seed, names)
 finish()
