@@ -29,7 +29,7 @@ def converter_of(path: str) -> str | None:
     return origin and origin.converter
 
 
-def text_of(path: str, converter: str) -> str:
+def text_of(path: str, converter: str, is_repeated: bool = False) -> str:
     """Return the path of a recording's text, which is in memory until the tool ends, and can be read from any byte on.
 
     Parameters
@@ -38,6 +38,8 @@ def text_of(path: str, converter: str) -> str:
         The recording.
     converter
         The tool that converts it, such as `from-perf`.
+    is_repeated
+        Whether the converter has already run to its end, so that it isn't to repeat what it has said.
 
     Raises
     ------
@@ -48,7 +50,9 @@ def text_of(path: str, converter: str) -> str:
     """
     if path not in _texts:
         file = os.memfd_create("histdesk")
-        run = subprocess.run(command(converter, path), stdin=subprocess.DEVNULL, stdout=file, env=environment(), check=False)
+        errors = subprocess.DEVNULL if is_repeated else None
+        words, null = command(converter, path), subprocess.DEVNULL
+        run = subprocess.run(words, stdin=null, stdout=file, stderr=errors, env=environment(), check=False)
         note_end(path, run.returncode, os.fstat(file).st_size > 0)
         _texts[path] = file
     return f"/proc/self/fd/{_texts[path]}"

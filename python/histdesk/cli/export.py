@@ -80,7 +80,8 @@ def whole_answer(options: argparse.Namespace) -> WaitAnswer:
         return traces.whole_waits(options, options.trace, "export", keeps=False)
 
     def read(watch: Watch) -> WaitAnswer:
-        read_options = _waits.ReadOptions(options.lenient, watch, options.trace, jobs=options.jobs)
+        reread = traces.rereader_of(options.trace)
+        read_options = _waits.ReadOptions(options.lenient, watch, options.trace, jobs=options.jobs, reread=reread)
         return _waits_in_parts.waits_in_parts(watch.source(False), read_options)
 
     return traces.read_watched(read, options.trace, "export")
