@@ -109,6 +109,10 @@ def answer_of(options: argparse.Namespace) -> Table:
 def work(argv: Sequence[str] | None) -> int:
     """Write what the arguments ask for, and return the exit status."""
     options = parse(argv)
+    from . import conversion
+
+    if options.what == "waits":
+        conversion.begin(options)
     from .. import _export, _writers
 
     table = _export.waits_table(waits_of(options)) if options.what == "waits" else answer_of(options)

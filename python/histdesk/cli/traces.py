@@ -269,7 +269,7 @@ def source_of(path: str, is_read_again: bool = True) -> Trace:
         return path
     if is_read_again:
         return conversion.text_of(path, converter)
-    return cast("IO[bytes]", conversion.PipedText(path, converter))
+    return cast("IO[bytes]", conversion.piped_text(path, converter))
 
 
 def rereader_of(path: str) -> Callable[[], Text] | None:

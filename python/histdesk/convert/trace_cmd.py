@@ -8,6 +8,7 @@ import io
 import re
 import subprocess
 from collections.abc import Iterator, Sequence
+from concurrent.futures import ThreadPoolExecutor
 
 from . import plugin_layout
 from .blocks import MEMORY, front_of, widen
@@ -92,7 +93,8 @@ class TraceCmdFormat(ColumnFormat):
 
     def front(self, path: str) -> bytes:
         # The lines of the latency layout are shorter.
-        text, latency = (io.BytesIO(front_of([*command, path])) for command in (self.command, self.latency))
+        with ThreadPoolExecutor() as pool:
+            text, latency = map(io.BytesIO, pool.map(front_of, ([*self.command, path], [*self.latency, path])))
         flagged = Flagged(text, latency, READ)
         return b"".join(iter(lambda: flagged.read(READ), b""))
 
