@@ -10,6 +10,11 @@ record_by_perf() {
     perf record -q -a -m 16M -o "$1" "${events[@]/#/-esched:}" bash -c "$busy" >"$folder/out"
 }
 
+# record_by_perf_sched FILE: records the same by `perf sched record`, with events that say how long tasks have run.
+record_by_perf_sched() {
+    perf sched record -m 64M -o "$1" -- bash -c "$busy" >"$folder/out" 2>&1
+}
+
 # Whether perf made a recording.
 is_by_perf() {
     [[ $(head -c 8 -- "$1") == PERFILE2 ]]

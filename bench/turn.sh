@@ -2,7 +2,8 @@
 # turn.sh [RECORDING]..: times what makes a text of what was recorded: tools/record beside `cat` of the same trace, from-perf
 # beside `perf script`, from-trace-cmd beside `trace-cmd report`, and these two also without what build/build compiles for them;
 # and tools/waits of each recording as it is, beside `perf sched latency` and `trace-cmd report`.
-# Without an argument, it first records, as root, a machine that two benchmarks of perf keep busy, by tracefs and by both tools.
+# Without an argument, it first records, as root, a machine that two benchmarks of perf keep busy: by tracefs, by both tools, and
+# by `perf sched record`.
 #
 # The commands over one recording run in turn, seven times or as often as TIMES says, and write into files. For each, it prints
 # the least time by the clock, the least time of processors, and the ratio of the first to that of the command beside it. What
@@ -101,7 +102,8 @@ cp -r -- "$tools" "$tools/../python" "$folder/slow"
 if (($# == 0)); then
     measure_record
     record_by_perf "$folder/perf.data" "${events[@]}"
-    recordings+=("$folder/perf.data")
+    record_by_perf_sched "$folder/sched.data"
+    recordings+=("$folder/perf.data" "$folder/sched.data")
     if trace-cmd record -b 65536 -o "$folder/trace.dat" "${events[@]/#/-e}" bash -c "$busy" >"$folder/out" 2>&1; then
         recordings+=("$folder/trace.dat")
     else

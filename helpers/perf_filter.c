@@ -1,6 +1,6 @@
 /* perf_filter.so: a filter for `perf script --dlfilter`, by which from-perf converts a recording. perf hands it each event
- * before it prints it. A plain event of the scheduler is converted here, and perf prints nothing; any other one is left to
- * perf.
+ * before it prints it. A plain event of the scheduler, or another one whose text is simple, is converted here, and perf prints
+ * nothing; any other one is left to perf.
  *
  * What goes to perf's standard output is blocks (event_lines.h): converted lines, and what perf itself prints, in order. The
  * first events of each kind, each new state and every 4096th event are converted here and printed by perf too: the reader
@@ -8,6 +8,9 @@
  *
  *   NAME:ID:SIZE:STATE_SIZE:OFFSET,..   where the fields of a kind of event are, in the order of event_lines.h
  *   states:MASK:PLUS:BIT=TEXT,..        how the kernel's format prints a state
+ *   other:SYSTEM:NAME:ID:SIZE:TEXT      the text of an event of another kind, in which %d24.4; stands for four bytes at offset
+ *                                       24 as a number, %u and %x likewise, %s8.16; for a text of at most 16 bytes, and
+ *                                       %t8.4; for one whose place and length are there
  *   memory:FILE:PIPE                    open files for memory and for what is free of it */
 #define _GNU_SOURCE
 #include <perf/perf_dlfilter.h>
@@ -30,8 +33,31 @@ enum { BITS = 24, BIT_TEXT = 8 };
 /* perf prints less than this for one event, and its standard output is looked at between two events. */
 enum { TOLD_ROOM = 1 << 20 };
 
-/* perf's own text of a kind's name, by which it is found again. */
-static const char *texts[KINDS];
+/* How many other kinds there are at most, and how many parts the text of one has; the room for a text within it, for a number,
+ * and for the whole; and the most bytes of a label. */
+enum { OTHERS = 64, PARTS = 16, TEXT_ROOM = 64, DIGITS = 20, OTHER_ROOM = 320, LONGEST_LABEL = 48 };
+
+/* A part of an event's text: some text, and what follows it: d, u or x for a number, s or t for a text, or 0 for nothing. */
+struct part {
+    const char *text;
+    size_t length;
+    char what;
+    uint32_t at, size;
+};
+
+/* Another kind of event, with its name as perf has it, and the label of its lines. */
+struct other {
+    struct kind kind;
+    const char *name, *label;
+    struct part parts[PARTS];
+    int count;
+};
+
+static struct other others[OTHERS];
+static int other_count;
+
+/* perf's own text of a kind's name, by which it is found again: first those of event_lines.h, and then the others. */
+static const char *texts[KINDS + OTHERS];
 
 /* What each CPU runs, by its last switch; it is known if its age is the present one. */
 static struct {
@@ -71,18 +97,35 @@ static void hand_on(void)
 
 /* ---- Lines */
 
+/* A kind by its index in `texts`, and the label of its lines. */
+static struct kind *kind_at(int which)
+{
+    return which < KINDS ? &kinds[which] : &others[which - KINDS].kind;
+}
+
+static const char *label_at(int which)
+{
+    return which < KINDS ? kind_names[which] : others[which - KINDS].label;
+}
+
+/* Whether a kind has the name by which perf calls an event. */
+static bool is_named(int which, const char *event)
+{
+    if (which >= KINDS)
+        return strcmp(event, others[which - KINDS].name) == 0;
+    return kinds[which].is_known && strncmp(event, "sched:", 6) == 0 && strcmp(event + 6, kind_names[which]) == 0;
+}
+
 /* The index of an event's kind, or -1. */
 static int kind_of(const struct perf_dlfilter_sample *sample)
 {
     if (!sample->event)
         return -1;
-    for (int which = 0; which < KINDS; which++)
+    for (int which = 0; which < KINDS + other_count; which++)
         if (sample->event == texts[which])
             return which;
-    if (strncmp(sample->event, "sched:", 6) != 0)
-        return -1;
-    for (int which = 0; which < KINDS; which++)
-        if (kinds[which].is_known && strcmp(sample->event + 6, kind_names[which]) == 0) {
+    for (int which = 0; which < KINDS + other_count; which++)
+        if (is_named(which, sample->event)) {
             texts[which] = sample->event;
             return which;
         }
@@ -129,7 +172,7 @@ static char *put_known(char *to, int tid, void *ctx)
 static char *put_gone(char *to, const struct perf_dlfilter_sample *sample, int which)
 {
     const char *raw = sample->raw_data;
-    const int *at = kinds[which].at;
+    const int *at = kinds[SWITCH].at;
     int tid = which == SWITCH ? number_at(raw, at[PREV_PID]) : running[sample->cpu].tid;
 
     if (which != SWITCH && running[sample->cpu].age != age)
@@ -176,10 +219,75 @@ static char *put_switch(char *to, const struct kind *kind, const char *raw, int 
     return to ? put_next(to, kind, raw) : NULL;
 }
 
+/* A text of an event, of at most so many bytes or up to its zero. */
+static char *put_text(char *to, const char *from, size_t most)
+{
+    size_t length = strnlen(from, most);
+
+    if (length > TEXT_ROOM)
+        return NULL;
+    for (size_t at = 0; at < length; at++)
+        if (from[at] < ' ' || from[at] > '~')
+            return NULL;
+    return put(to, from, length);
+}
+
+/* A text whose place and length are in a word of the event. */
+static char *put_text_at(char *to, uint32_t word, const struct perf_dlfilter_sample *sample)
+{
+    uint32_t at = word & 0xffff, length = word >> 16;
+
+    return at + length > sample->raw_size ? NULL : put_text(to, (const char *)sample->raw_data + at, length);
+}
+
+static char *put_hex(char *to, uint64_t value)
+{
+    int digits = 1;
+
+    while (digits < 16 && value >> 4 * digits)
+        digits++;
+    while (digits-- > 0)
+        *to++ = "0123456789abcdef"[value >> 4 * digits & 15];
+    return to;
+}
+
+/* What follows the text of a part. */
+static char *put_value(char *to, const struct part *part, const struct perf_dlfilter_sample *sample)
+{
+    const char *from = (const char *)sample->raw_data + part->at;
+    uint64_t value = 0;
+
+    if (part->what == 's')
+        return put_text(to, from, part->size);
+    memcpy(&value, from, part->size);
+    if (part->what == 't')
+        return put_text_at(to, (uint32_t)value, sample);
+    if (part->what == 'x')
+        return put_hex(to, value);
+    if (part->what == 'd' && value >> (8 * part->size - 1)) {
+        *to++ = '-';
+        value = part->size == sizeof value ? -value : (uint32_t)-value;
+    }
+    return put_number(to, value);
+}
+
+/* The fields of an event of another kind. */
+static char *put_parts(char *to, const struct other *other, const struct perf_dlfilter_sample *sample)
+{
+    for (int at = 0; to && at < other->count; at++) {
+        const struct part *part = &other->parts[at];
+
+        to = put(to, part->text, part->length);
+        if (part->what)
+            to = put_value(to, part, sample);
+    }
+    return to;
+}
+
 /* A whole line. */
 static char *put_line(char *to, const struct perf_dlfilter_sample *sample, int which, void *ctx, int *fresh)
 {
-    const char *raw = sample->raw_data, *name = kind_names[which];
+    const char *raw = sample->raw_data, *name = label_at(which);
 
     to = sample->tid == -1 ? put_gone(to, sample, which) : sample->tid < 0 ? NULL : put_known(to, sample->tid, ctx);
     to = THEN(to, " [", put_cpu(to, sample->cpu));
@@ -188,7 +296,10 @@ static char *put_line(char *to, const struct perf_dlfilter_sample *sample, int w
     if (!to)
         return NULL;
     to = PUT(to, ": ");
-    to = which == SWITCH ? put_switch(to, &kinds[which], raw, fresh) : put_waking(to, &kinds[which], raw);
+    if (which == SWITCH)
+        to = put_switch(to, &kinds[which], raw, fresh);
+    else
+        to = which < KINDS ? put_waking(to, &kinds[which], raw) : put_parts(to, &others[which - KINDS], sample);
     if (to)
         *to++ = '\n';
     return to;
@@ -237,7 +348,7 @@ static char *turned(const struct perf_dlfilter_sample *sample, int which, void *
 {
     char *end;
 
-    if (is_of_guest(sample) || which < 0 || !is_whole(sample, &kinds[which]))
+    if (is_of_guest(sample) || which < 0 || !is_whole(sample, kind_at(which)))
         return NULL;
     if (__fpending(stdout) > 0)
         hand_on();
@@ -250,6 +361,7 @@ static char *turned(const struct perf_dlfilter_sample *sample, int which, void *
 /* 0 leaves the event to perf, 1 has it print nothing, and a negative number ends perf. */
 int filter_event_early(void *data, const struct perf_dlfilter_sample *sample, void *ctx)
 {
+    struct kind *kind;
     char *end;
     int which, fresh = -1;
 
@@ -266,8 +378,9 @@ int filter_event_early(void *data, const struct perf_dlfilter_sample *sample, vo
         left++;
         return 0;
     }
-    kinds[which].seen++;
-    if (fresh < 0 && kinds[which].seen > FIRST && kinds[which].seen % EVERY != 0) {
+    kind = kind_at(which);
+    kind->seen++;
+    if (fresh < 0 && kind->seen > FIRST && kind->seen % EVERY != 0) {
         take_line(end);
         return 1;
     }
@@ -315,6 +428,63 @@ static bool take_kind(struct kind *kind, char *text, bool is_switch)
     return kind->is_known;
 }
 
+/* Whether the fields of a part lie within its event. */
+static bool is_part(const struct part *part, uint32_t size)
+{
+    bool is_number = part->size == sizeof(uint32_t) || part->size == sizeof(uint64_t);
+
+    if (part->at > size || part->size > size - part->at || !part->what || !strchr("duxst", part->what))
+        return false;
+    return part->what == 's' || (is_number && (part->what != 't' || part->size == sizeof(uint32_t)));
+}
+
+/* Cuts the text of another kind into parts. */
+static bool take_parts(struct other *other, char *text)
+{
+    size_t room = 0;
+
+    while (other->count < PARTS) {
+        struct part *part = &other->parts[other->count++];
+
+        part->text = text;
+        part->length = strcspn(text, "%");
+        text += part->length;
+        room += part->length;
+        if (*text == 0)
+            return room <= OTHER_ROOM;
+        part->what = text[1];
+        part->at = (uint32_t)strtoul(text[1] ? text + 2 : text + 1, &text, 10);
+        part->size = *text == '.' ? (uint32_t)strtoul(text + 1, &text, 10) : 0;
+        if (*text++ != ';' || !is_part(part, other->kind.size))
+            return false;
+        room += part->what == 's' || part->what == 't' ? TEXT_ROOM : DIGITS;
+    }
+    return false;
+}
+
+static bool take_other(char *text)
+{
+    struct other *other = &others[other_count];
+    /* Its words are kept to the end. */
+    char *words = strdup(text), *rest = words, *name, *id, *size;
+
+    if (other_count == OTHERS || !strsep(&rest, ":") || !(name = strsep(&rest, ":")) || !(id = strsep(&rest, ":")))
+        return false;
+    size = strsep(&rest, ":");
+    if (!size || !rest || strlen(words) + strlen(name) > LONGEST_LABEL)
+        return false;
+    other->kind.id = (uint16_t)strtol(id, NULL, 10);
+    other->kind.size = (uint32_t)strtoul(size, NULL, 10);
+    if (other->kind.size < sizeof other->kind.id || !take_parts(other, rest))
+        return false;
+    /* In a line, the scheduler's own events have no system. */
+    other->label = strcmp(words, "sched") == 0 ? name : words;
+    name[-1] = ':';
+    other->name = words;
+    other_count++;
+    return true;
+}
+
 static bool take_word(char *text)
 {
     const char *name = strsep(&text, ":");
@@ -323,6 +493,8 @@ static bool take_word(char *text)
         return false;
     if (strcmp(name, "memory") == 0)
         return take_memory(text);
+    if (strcmp(name, "other") == 0)
+        return take_other(text);
     if (strcmp(name, "states") == 0)
         return take_states(text);
     for (int which = 0; which < KINDS; which++)

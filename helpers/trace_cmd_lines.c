@@ -1,7 +1,7 @@
 /* trace_cmd_lines RECORDING memory:FILE:PIPE: reads a recording of trace-cmd by its own libraries, for from-trace-cmd. Plain
- * events of the scheduler are converted here; any other one is printed as `trace-cmd report -N -t` prints it. Both go to
- * standard output as blocks (event_lines.h), in order; FILE and PIPE are the numbers of open files for memory and for what is
- * free of it.
+ * events of the scheduler are converted here; any other one is printed as `trace-cmd report -N -t` prints it, with the flags
+ * that -l prints. Both go to standard output as blocks (event_lines.h), in order; FILE and PIPE are the numbers of open files
+ * for memory and for what is free of it.
  *
  * The first events of each kind, each new state and every 4096th event are compared with what the library prints of their
  * fields. If a recording has several buffers, or something that isn't known here, no last block is written, and the status is
@@ -26,6 +26,48 @@ static struct tep_handle *tep;
 static struct trace_seq info, told;
 /* Whether the recording has something that isn't known here, so that it can't be converted here. */
 static bool is_unknown;
+
+/* ---- Flags */
+
+/* The texts of flags that were met, by the bytes that the kernel has for flags and for how often preemption is off. */
+static struct {
+    char text[15];
+    uint8_t length;
+} flag_texts[1 << 16];
+/* Where these two bytes are; -1 if a text may depend on other fields too. */
+static int flags_at = -1;
+
+/* Finds out where the flags of each event are. */
+static void find_flags(struct tep_event *event)
+{
+    struct tep_format_field *flags = tep_find_common_field(event, "common_flags");
+    struct tep_format_field *count = tep_find_common_field(event, "common_preempt_count");
+    bool is_pair = flags && count && flags->size == 1 && count->size == 1 && count->offset == flags->offset + 1;
+
+    /* The type, these two and the task. */
+    if (is_pair && event->format.nr_common == 4 && flags->offset >= 0 && flags->offset < 16)
+        flags_at = flags->offset;
+}
+
+/* The flags of an event as the library prints them, with a blank. */
+static char *put_flags(char *to, struct tep_record *record)
+{
+    uint16_t key = 0;
+
+    if (flags_at >= 0) {
+        memcpy(&key, (const char *)record->data + flags_at, sizeof key);
+        if (flag_texts[key].length > 0)
+            return put(to, flag_texts[key].text, flag_texts[key].length);
+    }
+    trace_seq_reset(&info);
+    tep_print_event(tep, &info, record, "%s ", TEP_PRINT_LATENCY);
+    if (info.len < 2 || info.len > sizeof flag_texts[0].text || strcspn(info.buffer, ": ") != info.len - 1 ||
+        strchr("0123456789", info.buffer[0]))
+        return NULL;
+    memcpy(flag_texts[key].text, info.buffer, info.len);
+    flag_texts[key].length = flags_at >= 0 ? (uint8_t)info.len : 0;
+    return put(to, info.buffer, info.len);
+}
 
 /* ---- Kinds */
 
@@ -66,6 +108,7 @@ static void find_kind(int which)
 
     if (!event)
         return;
+    find_flags(event);
     kind->id = (uint16_t)event->id;
     kind->size = sizeof kind->id;
     for (int field = 0; field < (is_switch ? FIELDS : SUCCESS + 1); field++)
@@ -127,6 +170,9 @@ static char *put_front(char *to, struct tep_record *record, int cpu, int which)
     if (!to)
         return NULL;
     to = PUT(to, "] ");
+    to = put_flags(to, record);
+    if (!to)
+        return NULL;
     to = put_blanks(to, SECONDS_WIDTH - (int)(strchr(stamp, '.') - stamp));
     to = put(to, stamp, (size_t)(end - stamp));
     to = PUT(to, ": ");
@@ -222,7 +268,8 @@ static void print_event(struct tep_record *record)
         is_unknown = true;
         return;
     }
-    tep_print_event(tep, &told, record, "%16s-%-5d [%03d] %9d: ", TEP_PRINT_COMM, TEP_PRINT_PID, TEP_PRINT_CPU, TEP_PRINT_TIME);
+    tep_print_event(tep, &told, record, "%16s-%-5d [%03d] ", TEP_PRINT_COMM, TEP_PRINT_PID, TEP_PRINT_CPU);
+    tep_print_event(tep, &told, record, "%s %9d: ", TEP_PRINT_LATENCY, TEP_PRINT_TIME);
     trace_seq_printf(&told, "%s: %*s", event->name, width > 0 ? width : 0, "");
     tep_print_event(tep, &told, record, "%s\n", TEP_PRINT_INFO);
 }

@@ -60,16 +60,19 @@ BY_TRACE_CMD = Origin("a recording of trace-cmd", "trace-cmd", "from-trace-cmd")
 RECORDINGS = {b"PERFILE2": BY_PERF, b"2ELIFREP": BY_PERF, b"\x17\x08\x44tracing": BY_TRACE_CMD}
 PRINTED_BY_PERF = Origin("what perf script printed", "perf", "from-perf")
 PRINTED_BY_TRACE_CMD = Origin("what trace-cmd report printed", "trace-cmd", "from-trace-cmd")
-# The first line of such texts that isn't a comment, and any of their lines.
-FIRST_LINES = {
-    PRINTED_BY_PERF: re.compile(rb".* [0-9]+ +\[[0-9]+\] +[0-9]+\.[0-9]+: +[^ ]+:"),
-    PRINTED_BY_TRACE_CMD: re.compile(rb"cpus=[0-9]|version = [0-9]"),
-}
+# The first line of such texts that isn't a comment, and any of their lines. The kernel's stamps have six digits.
 _STAMP = rb"[0-9]+\.[0-9]{6,9}: +"
-LINES = {
-    PRINTED_BY_PERF: re.compile(rb".*[^ ] +(?:[0-9]+/)?[0-9]+ +\[[0-9]+\] +%b[^ ]+:.*" % _STAMP),
-    PRINTED_BY_TRACE_CMD: re.compile(rb".*-[0-9]+ +(?:\( *[0-9-]+\) +)?\[[0-9]+\] +(?:[^ :]+ +)?%b.*" % _STAMP),
+_FRONT = rb".*-[0-9]+ +(?:\( *[0-9-]+\) +)?\[[0-9]+\] +(?:[^ :]+ +)?"
+FIRST_LINES = {
+    PRINTED_BY_PERF: re.compile(rb".* (?:-?[0-9]+/)?-?[0-9]+ +\[[0-9]+\] +[0-9]+\.[0-9]+: +[^ ]+:"),
+    PRINTED_BY_TRACE_CMD: re.compile(rb"cpus=[0-9]|version = [0-9]|%b[0-9]+\.[0-9]{9}: " % _FRONT),
 }
+LINES = {
+    PRINTED_BY_PERF: re.compile(rb".*[^ ] +(?:-?[0-9]+/)?-?[0-9]+ +\[[0-9]+\] +%b[^ ]+:.*" % _STAMP),
+    PRINTED_BY_TRACE_CMD: re.compile(_FRONT + _STAMP + rb".*"),
+}
+# What trace-cmd prints of a switch without -N, after the blanks with which it fills up the name of an event: no prev_comm=.
+PLUGIN_SWITCH = re.compile(rb": sched_switch: {9}(?:[^p]|p[^r])")
 # A line of an event in the kernel's text, in that of perf script or in that of trace-cmd report.
 EVENT_LINE = re.compile(rb"[ -][0-9]+ .*\[[0-9]+\] .*[0-9]\.[0-9]{6,9}: +[A-Za-z_0-9:]+:")
 
@@ -101,7 +104,7 @@ def printed_origin(front: bytes) -> Origin | None:
     for origin, pattern in FIRST_LINES.items():
         if line and pattern.match(line[0]) and not holds_event(line[0]):
             return origin
-    return None
+    return PRINTED_BY_TRACE_CMD if PLUGIN_SWITCH.search(front) else None
 
 
 def origin_of(front: bytes) -> Origin | None:

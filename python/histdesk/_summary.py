@@ -746,5 +746,6 @@ def summary_of_recording(recording: Recording, options: SummaryOptions) -> Summa
 def not_in_order(path: str | None, error: Backwards | None = None) -> ValueError:
     """Return the exception for a text that isn't in time order; `error` has the line that shows it."""
     what = "its events aren't" if error is None else f"line {error} isn't"
-    message = f"{what} in time order, so it can't be summed up; {tool('waits')} takes such a trace"
+    file = " if it is a file" if path == "-" else ""
+    message = f"{what} in time order, so it can't be summed up; {tool('waits')} takes such a trace{file}"
     return ValueError(f"{path}: {message}" if path else message)

@@ -420,6 +420,8 @@ class ReadOptions(NamedTuple):
         How many parts are read at once; if it is None, `_parallel.jobs_for` decides. A text that is summed up has one part.
     sums
         Whether it is also summed up by task and by CPU.
+    reread
+        What returns a text that can be read only once, and isn't kept, once more, after all of it was read; or None.
     """
 
     lenient: bool = False
@@ -428,6 +430,7 @@ class ReadOptions(NamedTuple):
     keeps: bool = True
     jobs: int | None = 1
     sums: bool = False
+    reread: Callable[[], Text] | None = None
 
 
 def waits_of_text(trace: Trace, options: ReadOptions = ReadOptions()) -> Waits:
@@ -467,13 +470,11 @@ def answer_of(
     except Backwards as error:
         if options.sums:
             raise
-        if again is None and kept is None:
+        text = again or text_after(pieces, kept, options.reread)
+        if text is None:
             what = f"line {error}: its stamp is before that of the event above it; such a trace must be a file"
             raise ValueError(what) from None
-        # Read the rest of what comes by a pipe.
-        for _ in pieces if kept else ():
-            pass
-        return waits_in_any_order(options.path, (again or kept or Text()).read(), Choice(), options.lenient)
+        return waits_in_any_order(options.path, text.read(), Choice(), options.lenient)
     except Refused as error:
         error.path = options.path
         if again:
@@ -489,6 +490,16 @@ def watch_pieces(pieces: Iterator[Piece], watch: Watch | None, kept: KeptText | 
         if kept:
             kept.add(piece)
         yield piece
+
+
+def text_after(pieces: Iterator[Piece], kept: KeptText | None, reread: Callable[[], Text] | None) -> Text | None:
+    """Read the rest of a text that can be read only once, and return the whole text: what was kept of it, or what `reread`
+    returns. If there is neither, return None, and read nothing."""
+    if kept is None and reread is None:
+        return None
+    for _ in pieces:
+        pass
+    return kept if reread is None else reread()
 
 
 def show_line(error: Refused, text: Text) -> None:

@@ -6,7 +6,9 @@
 Programs that stand in for perf and trace-cmd print a known text."""
 
 import csv
+import json
 import os
+import re
 import subprocess
 import sys
 import tempfile
@@ -29,6 +31,22 @@ KINDS = {
     "perf.data": (b"PERFILE2 and more", "perf", "{task:>16} {pid:>7} [{cpu:03}] {stamp}000:  sched:{event}: {rest}"),
     "trace.dat": (b"\x17\x08\x44tracing6", "trace-cmd", "{task:>16}-{pid:<5} [{cpu:03}] {stamp}000: {event}: {rest}"),
 }
+
+
+# A timer's interrupt wakes `a` while `b` runs, and `a` wakes `c`, as the kernel prints it.
+SWITCHED = "sched_switch: prev_comm={} prev_pid={} prev_prio=120 prev_state={} ==> next_comm={} next_pid={} next_prio=120"
+WOKEN = "sched_waking: comm={} pid={} prio=120 target_cpu=001"
+INTERRUPTED = f"""\
+               c-3       [001] d..2.     1.000000: {SWITCHED.format("c", 3, "S", "b", 2)}
+               b-2       [001] d.h4.     1.000100: {WOKEN.format("a", 1)}
+               b-2       [001] d..2.     1.000120: {SWITCHED.format("b", 2, "R+", "a", 1)}
+               a-1       [001] d..3.     1.000150: {WOKEN.format("c", 3)}
+               a-1       [001] d..2.     1.000160: {SWITCHED.format("a", 1, "S", "c", 3)}
+"""
+# What trace-cmd prints of it, in its usual layout and in its latency layout, in which names are cut off.
+FLAGS = re.compile("^(.{16})(-[0-9]+ +)\\[([0-9]+)\\] ([^ ]+) +([0-9.]+): ", re.MULTILINE)
+USUAL = "cpus=2\n" + FLAGS.sub(r"\1\2[\3] \g<5>000: ", INTERRUPTED)
+LATENCY = "cpus=2\n" + FLAGS.sub(lambda line: f"{line[1][-8:]}{line[2]}{int(line[3]):3}{line[4]} {line[5]}000: ", INTERRUPTED)
 
 
 def printed(text, form):
@@ -59,11 +77,11 @@ class Tools(unittest.TestCase):
             file.write(content)
         return path
 
-    def stand_in(self, program, text, status=0):
-        """Put a program there that knows no filters, and prints this text."""
-        told = self.put(f"{program}.told", text.encode())
-        script = f'#!/bin/sh\ncase "$*" in *dlfilter*) exit 129 ;; esac\ncat {told}\nexit {status}\n'
-        os.chmod(self.put(program, script.encode()), 0o755)
+    def stand_in(self, program, text, status=0, latency=""):
+        """Put a program there that knows no filters, and prints this text, or with -l another one."""
+        told, other = self.put(f"{program}.told", text.encode()), self.put(f"{program}.latency", latency.encode())
+        cases = f"*dlfilter*) exit 129 ;; *' -l '*) cat {other} ;; *) cat {told} ;;"
+        os.chmod(self.put(program, f'#!/bin/sh\ncase "$*" in {cases} esac\nexit {status}\n'.encode()), 0o755)
 
     def ran(self, tool, *words, **options):
         environment = {**os.environ, "PATH": f"{self.folder}:{os.environ['PATH']}"}
@@ -105,6 +123,41 @@ class Tools(unittest.TestCase):
                 [(int(row["pid"]), row["kind"], int(row["micros"])) for row in rows],
                 [one[1:2] + one[:1] + (one.micros,) for one in want],
             )
+
+    def test_any_order(self):
+        """If events are not in time order, as those of a CPU that perf has read late, the waits are the same. The converter
+        runs once more for that, and doesn't repeat what it says."""
+        micros = [int(one.micros) for one in plain_waits.waits_of(self.text)]
+        for program, path in self.recordings.items():
+            lines = printed(self.text, KINDS[os.path.basename(path)][2]).splitlines(keepends=True)
+            third = len(lines) // 3
+            late = [line for line in lines[third : 2 * third] if "[001]" in line]
+            others = [line for line in lines[third : 2 * third] if "[001]" not in line]
+            self.assertTrue(late and others)
+            self.stand_in(program, "".join([*lines[:third], "what is this\n", *others, *late, *lines[2 * third :]]))
+            trace = self.put(f"{program}.any-order", self.ran(f"from-{program}", path).stdout)
+            for tool, *words in [("waits",), ("waits", "--csv"), ("export", "waits"), ("diff", path), ("why",)]:
+                want = self.ran(tool, trace, *(trace if word == path else word for word in words))
+                found = self.ran(tool, path, *words)
+                self.assertEqual((want.returncode, found.returncode), (0, 1), (program, tool, want.stderr, found.stderr))
+                self.assertEqual(found.stdout.replace(path.encode(), trace.encode()), want.stdout, (program, tool))
+                self.assertEqual(found.stderr.count(b"what is this"), 1 + words.count(path), (program, tool))
+            rows = csv.DictReader(self.ran("export", path, "waits").stdout.decode().split("\n"))
+            self.assertEqual([int(row["micros"]) for row in rows], micros)
+            ran = self.ran("summary", path)
+            self.assertEqual((ran.returncode, ran.stdout), (2, b""))
+            self.assertIn(b"so it can't be summed up; tools/waits takes such a trace\n", ran.stderr)
+
+    def test_flags(self):
+        """The chain of a wait ends at the same interrupt as in the kernel's own text, whose flags trace-cmd has recorded."""
+        self.stand_in("trace-cmd", USUAL, latency=LATENCY)
+        answers = [
+            json.loads(self.ran("why", path, "1:5", "--chain", "--json").stdout)["waits"][0]
+            for path in (self.put("kernel.trace", INTERRUPTED.encode()), self.recordings["trace-cmd"])
+        ]
+        self.assertEqual(answers[0], answers[1])
+        chain = answers[1]["chain"]
+        self.assertEqual((len(chain["steps"]), chain["end"], answers[1]["context"]), (2, "interrupt", "task"))
 
     def test_failing(self):
         """A converter that makes no text ends the tool; if it leaves lines out, the tool answers and says so."""

@@ -211,6 +211,15 @@ class Unreadable(Command):
         self.assertEqual(self.hint(text), hint.format("tr -d '\\r' <TRACE"))
         self.assertEqual(self.hint(gzip.compress(text)), hint.format("zcat TRACE | tr -d '\\r'"))
 
+    def test_nothing_left(self):
+        """Leaving lines out is no way if no event, or no switch, can be read: then nothing would be left."""
+        text = trace(*BUSY)
+        hint = "no {} in its first lines can be read: it may have another layout or clock"
+        self.assertEqual(self.hint(text.replace(b"]", b"] d..2. x")), hint.format("event"))
+        self.assertEqual(self.hint(text.replace(b"prev_comm=", b"from=")), hint.format("switch"))
+        torn = text.replace(b"prev_comm=", b"from=", 1)
+        self.assertEqual(self.hint(torn), "--lenient leaves such lines out")
+
     def test_no_trace(self):
         chance = random.Random(1)
         for content in (chance.randbytes(5000), chance.randbytes(100000).replace(b"\n", b""), b"a\nb\n"):

@@ -28,7 +28,13 @@ from checks import check, finish
 from histdesk.convert import blocks as block_format
 
 WORDS = [b"sched_waking:7:36:0:8,24,28,32,-1", b"sched_switch:9:64:8:8,24,28,32,40,56,60", b"states:255:256:1=S,2=D"]
+WORDS += [
+    b"other:sched:sched_stat_runtime:11:24:comm=%t8.4; pid=%d12.4; runtime=%u16.8; [ns]",
+    b"other:irq:irq_handler_entry:12:40:irq=%d8.8; name=%s16.16; at=0x%x32.8;",
+    b"other:irq:plain:13:8:",
+]
 WAKING, SWITCH = b"sched:sched_waking", b"sched:sched_switch"
+RUNTIME, IRQ = b"sched:sched_stat_runtime", b"irq:irq_handler_entry"
 # What perf prints for an event that is left to it.
 PRINTED = b"perf's own line\n"
 
@@ -59,6 +65,14 @@ def waking(comm: bytes = b"w", pid: int = 7, prio: int = 120, cpu: int = 1, numb
 
 def switch(comm: bytes = b"p", state: int = 1, next_comm: bytes = b"n", pid: int = 5, next_pid: int = 6) -> bytes:
     return struct.pack("<HHi16siiq16sii", 9, 0, 0, comm, pid, 120, state, next_comm, next_pid, 100)
+
+
+def runtime(comm: bytes = b"w\0", pid: int = 7, nanos: int = 1234, number: int = 11, at: int = 24) -> bytes:
+    return struct.pack("<HHiIiQ", number, 0, 0, at | len(comm) << 16, pid, nanos) + comm
+
+
+def irq(number: int = 1, name: bytes = b"disk", at: int = 0) -> bytes:
+    return struct.pack("<HHiq16sQ", 12, 0, 0, number, name, at)
 
 
 Event = Dict[str, Any]
@@ -141,6 +155,24 @@ GOOD = [
     (event(switch(), SWITCH, tid=-1), line(LEFT % b"S", b"p-5", name=b"sched_switch")),
     (event(waking(), task=b"x" * 30), line(WOKEN, b"x" * 30 + b"-3")),
     (event(waking() + bytes(4)), line(WOKEN)),
+    # Other kinds of events.
+    (event(runtime(), RUNTIME), line(b"comm=w pid=7 runtime=1234 [ns]", name=b"sched_stat_runtime")),
+    (event(runtime(pid=-5), RUNTIME), line(b"comm=w pid=-5 runtime=1234 [ns]", name=b"sched_stat_runtime")),
+    (
+        event(runtime(b"=> [x] \0", -(1 << 31), (1 << 64) - 1), RUNTIME),
+        line(b"comm==> [x]  pid=-2147483648 runtime=18446744073709551615 [ns]", name=b"sched_stat_runtime"),
+    ),
+    (
+        event(runtime(b"x" * 64 + b"\0"), RUNTIME),
+        line(b"comm=%b pid=7 runtime=1234 [ns]" % (b"x" * 64), name=b"sched_stat_runtime"),
+    ),
+    (event(runtime(b"\0"), RUNTIME), line(b"comm= pid=7 runtime=1234 [ns]", name=b"sched_stat_runtime")),
+    (event(irq(), IRQ), line(b"irq=1 name=disk at=0x0", name=IRQ)),
+    (
+        event(irq(-(1 << 63), b"x" * 16, 0xFEDCBA9876543210), IRQ),
+        line(b"irq=-9223372036854775808 name=%b at=0xfedcba9876543210" % (b"x" * 16), name=IRQ),
+    ),
+    (event(struct.pack("<HHi", 13, 0, 0), b"irq:plain"), line(b"", name=b"irq:plain")),
 ]
 # These are left to perf.
 OTHER = [
@@ -166,6 +198,15 @@ OTHER = [
     event(switch(state=0x40), SWITCH),
     *(event(waking(comm)) for comm in (b"", b" a", b"a ", b"a\nb", b"a[", b"a=b", b"a>", b"#", b"\xe9", b'"', b"x" * 16)),
     *(event(switch(next_comm=comm), SWITCH) for comm in (b"a ==> b", b"x" * 16)),
+    *(event(runtime(comm), RUNTIME) for comm in (b"a\nb\0", b"\xe9\0", b"\x7f\0", b"x" * 65 + b"\0")),
+    event(runtime(number=12), RUNTIME),
+    event(runtime()[:23], RUNTIME),
+    event(runtime(at=25), RUNTIME),
+    event(runtime(at=65535), RUNTIME),
+    event(runtime(), RUNTIME, tid=-1),
+    event(runtime(), b"sched_stat_runtime"),
+    event(runtime(), b"other:sched_stat_runtime"),
+    event(irq(name=b"a\tb"), IRQ),
 ]
 
 
@@ -196,6 +237,14 @@ def check_stream(path: str) -> None:
     answers, blocks = filtered(path, WORDS, gone)
     found = [text for what, text in blocks if what == b"A"][-1:]
     check(found == [line(WOKEN, b"n-6")] and answers[-2] == 0, f"a task that is gone: {found}")
+    answers, blocks = filtered(path, WORDS, [event(runtime(), RUNTIME), event(irq(), IRQ)] * 2100)
+    compared = [at for at, answer in enumerate(answers[1:-1]) if answer == 0]
+    check(compared == list(range(128)), f"of other kinds are compared {compared}")
+    gone = [*[event(switch(), SWITCH)] * 65, event(runtime(), RUNTIME, tid=-1)]
+    found = [text for what, text in filtered(path, WORDS, gone)[1] if what == b"A"][-1:]
+    check(
+        found == [line(b"comm=w pid=7 runtime=1234 [ns]", b"n-6", name=b"sched_stat_runtime")], f"a task that is gone: {found}"
+    )
     mixed = [event(waking(), b"irq:x" if at % 4 else WAKING) for at in range(3000)]
     answers, blocks = filtered(path, WORDS, mixed)
     check(sum(answers[1000:1024]) > 0 and sum(answers[1030:]) == 0, f"many are left to perf: {sum(answers)} are not")
@@ -211,6 +260,12 @@ BAD += [
     b"sched_waking:7:99999:0:90000,24,28,32,-1",
 ]
 BAD += [b"sched_switch:9:64:2:8,24,28,32,40,56,60", b"memory:99:98", b"memory:0:0", b"memory:1"]
+BAD += [b"other:" + word for word in (b"", b"a", b"a:b", b"a:b:1", b"a:b:1:24", b"a:b:1:1:", b"a:%b:1:24:x" % (b"b" * 48))]
+BAD += [
+    b"other:a:b:1:24:" + text
+    for text in (b"%", b"%d", b"%d8", b"%d8.4", b"%d8.2;", b"%q8.4;", b"%t8.8;", b"%d21.4;", b"%s8.17;", b"%d-1.4;", b"%d8.-4;")
+]
+BAD += [b"other:a:b:1:24:" + text for text in (b"%d8.4;" * 17, b"x" * 321, b"x" * 301 + b"%d8.4;", b"x" * 257 + b"%s8.4;")]
 
 
 def main() -> None:

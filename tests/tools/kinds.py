@@ -38,13 +38,20 @@ SWITCH = "sched_switch: prev_comm=a prev_pid=1 prev_prio=120 prev_state=S ==> ne
 WAKING = "sched_waking: comm=b pid=2 prio=120 target_cpu=000"
 OF_PERF = f"    a b    18 [000]  3752.816376632:     sched:{WAKING}\n"
 OF_TRACE_CMD = f"  a-1     [000]     1.000000000: {WAKING}\n"
+# Without -N, plugins of trace-cmd print a switch.
+OF_PLUGINS = "  perf-1     [000]     1.000000: sched_switch:         perf:1 [120] S ==> b:2 [120]\n"
 OF_KERNEL = f"   a-1       [000] d..2.     1.000000: {SWITCH}\n"
 # Texts, each with the kind that it should have: what printed it, or whether it looks like a trace.
 TEXTS: Dict[str, Tuple[str, str]] = {
     "perf": ("perf script", OF_PERF),
     "perf-comments": ("perf script", f"# a comment\n\n#\n{OF_PERF}"),
     "perf-of-others": ("perf script", "swapper     0 [003] 10.000001: irq:irq_handler_entry: irq=1\n"),
+    "perf-with-pid": ("perf script", OF_PERF.replace("18 [", "18/18    [")),
+    "perf-of-gone": ("perf script", OF_PERF.replace("18 [", "-1 [")),
     "report": ("trace-cmd report", f"cpus=4\n{OF_TRACE_CMD}"),
+    "report-without-head": ("trace-cmd report", OF_TRACE_CMD),
+    "report-of-plugins": ("trace-cmd report", f"{OF_TRACE_CMD.replace('000000000', '000000')}{OF_PLUGINS}"),
+    "report-in-kernel-layout": ("trace", OF_PLUGINS.replace("perf:1 [120] S ==> b:2 [120]", SWITCH[14:])),
     "report-version": ("trace-cmd report", f"version = 7\ncpus=4\n{OF_TRACE_CMD}"),
     "trace": ("trace", f"# tracer: nop\n#\n{OF_KERNEL}"),
     "trace-of-header": ("trace", "# tracer: nop\n#\n"),

@@ -12,6 +12,7 @@ is not tried, and a line says so. The last line says how many of how many things
 import io
 import os
 import random
+import re
 import shutil
 import signal
 import subprocess
@@ -69,6 +70,50 @@ def waking_format(has_success: bool) -> str:
     return f"name: sched_waking\nID: 301\nformat:\n{COMMON}\n{fields}{field('int target_cpu', 36, 4)}\nprint fmt: {text}\n"
 
 
+def other_format(name: str, printed: str) -> str:
+    """Return the format of another event, with fields of each kind that is simple and a few that aren't."""
+    fields = [("pid_t pid", 8, 4, 1), ("u64 long_one", 16, 8, 0), ("u32 state", 24, 4, 0), ("char comm[16]", 28, 16, 0)]
+    fields += [("__data_loc char[] path", 44, 4, 0), ("short small", 48, 2, 1), ("__data_loc u8[] raw", 52, 4, 0)]
+    lines = [field(words, at, size).replace("signed:1", f"signed:{signed}") for words, at, size, signed in fields]
+    return f"name: {name}\nID: 302\nformat:\n{COMMON}\n{''.join(lines)}\nprint fmt: {printed}\n"
+
+
+# How the kernel prints other events, and what the filter is told of that; nothing of those that aren't simple.
+OTHER_TEXTS = [
+    ('"pid=%d [ns]", REC->pid', "pid=%d8.4; [ns]"),
+    ('"%Lu %llx %lu", (unsigned long long)REC->long_one, REC->long_one, REC->long_one', "%u16.8; %x16.8; %u16.8;"),
+    (
+        '"state=%lu %ld %lx %u", (unsigned long)REC->state, REC->state, REC->state, REC->state',
+        "state=%u24.4; %u24.4; %x24.4; %u24.4;",
+    ),
+    ('"comm=%s path=%s", REC->comm, __get_str(path)', "comm=%s28.16; path=%t44.4;"),
+    ('"a: b"', "a: b"),
+    *(
+        (text, None)
+        for text in (
+            '"%03d", REC->pid',
+            '"%p", REC->long_one',
+            '"%ld", REC->pid',
+            '"%d", REC->long_one',
+            '"%d", REC->small',
+            '"%s", REC->path',
+            '"%s", __get_str(comm)',
+            '"%s", __get_str(raw)',
+            '"%d", REC->comm',
+            '"%d", REC->missing',
+            '"%d", REC->pid + 1',
+            '"%d %d", REC->pid',
+            '"%d", REC->pid, REC->pid',
+            '"%d%%", REC->pid',
+            '"%s", REC->pid ? "a" : "b"',
+            '"%s", __print_flags(REC->state, "|", { 1, "a" })',
+            '"a\\n"',
+            "no text",
+        )
+    ),
+]
+
+
 def tracing_data(*texts: str) -> bytes:
     """Return a header of formats, as perf writes it."""
 
@@ -101,6 +146,12 @@ def check_formats() -> None:
     told = words(switch_format(4, "(128-1)", OLD_STATES), waking_format(True))
     wanted = ["sched_waking:301:40:0:8,24,28,36,32", "sched_switch:300:60:4:8,24,28,32,36,52,56", "states:127:256:1=S,2=D,64=x"]
     check(told == wanted, f"the words of an old kernel are {told}")
+    for printed, wanted_text in OTHER_TEXTS:
+        told = words(waking_format(False), other_format("sched_other", printed))[1:]
+        wanted = [] if wanted_text is None else [f"other:sched:sched_other:302:56:{wanted_text}"]
+        check(told == wanted, f"the word of {printed} is {told}")
+    told = words(waking_format(False), *(other_format(f"x{at}", '"a"') for at in range(99)))
+    check(len(told) == 1 + 64, f"{len(told)} words for 99 other events")
     for mask in ("1 << 99", "1 << -1", "(1", "x1", "1 | REC->x", "0", "(" * 600 + "1" + ")" * 600, "-9"):
         check(is_unknown(switch_format(8, mask)), f"a mask of {mask} is taken")
     for states in ("", '{ 0x01, "SS" ', '{ 08, "S" }', '{ 0x1, "toolongname" }', '{ 0x1, "S=D" }'):
@@ -384,6 +435,13 @@ def record_by_trace_cmd(folder: str) -> Dict[str, str]:
     return made
 
 
+def has_flags(path: str, trace: bytes) -> bool:
+    """Return whether the events of a trace have the flags, in order, that trace-cmd prints in its latency layout."""
+    told = subprocess.run(["trace-cmd", "report", "-l", "-i", path], capture_output=True, timeout=LIMIT)
+    wanted = re.findall(rb"^.{8}-[0-9]+ +[0-9]+([^ 0-9][^ ]*) ", told.stdout, re.MULTILINE)
+    return len(wanted) > 0 and wanted == re.findall(rb"^[^#].*?-[0-9]+ +\[[0-9]+\] ([^ 0-9][^ ]*) ", trace, re.MULTILINE)
+
+
 def check_trace_cmd(folder: str, made: Dict[str, str], slow: str, quick: str) -> None:
     """Check that both ways give the same, and that the quick one is taken exactly if it should be."""
     ended = os.path.join(folder, "ended")
@@ -400,6 +458,7 @@ def check_trace_cmd(folder: str, made: Dict[str, str], slow: str, quick: str) ->
         check(is_quick == BY_TRACE_CMD[name][1], f"{name}.dat: {'' if is_quick else 'not '}turned quickly")
         check(name != "lost" or b" EVENTS]" in found.trace, "no events were lost")
         check(name != "names" or b"would mislead" in found.said, f"no names are odd: {found.said!r}")
+        check(name != "plain" or has_flags(path, found.trace), "the events have other flags")
 
 
 def check_false(folder: str, path: str, slow: str, quick: str) -> None:

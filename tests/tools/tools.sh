@@ -334,7 +334,26 @@ END
 gives gone_waker 1 'from-perf: line 4: perf knows no task of this event, and no switch before it tells one: *' \
     "$tools/from-perf" "$folder/gone"
 has gone_waker "$folder/out" 'dying a-7 \[000\] 1\.000002: sched_waking: comm=c pid=4 prio=1 target_cpu=001'
-printf '%s\n' 'a-1 [000] 1.000000: x:' 'b-2 [000] 1.000000: sched_switch: b:2 [120] S ==> c:3 [120]' >"$folder/bad"
+# What trace-cmd prints without -N, by its plugins; stamps may have six digits, and blanks may be taken away.
+cat >"$folder/plugins" <<'END'
+cpus=4
+            a b-1     [000]     1.000000: sched_waking:         comm=x: 1 [2] pid=9 prio=120 target_cpu=001
+            a b-1     [000]     1.000001: sched_wakeup:         x: 1 [2]:9 [120] CPU:001
+            a b-1     [000]     1.000001: sched_wakeup_new:     y:8 [98] success=1 CPU:000
+            a b-1     [000]     1.000002: sched_switch:         a b:1 [-1] D|W ==> c -> d:3 [120]
+           c -> d-3   [000] d..2. 1.000003500: sched_switch: c -> d:3 [120] R ==> swapper/0:0 [120]
+END
+plugins='loaded 5
+0:1 a b-1 [000] 1.000000: sched_waking: comm=x: 1 [2] pid=9 prio=120 target_cpu=001
+0:2 a b-1 [000] 1.000001: sched_wakeup: comm=x: 1 [2] pid=9 prio=120 target_cpu=001
+0:3 a b-1 [000] 1.000001: sched_wakeup_new: comm=y pid=8 prio=98 target_cpu=000
+0:4 a b-1 [000] 1.000002: sched_switch: prev_comm=a b prev_pid=1 prev_prio=-1 prev_state=D|W ==> next_comm=c -> d next_pid=3 next_prio=120
+0:5 c -> d-3 [000] 1.000004: sched_switch: prev_comm=c -> d prev_pid=3 prev_prio=120 prev_state=R ==> next_comm=swapper/0 next_pid=0 next_prio=120
+refused 5: cpu 1
+refused 5: cpu 2
+refused 5: cpu 3'
+loads plugins 0 "" "$plugins" "$tools/from-trace-cmd" "$folder/plugins"
+printf '%s\n' 'a-1 [000] 1.000000: x:' 'b-2 [000] 1.000000: sched_switch: b:2 [120] S => c:3 [120]' >"$folder/bad"
 loads bad_trace_cmd 1 'from-trace-cmd: line 2: the fields of sched_switch *report it with -N: b-2 *' "$kept" \
     "$tools/from-trace-cmd" "$folder/bad"
 # Torn lines: five are shown, none of their bytes raw.

@@ -29,7 +29,7 @@ TOOLS = os.path.realpath(sys.argv[1])
 PYTHON = os.path.join(os.path.dirname(TOOLS), "python")
 sys.path.insert(0, PYTHON)
 PROGRAM = os.environ["HISTDESK"]
-TORN, ODD = 4000, 1500
+ODD = 1500
 # What misleads in a name, in a line or between two lines.
 BITS = ["-12 [003] ", "-1 [000] 1.0: ", "\n", "\n\n", " ", "#", " ==> next_comm=", "[", "] ", ":", " pid=7", " prio=1"]
 BITS += [" next_pid=5", " prev_state=R", "=", "-", "7", " 12 [0", "CPU:1 [LOST ", "one: ", "a", "xyz", "(  -9) ", "\t", "\r"]
@@ -86,9 +86,24 @@ def perf_text(event: Happened) -> str:
     return f"{event.task:>16} {event.pid:5} [{event.cpu:03}] {nanos(event):>15}: {name:>24}: {event.fields}"
 
 
+def with_process(event: Happened) -> str:
+    """Return what `perf script -F +pid` prints for an event."""
+    front, stamp, rest = perf_text(event).partition(f" [{event.cpu:03}] {nanos(event):>15}: ")
+    return f"{event.task:>16} {event.pid // 2:5}/{event.pid:<5}{stamp}{rest}"
+
+
 def report_text(event: Happened) -> str:
     """Return what `trace-cmd report` prints for an event."""
     return f"{event.task:>16}-{event.pid:<5} [{event.cpu:03}] {nanos(event):>16}: {event.name + ':':<21} {event.fields}"
+
+
+def plugins_text(event: Happened) -> str:
+    """Return what `trace-cmd report` prints for an event by its plugins, which -N leaves out."""
+    if event.name in ("sched_waking", "irq_handler_entry"):
+        return report_text(event)
+    tasks = [f"{name}:{pid} [{prio}]" for name, pid, prio in zip(event.names, event.numbers[::2], event.numbers[1::2])]
+    fields = " S ==> ".join(tasks) if event.name == "sched_switch" else f"{tasks[0]} CPU:{event.numbers[2]:03}"
+    return report_text(event)[: -len(event.fields)] + fields
 
 
 def kernel_text(event: Happened) -> str:
@@ -101,6 +116,8 @@ FORMS: Dict[str, Tuple[Callable[[Happened], str], List[str]]] = {
     "from-perf": (perf_text, [os.path.join(TOOLS, "from-perf")]),
     "from-trace-cmd": (report_text, [os.path.join(TOOLS, "from-trace-cmd")]),
     "record": (kernel_text, ["-m", "histdesk.cli.kernel_text", "record"]),
+    "from-trace-cmd, of plugins": (plugins_text, [os.path.join(TOOLS, "from-trace-cmd")]),
+    "from-perf, with processes": (with_process, [os.path.join(TOOLS, "from-perf")]),
 }
 
 
@@ -185,12 +202,12 @@ def torn(draw: random.Random, line: str, other: str) -> str:
     return line[: line.find(draw.choice(["comm=", "pid=", "prio=", "==>", "next_comm=", ": ", "["])) + draw.randint(0, 9)]
 
 
-def check_torn(name: str, seed: int) -> int:
+def check_torn(name: str, seed: int, count: int) -> int:
     """Check torn lines, each with a whole one after it, so that none is a piece of another; return how many weren't printed."""
     draw, (text_of, words) = random.Random(seed), FORMS[name]
-    events = some_events(draw, TORN + 1, lambda: draw.choice(PLAIN))
+    events = some_events(draw, count + 1, lambda: draw.choice(PLAIN))
     whole = [text_of(event) for event in events]
-    lines = [line for at in range(TORN) for line in (torn(draw, whole[at], whole[at + 1]), whole[at])]
+    lines = [line for at in range(count) for line in (torn(draw, whole[at], whole[at + 1]), whole[at])]
     status, trace, said = converted(words, "\n".join(lines).encode("latin-1") + b"\n")
     printed, blank = lines_of(trace), sum(not line.strip() or line.startswith("#") for line in lines)
     answer = loaded(trace)
@@ -202,9 +219,9 @@ def check_torn(name: str, seed: int) -> int:
     check(len(lines) == len(printed) + gone + blank, f"{name}: of {len(lines)} lines {told}")
     check(status == 1 and len(said) < 10, f"{name}: status {status}, {len(said)} lines on standard error")
     read = iter([meaning(line) for line in printed])
-    kept = sum(any(is_true(one, event) for one in read) for event in events[:TORN])
+    kept = sum(any(is_true(one, event) for one in read) for event in events[:count])
     check_sure(lines)
-    check(kept == TORN, f"{name}: {kept} of {TORN} whole lines are turned as they should be")
+    check(kept == count, f"{name}: {kept} of {count} whole lines are turned as they should be")
     return gone
 
 
@@ -357,6 +374,43 @@ def check_ahead(seed: int) -> None:
     check(said == "Is a directory", f"a folder is read ahead: {said}")
 
 
+# ---- flags
+
+
+def latency_text(event: Happened, flags: str) -> str:
+    """Return what `trace-cmd report -l` prints for an event."""
+    return f"{event.task[:8]:>8}-{event.pid:<5} {event.cpu:3}{flags} {nanos(event):>16}: {event.name + ':':<21} {event.fields}"
+
+
+def check_flags(seed: int) -> None:
+    """Check that each event gets its own flags from the latency layout, if it is there, however the texts come."""
+    from histdesk.convert.latency import MOST, Flagged
+
+    draw = random.Random(seed)
+    events = some_events(draw, 2000, lambda: odd_name(draw))
+    flags = [draw.choice(["d..2.", ".....", "dNh3.", "X.s..", "d.H5a1"]) for _ in events]
+    there = [draw.random() < 0.9 for _ in events]
+    lines = [(latency_text(event, letters) + "\n").encode("latin-1") for event, letters in zip(events, flags)]
+    latency = b"cpus=4\n" + b"".join(line for line, is_there in zip(lines, there) if is_there)
+    text = b"cpus=4\nCPU:1 [7 EVENTS DROPPED]\n" + "".join(report_text(event) + "\n" for event in events).encode("latin-1")
+    wanted = text
+    for event, letters, is_there in zip(events, flags, there):
+        front = f"-{event.pid:<5} [{event.cpu:03}] "
+        old = f"{front}{nanos(event):>16}: {event.name}:".encode("latin-1")
+        new = f"{front}{letters} {nanos(event):>16}: {event.name}:".encode("latin-1")
+        wanted = wanted.replace(old, new, 1) if is_there else wanted
+    for sources in ((io.BytesIO(text), io.BytesIO(latency)), (Drip(text, draw), Drip(latency, draw))):
+        flagged = Flagged(*sources, 5000)
+        found = b"".join(iter(lambda: flagged.read(1), b""))
+        check(found == wanted, f"flags: {sum(map(bytes.__ne__, found.splitlines(), wanted.splitlines()))} lines are others")
+    # So many events more that it isn't looked for the right one, and none at all.
+    for latency in (lines[0] * (MOST + 1) + lines[1], b"", b"no line"):
+        flagged = Flagged(io.BytesIO(text), io.BytesIO(latency), 5000)
+        found = b"".join(iter(lambda: flagged.read(1), b""))
+        other = report_text(events[1]).encode("latin-1")
+        check(len(found) - len(text) in (0, len(flags[0]) + 1) and other in found, "flags that are not there are put in")
+
+
 # ---- buffers
 
 
@@ -409,15 +463,17 @@ def check_foreign(name: str, seed: int) -> None:
 
 
 first = 100 * int(sys.argv[2]) if len(sys.argv) > 2 else 0
-gone = sum(check_torn(name, seed) for seed, name in enumerate(FORMS, first))
+gone = sum(check_torn(name, seed, 1000 if "," in name else 4000) for seed, name in enumerate(FORMS, first))
 check(gone > 5000, f"only {gone} lines were left out")
 for seed, name in enumerate(FORMS, first):
     check_names(name, seed)
-    check_foreign(name, seed)
+    if "," not in name:
+        check_foreign(name, seed)
 check_pieces(first)
 check_gone()
 check_kept(first)
 check_ahead(first)
+check_flags(first)
 for seed, names in enumerate([["", "one"], ["one", "two", ""], ["a", "longer name: "], ["one"]], first):
     check_buffers(seed, names)
 finish()

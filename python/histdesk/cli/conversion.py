@@ -2,6 +2,7 @@
 
 from __future__ import annotations
 
+import argparse
 import contextlib
 import fcntl
 import os
@@ -10,7 +11,7 @@ import sys
 from pathlib import Path
 from typing import IO
 
-from .._file_kind import FRONT_ROOM, origin_of
+from .._file_kind import FRONT_ROOM, first_bytes, origin_of, recording_origin
 from .process import Stop, note_missing
 
 # Linux's number of the call that sets how many bytes a pipe holds; Python 3.10 lacks a name for it on some systems.
@@ -18,6 +19,8 @@ SET_PIPE_SIZE = getattr(fcntl, "F_SETPIPE_SZ", 1031)
 PIPE_SIZE = 1 << 20
 # The memory files that hold texts, by the path of the recording.
 _texts: dict[str, int] = {}
+# The texts of converters that were started before anybody reads them, by the path of the recording.
+_begun: dict[str, PipedText] = {}
 
 
 def converter_of(path: str) -> str | None:
@@ -29,7 +32,7 @@ def converter_of(path: str) -> str | None:
     return origin and origin.converter
 
 
-def text_of(path: str, converter: str) -> str:
+def text_of(path: str, converter: str, is_repeated: bool = False) -> str:
     """Return the path of a recording's text, which is in memory until the tool ends, and can be read from any byte on.
 
     Parameters
@@ -38,6 +41,8 @@ def text_of(path: str, converter: str) -> str:
         The recording.
     converter
         The tool that converts it, such as `from-perf`.
+    is_repeated
+        Whether the converter has already run to its end, so that it isn't to repeat what it has said.
 
     Raises
     ------
@@ -48,10 +53,33 @@ def text_of(path: str, converter: str) -> str:
     """
     if path not in _texts:
         file = os.memfd_create("histdesk")
-        run = subprocess.run(command(converter, path), stdin=subprocess.DEVNULL, stdout=file, env=environment(), check=False)
+        errors = subprocess.DEVNULL if is_repeated else None
+        words, null = command(converter, path), subprocess.DEVNULL
+        run = subprocess.run(words, stdin=null, stdout=file, stderr=errors, env=environment(), check=False)
         note_end(path, run.returncode, os.fstat(file).st_size > 0)
         _texts[path] = file
     return f"/proc/self/fd/{_texts[path]}"
+
+
+def begin(options: argparse.Namespace) -> None:
+    """Start the converter of a recording that is read in passing, so that it works while numpy is imported.
+
+    Parameters
+    ----------
+    options
+        The tool's: `trace`, and those that choose a part of it, which is not read in passing.
+    """
+    is_part = any(getattr(options, name, None) is not None for name in ("start", "until", "events"))
+    origin = None if is_part else recording_origin(first_bytes(options.trace))
+    if origin:
+        # If it can't be run, this is reported when the text is read.
+        with contextlib.suppress(OSError):
+            _begun[options.trace] = PipedText(options.trace, origin.converter)
+
+
+def piped_text(path: str, converter: str) -> PipedText:
+    """Return the text of a recording, whose converter may have been started. Raises `OSError` if it can't be run."""
+    return _begun.pop(path) if path in _begun else PipedText(path, converter)
 
 
 class PipedText:

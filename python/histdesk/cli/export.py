@@ -81,7 +81,8 @@ def whole_answer(options: argparse.Namespace) -> WaitAnswer:
         return traces.whole_waits(options, options.trace, "export", keeps=False)
 
     def read(watch: Watch) -> WaitAnswer:
-        read_options = _waits.ReadOptions(options.lenient, watch, options.trace, jobs=options.jobs)
+        reread = traces.rereader_of(options.trace)
+        read_options = _waits.ReadOptions(options.lenient, watch, options.trace, jobs=options.jobs, reread=reread)
         return _waits_in_parts.waits_in_parts(watch.source(False), read_options)
 
     return traces.read_watched(read, options.trace, "export")
@@ -109,6 +110,10 @@ def answer_of(options: argparse.Namespace) -> Table:
 def work(argv: Sequence[str] | None) -> int:
     """Write what the arguments ask for, and return the exit status."""
     options = parse(argv)
+    from . import conversion
+
+    if options.what == "waits":
+        conversion.begin(options)
     from .. import _export, _writers
 
     table = _export.waits_table(waits_of(options)) if options.what == "waits" else answer_of(options)

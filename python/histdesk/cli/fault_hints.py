@@ -22,13 +22,14 @@ VARIABLE_FORM = "NAME=common_timestamp.usecs or NAME=common_timestamp.usecs-$OTH
 STAMP = re.compile(r"(?:common_?)?(?:timestamps?|\btime|\bts)\b(\.[A-Za-z]*)?")
 # The label of an event, with what stands before it on a line of a trace.
 LABEL = re.compile(r"\[[0-9]+\] +(?:[^ :]+ +)?[0-9]+\.[0-9]{6}: +([^ :]+):")
+SWITCH_LABEL = re.compile(rb": +sched_switch: ")
 EATEN = "a $NAME is missing: a shell replaces it in double quotes, and keeps it in single quotes"
 
 
 def lenient_hint(path: str | None) -> str:
     """Return what to do about a trace of which a line can't be read: to leave such lines out, unless its file shows that there
     would be no others."""
-    hint = None if path is None else crlf_hint(path) or no_trace_hint(path)
+    hint = None if path is None else crlf_hint(path) or no_trace_hint(path) or unread_hint(path)
     return hint or "--lenient leaves such lines out"
 
 
@@ -52,6 +53,18 @@ def no_trace_hint(path: str) -> str | None:
     if any(line.startswith(b"# tracer: ") for line in lines):
         return "it has the header of a trace, but no line that can be read as an event: it may have another layout or clock"
     return "it is no trace: none of its first lines is an event"
+
+
+def unread_hint(path: str) -> str | None:
+    """Return the hint that none of the events, or of the switches, with which a file begins can be read, so that without such
+    lines nothing would be left; None if one can be read, or if there are none."""
+    from .._event_lines import holds_event
+
+    lines = [line for line in front_lines(path) if EVENT_LINE.search(line)]
+    for what, some in (("event", lines), ("switch", [line for line in lines if SWITCH_LABEL.search(line)])):
+        if some and not holds_event(b"\n".join(some)):
+            return f"no {what} in its first lines can be read: it may have another layout or clock"
+    return None
 
 
 def front_lines(path: str) -> list[bytes]:
@@ -80,7 +93,7 @@ def line_hint(fault: int, line: str, is_cut: bool = False) -> str:
         return "; the line ends with a carriage return"
     if fault == 7:
         return too_long(line)
-    if fault == 1 and re.search(r" +[0-9]+ +\[[0-9]+\] +[0-9]+\.[0-9]+: +[^ ]+:", line):
+    if fault == 1 and re.search(r" +(?:-?[0-9]+/)?-?[0-9]+ +\[[0-9]+\] +[0-9]+\.[0-9]+: +[^ ]+:", line):
         return f"; it looks like a line of perf script, which {tool('from-perf')} converts"
     if fault == 1 and re.fullmatch(r"(cpus|version) ?= ?[0-9]+|CPU .*is empty|CPU:.*EVENTS DROPPED\]", line):
         return f"; it looks like a line of trace-cmd report, which {tool('from-trace-cmd')} converts"
@@ -89,7 +102,7 @@ def line_hint(fault: int, line: str, is_cut: bool = False) -> str:
     event = re.search(rf": *({'|'.join(TRACED_EVENTS)}):(.*)", line, re.DOTALL)
     if fault == 4 and event:
         if not re.match(" *(prev_)?comm=", event[2]):
-            return cut or "; if trace-cmd printed it, run trace-cmd report with -N"
+            return cut or f"; if trace-cmd printed it, {tool('from-trace-cmd')} converts it"
         order = "prev_comm prev_pid prev_prio prev_state ==> next_comm next_pid next_prio"
         if event[1] != "sched_switch":
             order = "comm pid prio target_cpu"

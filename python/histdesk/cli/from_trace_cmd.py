@@ -14,8 +14,10 @@ recording (trace.dat, for which `trace-cmd report` is called) or a text; standar
   sudo trace-cmd record -e sched_waking -e sched_wakeup -e sched_wakeup_new -e sched_switch sleep 1
   trace-cmd report -N -t >my.text
 
-The -N is needed because trace-cmd's plugins print some events in a layout of their own. Timestamps of nine digits (-t)
-are rounded as in the kernel; without -t, trace-cmd does the same. The first lines, such as `cpus=4`, become comments, and
+Without -N, trace-cmd's plugins print switches and wakeups in a layout of their own. This is converted too, but shows the
+state R+ as R, and some other states by other letters than the kernel's. Of a recording, each event also gets the flags that
+show whether it was in an interrupt, which that text doesn't have. Timestamps of nine digits (-t) are rounded as in the
+kernel; without -t, trace-cmd does the same. The first lines, such as `cpus=4`, become comments, and
 `CPU:1 [7 EVENTS DROPPED]` becomes `CPU:1 [LOST 7 EVENTS]`. Other events are kept. Comments and empty lines are passed on.
 The text of the kernel's own trace file is also converted.
 

@@ -90,6 +90,9 @@ def write_csv(answer: Summary, options: argparse.Namespace, rows: Sequence[Row])
 def work(argv: Sequence[str] | None) -> int:
     """Print what the arguments ask for, and return the exit status."""
     options = parsed(argv)
+    from . import conversion
+
+    conversion.begin(options)
     from .. import _summary
     from . import traces
 

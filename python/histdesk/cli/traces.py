@@ -120,7 +120,7 @@ def whole_waits(arguments: argparse.Namespace, path: str, tool: str, keeps: bool
 
     def read(watch: Watch) -> Waits:
         if arguments.start is None and arguments.until is None:
-            options = ReadOptions(arguments.lenient, watch, path, keeps, arguments.jobs)
+            options = ReadOptions(arguments.lenient, watch, path, keeps, arguments.jobs, reread=rereader_of(path))
             return waits_of_text(watch.source(keeps), options)
         part = stretch(arguments, path)
         watch.size = part.size
@@ -135,7 +135,7 @@ def counted_waits(arguments: argparse.Namespace, path: str, tool: str, choice: C
     from .._waits import ReadOptions
 
     def read(watch: Watch) -> WaitAnswer:
-        options = ReadOptions(arguments.lenient, watch, path, jobs=arguments.jobs)
+        options = ReadOptions(arguments.lenient, watch, path, jobs=arguments.jobs, reread=rereader_of(path))
         return count_waits(watch.source(False), choice, options)
 
     if arguments.start is None and arguments.until is None:
@@ -271,7 +271,17 @@ def source_of(path: str, is_read_again: bool = True) -> Trace:
         return path
     if is_read_again:
         return conversion.text_of(path, converter)
-    return cast("IO[bytes]", conversion.PipedText(path, converter))
+    return cast("IO[bytes]", conversion.piped_text(path, converter))
+
+
+def rereader_of(path: str) -> Callable[[], Text] | None:
+    """Return what makes the text of another tool's recording once more, in memory, after the converter has written it to its
+    end; None if an argument TRACE isn't such a recording."""
+    converter = None if path == "-" else conversion.converter_of(path)
+    if converter is None:
+        return None
+    name = converter
+    return lambda: text_again(conversion.text_of(path, name, is_repeated=True))
 
 
 def check_kind(text: Piece, path: str) -> None:

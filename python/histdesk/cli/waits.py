@@ -187,6 +187,9 @@ def work(argv: Sequence[str] | None) -> int:
     """Print what the arguments ask for, and return the exit status."""
     options = parsed(argv)
     most = arguments.table_size(options, ROWS)
+    from . import conversion
+
+    conversion.begin(options)
     answer = answer_of(options)
     table = (histogram_of if options.histogram else table_of)(answer, options, most)
     if not table.rows:

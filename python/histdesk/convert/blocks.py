@@ -308,10 +308,10 @@ def front_of(command: Sequence[str]) -> bytes:
     return text[: text.rfind(b"\n") + 1]
 
 
-def begin(converter: Converter, command: Sequence[str], sink: CheckedSink, memory: Memory) -> BlockWriter:
-    """Return the writer that takes the blocks. What it writes is compared with what the tool's own command prints first.
-    Raises `Unfit`."""
-    text = front_of(command)
+def begin(converter: Converter, path: str, sink: CheckedSink, memory: Memory) -> BlockWriter:
+    """Return the writer that takes the blocks of a recording. What it writes is compared with what the tool itself prints
+    first. Raises `Unfit`."""
+    text = converter.form.front(path)
     form, report = copy.deepcopy((converter.form, converter.report))
     sink.expected, _ = type(converter)(form, report).convert(form.prepared(text), False)
     # Now this format knows the columns too.
@@ -343,9 +343,7 @@ def convert_quickly(converter: Converter, command: Sequence[str], path: str, sin
             # If there is nothing that it must begin with, all is passed on.
             checked = CheckedSink(sink, b"")
             is_apart = form.is_apart
-            writer = (
-                begin(converter, [*form.command, path], checked, memory) if is_apart else BlockWriter(converter, sink, memory)
-            )
+            writer = begin(converter, path, checked, memory) if is_apart else BlockWriter(converter, sink, memory)
             for block in blocks(tool.stdout, memory):
                 writer.take(*block)
             checked.check()

@@ -37,15 +37,19 @@ class ColumnFormat(TextFormat):
         """Return the parts of a line as its pattern cuts it, or None."""
         return STRICT.fullmatch(line) or (LOOSE.fullmatch(line) if self.is_loose else None)
 
+    def fields(self, label: bytes, text: bytes) -> bytes:
+        """Return the fields of an event in the kernel's layout, by what stands after its label and the colon."""
+        return text.strip(b" ")
+
     def parts(self, line: bytes, earlier: Callable[[], Iterable[bytes]]) -> Line:
         match = self.split(line)
         if not match:
             raise NotConvertible("not of the form COMM-PID [CPU] SECONDS.FRACTION: EVENT: FIELDS")
         task, middle, seconds, fraction, rest = match.groups()
-        label, colon, fields = rest.partition(b":")
+        label, colon, text = rest.partition(b":")
         if not colon or b" " in label:
-            label, fields = b"", rest
-        return Line(task.lstrip(b" "), middle, round_stamp(seconds, fraction), label, fields.strip(b" "))
+            label, text = b"", rest
+        return Line(task.lstrip(b" "), middle, round_stamp(seconds, fraction), label, self.fields(label, text))
 
     def may_follow(self, text: bytes, piece: bytes | None) -> bool:
         match = self.split(text)

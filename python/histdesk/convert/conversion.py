@@ -23,7 +23,7 @@ from .._file_kind import packer_of, recording_origin
 from .blocks import Sink, Unfit, convert_quickly, widen
 from .lines import NotConvertible, complete_line
 from .report import ConversionError, Report
-from .text_format import Groups, TextFormat
+from .text_format import Groups, Readable, TextFormat
 
 # How many bytes are converted at once.
 SIZE = 1 << 18
@@ -37,13 +37,6 @@ PIECES, JOINED_ROOM = 46, 512
 
 class NeedsMore(Exception):
     """More lines are needed before a line can be converted."""
-
-
-class Readable(Protocol):
-    """What gives bytes, and none at its end."""
-
-    def read(self, size: int) -> bytes:
-        """Return the next bytes."""
 
 
 class LinesBefore(Protocol):
@@ -299,11 +292,11 @@ def convert_printed(form: TextFormat, report: Report, path: str, sink: Sink) -> 
         assert tool.stdout
         try:
             widen(tool.stdout)
-            # If a recording ends too early, trace-cmd prints nothing, and calls that good.
-            source = Source(tool.stdout)
-            first = source.read(SIZE)
-            if first:
-                convert_text(form, report, first, source, sink)
+            with form.completed(Source(tool.stdout), path) as source:
+                # If a recording ends too early, trace-cmd prints nothing, and calls that good.
+                first = source.read(SIZE)
+                if first:
+                    convert_text(form, report, first, source, sink)
             status = tool.wait()
         finally:
             tool.kill()

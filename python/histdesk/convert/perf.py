@@ -20,6 +20,10 @@ PLAIN = (
     rb"^(?=[^\[\n]{23})(?![ ]*\#)([^\[\n]{16,31}?)[ ]{1,7}([0-9]{1,9}[ ]\[[0-7]?[0-9]{1,3}\])[ ]{1,9}"
     + STAMP + rb"[ ]{1,64}(?:sched:)?" + REST + ODD
 )  # fmt: skip
+# With -F +pid, the number of the process and a slash stand before that of the thread, which has 5 columns too.
+WITH_PROCESS = re.compile(rb"^(?=[^\[\n]{29})([^\[\n]{16,31}?[ ]{1,7})[0-9]{1,9}/([0-9]{1,9} )[ ]*(?=\[)", re.MULTILINE)
+# The same in a line that the line breaks of names have torn.
+TORN_PROCESS = re.compile(rb"(.{16} )(?=[ 0-9-]{5,7}/) *-?[0-9]+/(-1|[0-9]+) +(?=\[)", re.DOTALL)
 TAIL = rb"(\[[0-9]+\]) +([0-9]{1,10})\.([0-9]{6}|[0-9]{9}): +([^ \n]+):(?: (.*))?"
 STRICT = re.compile(rb"(.{16}) (?=[ 0-9-]{5,7} \[) *(-1|[0-9]+) " + TAIL, re.DOTALL)
 # If STRICT doesn't match, as for a longer name or if blanks were taken away, the name is the shortest that fits.
@@ -63,6 +67,13 @@ class PerfFormat(TextFormat):
     advice = "take perf's plugins away"
     program = "perf"
     command = ("perf", "script", "--ns", "--show-lost-events", "-F", "comm,tid,cpu,time,event,trace", "-i")
+    # Whether the lines have the numbers of processes, once that is known.
+    has_processes: bool | None = None
+
+    def prepared(self, text: bytes) -> bytes:
+        if self.has_processes is None and text:
+            self.has_processes = bool(WITH_PROCESS.search(text))
+        return WITH_PROCESS.sub(rb"\1\2", text) if self.has_processes else text
 
     def quick_command(self, path: str) -> list[str] | None:
         compiled = helper(FILTER)
@@ -100,8 +111,15 @@ class PerfFormat(TextFormat):
             return (b"# " if b"PERF_RECORD_" in line and not line.startswith(b"#") else b"") + line + b"\n"
         return None
 
+    def split(self, line: bytes) -> re.Match[bytes] | None:
+        """Return the parts of a line as its pattern cuts it, or None."""
+        torn = TORN_PROCESS.match(line) if self.has_processes else None
+        if torn:
+            line = b"%b%5b %b" % (torn[1], torn[2], line[torn.end() :])
+        return STRICT.fullmatch(line) or LOOSE.fullmatch(line)
+
     def parts(self, line: bytes, earlier: Callable[[], Iterable[bytes]]) -> Line:
-        match = STRICT.fullmatch(line) or LOOSE.fullmatch(line)
+        match = self.split(line)
         if not match:
             raise NotConvertible("not of the form COMM TID [CPU] SECONDS.FRACTION: EVENT: FIELDS")
         task, thread, cpu, seconds, fraction, name, payload = match.groups(b"")
@@ -112,7 +130,7 @@ class PerfFormat(TextFormat):
         return Line(task.lstrip(b" "), b"-%s %s " % (thread, cpu), round_stamp(seconds, fraction), name, payload)
 
     def may_follow(self, text: bytes, piece: bytes | None) -> bool:
-        match = STRICT.fullmatch(text) or LOOSE.fullmatch(text)
+        match = self.split(text)
         if match:
             return bool(OWN.fullmatch(match[6].removeprefix(b"sched:"))) and not (piece and FRONTED.search(piece))
         return text.startswith(b" ") and len(text) < 16

@@ -20,6 +20,17 @@ Formats = dict[tuple[str, str], str]
 WAKING: dict[str, int | None] = {**{field.name: field.size for field in _schema.event("sched_waking").fields}, "success": 4}
 SWITCH: dict[str, int | None] = {field.name: field.size for field in _schema.event("sched_switch").fields}
 FIELD = re.compile(r"field:[^;]*?(\w+)(?:\[\d*\])?;\s*offset:(\d+);\s*size:(\d+);")
+# A field that is a text: its name, if it has room of its own, or that of a text whose place and length stand there.
+TEXT_FIELD = re.compile(r"field:(?:char (\w+)\[\d+\]|__data_loc char\[\] (\w+));")
+# How the kernel prints an event whose text is simple: a format without escapes, and its arguments, each of which is a field.
+SIMPLE_TEXT = re.compile(r'"([^"\\]*)"((?:, [^,]+)*)')
+CONVERSION = re.compile(r"%(?:(l|ll|L)?([dux])|s)")
+NUMBER = re.compile(r"(?:\((?:unsigned )?(?:int|long|long long)\))?REC->(\w+)")
+TEXT = re.compile(r"REC->(\w+)|__get_str\((\w+)\)")
+# A field of four bytes without a sign, which may also be printed as one of eight.
+UNSIGNED = re.compile(r"field:[^;]*?(\w+);\s*offset:\d+;\s*size:4;\s*signed:0;")
+# How many other kinds of events the filter takes, and how many conversions the text of each may have.
+MOST_OTHERS, MOST_CONVERSIONS = 64, 15
 # What the kernel prints of a waking; older kernels print success too.
 WAKING_TEXTS = (
     '"comm=%s pid=%d prio=%d target_cpu=%03d", REC->comm, REC->pid, REC->prio, REC->target_cpu',
@@ -143,7 +154,9 @@ def filter_arguments(texts: Formats) -> list[str]:
         raise Unknown("no event of the scheduler")
     if ("sched", "sched_switch") in texts:
         words.append(states_argument(print_format(texts["sched", "sched_switch"])))
-    return words
+    names = [name for name in texts if name[0] != "sched" or name[1] not in _schema.TRACED_EVENTS]
+    others = [other_argument(*name, texts[name]) for name in names]
+    return words + [word for word in others if word is not None][:MOST_OTHERS]
 
 
 def needs_symbols(texts: Formats) -> bool:
@@ -177,6 +190,59 @@ def event_argument(name: str, text: str) -> str:
     size = max(at + size for at, size in places.values())
     state_size = places["prev_state"][1] if fields is SWITCH else 0
     return f"{name}:{number[1]}:{size}:{state_size}:" + ",".join(str(places[field][0]) for field in fields)
+
+
+def other_argument(system: str, name: str, text: str) -> str | None:
+    """Return the argument that says how an event of another kind is printed, or None if its text isn't simple."""
+    number = re.search(r"^ID: (\d+)$", text, re.MULTILINE)
+    simple = SIMPLE_TEXT.fullmatch(print_format(text))
+    if not number or not simple or not re.fullmatch(r"\w+:\w+", f"{system}:{name}"):
+        return None
+    places = {match[1]: (int(match[2]), int(match[3])) for match in FIELD.finditer(text)}
+    letters = dict.fromkeys(UNSIGNED.findall(text), "u")
+    letters.update({match[match.lastindex or 0]: "_st"[match.lastindex or 0] for match in TEXT_FIELD.finditer(text)})
+    conversions, arguments = list(CONVERSION.finditer(simple[1])), simple[2].split(", ")[1:]
+    if len(conversions) != len(arguments) or len(conversions) > MOST_CONVERSIONS:
+        return None
+    shown, at = "", 0
+    for conversion, argument in zip(conversions, arguments):
+        value = value_argument(conversion, argument, places, letters)
+        if value is None:
+            return None
+        shown += simple[1][at : conversion.start()] + value
+        at = conversion.end()
+    shown += simple[1][at:]
+    if shown.count("%") > len(conversions):
+        return None
+    return f"other:{system}:{name}:{number[1]}:{max(at + size for at, size in places.values())}:{shown}"
+
+
+def value_argument(
+    conversion: re.Match[str], argument: str, places: dict[str, tuple[int, int]], letters: dict[str, str]
+) -> str | None:
+    """Return what stands for a conversion of a format in the argument of the filter, or None if that isn't simple.
+
+    Parameters
+    ----------
+    conversion, argument
+        The conversion, and the kernel's expression of what is printed.
+    places
+        The offset of each field and its size, in bytes.
+    letters
+        The filter's letter for each field that is a text, and `u` for each of four bytes without a sign.
+    """
+    is_text = conversion[0] == "%s"
+    match = (TEXT if is_text else NUMBER).fullmatch(argument)
+    field = match[match.lastindex] if match and match.lastindex else ""
+    letter, size = letters.get(field, ""), places.get(field, (0, 0))[1]
+    if is_text:
+        # A text of its own is named by itself, any other one by a call.
+        is_simple = match is not None and letter == "_st"[match.lastindex or 0]
+    elif size == 4 and conversion[1]:
+        letter, is_simple = "x" if conversion[2] == "x" else "u", letter == "u"
+    else:
+        letter, is_simple = conversion[2], letter in ("", "u") and size == (8 if conversion[1] else 4)
+    return f"%{letter}{places[field][0]}.{size};" if is_simple else None
 
 
 def states_argument(text: str) -> str:

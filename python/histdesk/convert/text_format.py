@@ -2,15 +2,24 @@
 
 from __future__ import annotations
 
+import contextlib
 import re
 from collections.abc import Callable, Iterable, Sequence
-from typing import TypeAlias
+from typing import Protocol, TypeAlias
 
+from .blocks import front_of
 from .lines import Line
 from .report import Report, printable
 
 # What the groups of a pattern match in a line; those that match nothing are empty.
 Groups: TypeAlias = tuple[bytes, ...]
+
+
+class Readable(Protocol):
+    """What gives bytes, and none at its end."""
+
+    def read(self, size: int, /) -> bytes:
+        """Return the next bytes."""
 
 
 class TextFormat:
@@ -104,6 +113,14 @@ class TextFormat:
     def quick_command(self, path: str) -> list[str] | None:
         """Return the command that reads the recording of that path and writes blocks, or None if there is none."""
         return None
+
+    def completed(self, source: Readable, path: str) -> contextlib.AbstractContextManager[Readable]:
+        """Return what `command` prints of the recording of that path, with what the program prints only in another way."""
+        return contextlib.nullcontext(source)
+
+    def front(self, path: str) -> bytes:
+        """Return the first whole lines of that. Raises `Unfit`."""
+        return front_of([*self.command, path])
 
     def head_of(self, text: bytes) -> bytes:
         """Return the lines before the first event in what the tool prints first, which the program of `quick_command` doesn't

@@ -3,15 +3,21 @@
 from __future__ import annotations
 
 import collections
+import contextlib
+import io
 import re
-from collections.abc import Sequence
+import subprocess
+from collections.abc import Iterator, Sequence
+from concurrent.futures import ThreadPoolExecutor
 
-from .blocks import MEMORY
+from . import plugin_layout
+from .blocks import MEMORY, front_of, widen
 from .columns import COLUMNS, LOST, ColumnFormat
 from .helpers import helper
+from .latency import Flagged
 from .lines import CARRIED, ODD, REST, ROUNDED, STAMP, round_up
 from .report import ConversionError, Report, printable
-from .text_format import Groups
+from .text_format import Groups, Readable
 
 # The program that converts plain events itself; build/build makes it of helpers/trace_cmd_lines.c.
 PROGRAM = "trace_cmd_lines"
@@ -29,6 +35,8 @@ DASH = re.compile(rb"^(?:[^\n]*EVENTS DROPPED\]\n.*|([^\[\n]*)-[0-9]+ +(?:\( *[0
 # What stands for a line of a buffer that isn't wanted. No text has it.
 ELSEWHERE = b"\0"
 TOP = b"/"
+# How many bytes of what trace-cmd prints are read at once.
+READ = 1 << 18
 
 
 class TraceCmdFormat(ColumnFormat):
@@ -39,9 +47,11 @@ class TraceCmdFormat(ColumnFormat):
 
     pattern = re.compile(PLAIN, re.MULTILINE | re.VERBOSE)
     name = "trace-cmd report"
-    advice = "report it with -N"
+    advice = "report it with -N, or without trace-cmd's other plugins"
     program = "trace-cmd"
     command = ("trace-cmd", "report", "-N", "-t", "-i")
+    # The command by which it prints the flags too, but cuts off names.
+    latency = ("trace-cmd", "report", "-N", "-t", "-l", "-i")
 
     def __init__(self, buffer: str | None) -> None:
         """Take the events of a buffer, or of the only one for None."""
@@ -62,12 +72,31 @@ class TraceCmdFormat(ColumnFormat):
     def prepared(self, text: bytes) -> bytes:
         for padded, plain in PADDED:
             text = text.replace(padded, plain)
+        text = plugin_layout.in_kernel_layout(text)
         if self.width is None:
             self.width, self.buffers = buffers_of(text)
             self.is_loose = not self.width
         if not self.width:
             return text
         return b"".join([self.own(line) + b"\n" for line in text[:-1].split(b"\n")]) if text else text
+
+    @contextlib.contextmanager
+    def completed(self, source: Readable, path: str) -> Iterator[Readable]:
+        null = subprocess.DEVNULL
+        with subprocess.Popen([*self.latency, path], stdin=null, stdout=subprocess.PIPE, stderr=null, bufsize=0) as tool:
+            assert tool.stdout
+            widen(tool.stdout)
+            try:
+                yield Flagged(source, tool.stdout, READ)
+            finally:
+                tool.kill()
+
+    def front(self, path: str) -> bytes:
+        # The lines of the latency layout are shorter.
+        with ThreadPoolExecutor() as pool:
+            text, latency = map(io.BytesIO, pool.map(front_of, ([*self.command, path], [*self.latency, path])))
+        flagged = Flagged(text, latency, READ)
+        return b"".join(iter(lambda: flagged.read(READ), b""))
 
     # What trace_cmd_lines writes first is compared with what trace-cmd prints first.
     is_apart = True
@@ -106,6 +135,9 @@ class TraceCmdFormat(ColumnFormat):
             b"%s%s%s: %s" % (task.lstrip(b" "), middle, stem + ROUNDED[two] if two < CARRIED else round_up(stem), rest)
             for task, middle, stem, two, rest, _ in matches
         ]
+
+    def fields(self, label: bytes, text: bytes) -> bytes:
+        return plugin_layout.kernel_fields(label, text)
 
     def aside(self, line: bytes, report: Report) -> bytes | None:
         if line == ELSEWHERE:
