@@ -521,12 +521,14 @@ uint32_t histdesk_waits_join(histdesk *desk, histdesk *part, uint64_t *count);
  * `length` is 0. They wake, create and switch nothing, as if they weren't in the text. But they keep their line numbers, and
  * everything reported about the text itself counts them: lines, events, stamps, holes and missing switches. Each further call
  * leaves out more. HISTDESK_NO_STREAM: no stream takes pieces, or it has already taken one. HISTDESK_BAD_COMMAND: no such
- * event, or HISTDESK_OTHER. HISTDESK_BAD_FILTER. If the text has been refused, the code is that of histdesk_waits_feed. After
- * a refusal, even HISTDESK_MEMORY, the stream goes on as before. */
+ * event, or HISTDESK_OTHER. HISTDESK_BAD_FILTER. If the text has been refused, the code is that of histdesk_waits_feed. A
+ * refusal changes nothing, except what histdesk_waits_refused reports: the stream goes on as before, even after
+ * HISTDESK_MEMORY, and a text that has ended keeps its waits, holes, counts and sums. */
 uint32_t histdesk_waits_without(histdesk *desk, uint32_t event, const uint8_t *filter, size_t length);
 
-/* Also sums up the text by task and by CPU, without the events that are left out. HISTDESK_NO_STREAM: no stream takes pieces, or
- * it has already taken one. If the text has been refused, the code is that of histdesk_waits_feed. Never HISTDESK_MEMORY. */
+/* Also sums up the text by task and by CPU, without the events that are left out. HISTDESK_NO_STREAM: no stream of a whole text
+ * takes pieces, or it has already taken one. If the text has been refused, the code is that of histdesk_waits_feed. Otherwise
+ * never HISTDESK_MEMORY. A refusal changes nothing, except what histdesk_waits_refused reports. */
 uint32_t histdesk_waits_sum_up(histdesk *desk);
 
 /* Takes the next piece of the text. `count` is how many waits became known; they are copied until the next feed, finish or join.

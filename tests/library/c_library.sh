@@ -144,6 +144,10 @@ holds "$folder/lines"
 if command -v valgrind >/dev/null; then
     checked=(valgrind -q --error-exitcode=9 --leak-check=full --show-leak-kinds=all --errors-for-leak-kinds=all)
     gives "exact, under valgrind" 0 "" "${checked[@]}" "$folder/exact"
+    program leaks "$tests"/library/c/{exact,leaks}.c
+    gives "exact with nothing freed, under valgrind" 9 "" "${checked[@]}" --log-file=/dev/null "$folder/leaks"
+    program leaks_inside "$tests"/library/c/{exact,leaks}.c -DFREES_ONLY_THE_DESK
+    gives "exact with no content freed, under valgrind" 9 "" "${checked[@]}" --log-file=/dev/null "$folder/leaks_inside"
     program plain_stream -pthread "$tests/library/c/waits.c" -DHEAP_IS_PLAIN
     gives "waits, under valgrind" 0 "" "${checked[@]}" "$folder/plain_stream"
     program plain_parts -pthread "$tests/library/c/parts.c" -DHEAP_IS_PLAIN

@@ -1,3 +1,4 @@
 mod TellingOn
 mod Leaves
 mod Seams
+mod Sums

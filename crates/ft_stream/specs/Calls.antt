@@ -11,7 +11,7 @@ use Rattle.ft_stream.specs.Doubting.{with_doubt}
 use Rattle.ft_stream.specs.Faults.{fault_code, code_of}
 use Rattle.ft_stream.specs.Joining.{CanBeJoined, IsNotJoined, JoinsTold, RanOut}
 use Rattle.ft_stream.specs.Layouts.{read_layout}
-use Rattle.ft_stream.specs.Leaving.{LeavesThemOut, GoesOn, IsRefused}
+use Rattle.ft_stream.specs.Leaving.{LeavesThemOut, IsRefused}
 use Rattle.ft_stream.specs.Summing.{SumsThemUp, IsTooLate}
 use Rattle.ft_stream.specs.Telling.{Kind, Whole, Apart, Streams, Ends, refused_at, no_whole_at, failed_at, unfinished_at, untold_at, finished_at, holes_at, last_at, waits_of}
 use Rattle.ft_stream.specs.declared.fault.StreamFault.{StreamFault}
@@ -43,21 +43,35 @@ BeginsPart policy old code new =
     ((code ≡ 0) × Streams Apart (all_events policy) new.phase [] [] × (refused_at new.phase ≡ None) × (new.waits.items ≡ []) × (new ≡ record old { phase = new.phase; waits = new.waits; refused = None }))
     (λ why. (why ≡ Text Memory) × Refuses why old code new)
 
--- events are left out of a stream of which nothing is read; if it is refused, the stream goes on as before
-unfoldable pub LeavesOut : Name → List ℕ → Stream → ℕ → Stream → Type 0
-LeavesOut name filter old code new =
+-- events are left out of a stream that runs and of which nothing is read; if it is refused, the stream goes on as before
+unfoldable pub LeavesOutOn : Name → List ℕ → Stream → ℕ → Stream → Type 0
+LeavesOutOn name filter old code new =
     MatchOption new.refused
     (LeavesThemOut name filter old.phase new.phase)
-    (λ why. IsRefused name filter old.phase why × GoesOn old.phase new.phase)
+    (λ why. IsRefused name filter old.phase new.phase why)
     × (code ≡ code_of new.refused)
     × (new ≡ record old { phase = new.phase; refused = new.refused })
 
--- tasks and CPUs are summed up as well in a stream of which nothing is read, unless its text is a part; if it is refused, the stream is as before
-unfoldable pub SumsUp : Stream → ℕ → Stream → Type 0
-SumsUp old code new =
+-- the same, by whether a stream runs
+unfoldable pub LeavesOut : Name → List ℕ → Stream → ℕ → Stream → Type 0
+LeavesOut name filter old code new =
+    MatchOption (refused_at old.phase)
+    (LeavesOutOn name filter old code new)
+    (λ why. Refuses why old code new)
+
+-- tasks and CPUs are summed up as well in a stream that runs and of which nothing is read; if it is refused, the stream is as before
+unfoldable pub SumsUpOn : Stream → ℕ → Stream → Type 0
+SumsUpOn old code new =
     MatchOption new.refused
     ((code ≡ 0) × SumsThemUp old.phase new.phase × (new ≡ record old { phase = new.phase; refused = None }))
     (λ why. IsTooLate old.phase why × Refuses why old code new)
+
+-- the same, by whether a stream runs whose text is not a part
+unfoldable pub SumsUp : Stream → ℕ → Stream → Type 0
+SumsUp old code new =
+    MatchOption (no_whole_at old.phase)
+    (SumsUpOn old code new)
+    (λ why. Refuses why old code new)
 
 -- the count is that of the waits that were told; after a refusal there are none, and the count is as before
 abbrev pub IsCounted : Option StreamFault → ℕ → List Dispatch → ℕ → Type 0

@@ -24,10 +24,10 @@ abbrev pub without_for : Name → List ℕ → Result Without FilterFault
 without_for name [] = Ok (record { name = name; filter = None })
 without_for name (byte ∷ bytes) = filtered name (filter_of name (byte ∷ bytes))
 
--- they are left out, of a text of which nothing was read
+-- they are left out, of a text that takes pieces and of which nothing was read: it takes pieces still
 abbrev pub LeavesThemOut : Name → List ℕ → Phase → Phase → Type 0
 LeavesThemOut name filter old new =
-    (without : Without) × (without_for name filter ≡ Ok without)
+    (without : Without) × (name ≢ names.Other) × (without_for name filter ≡ Ok without) × (refused_at new ≡ None)
     × ((kind : Kind) (choice : Choice) (text : List ℕ) (told : List Dispatch) → Streams kind choice old text told → (text ≡ []) × Streams kind (and_without choice without) new text told)
 
 -- the text goes on as before
@@ -42,7 +42,8 @@ HasBegun phase = (kind : Kind) (choice : Choice) (text : List ℕ) (told : List 
 abbrev pub IsUnread : Name → List ℕ → StreamFault → Type 0
 IsUnread name filter why = (fault : FilterFault) × (why ≡ Filter fault) × (without_for name filter ≡ Err fault)
 
--- why they are not left out: memory; no stream takes pieces; it has taken one; no event has that name; or the filter can't be read
-abbrev pub IsRefused : Name → List ℕ → Phase → StreamFault → Type 0
-IsRefused name filter phase why =
-    (why ≡ Text Memory) ⊎ ((refused_at phase ≡ Some why) ⊎ (((why ≡ NoStream) × HasBegun phase) ⊎ (((why ≡ NoEvent) × (name ≡ names.Other)) ⊎ IsUnread name filter why)))
+-- why they are not left out of a text that takes pieces, and what is left of it: memory, and it takes pieces as before; or it is the same, and has taken a piece, no event has that name, or the filter can't be read
+abbrev pub IsRefused : Name → List ℕ → Phase → Phase → StreamFault → Type 0
+IsRefused name filter old new why =
+    ((why ≡ Text Memory) × (refused_at new ≡ None) × GoesOn old new)
+    ⊎ ((new ≡ old) × (((why ≡ NoStream) × HasBegun old) ⊎ (((why ≡ NoEvent) × (name ≡ names.Other)) ⊎ IsUnread name filter why)))

@@ -1,5 +1,5 @@
 -- What a stream sums up.
-use Rattle.std.specs.Prelude.{◌≡◌, ◌⊎◌, ℕ, List, [], Option, Some, None}
+use Rattle.std.specs.Prelude.{◌≡◌, ℕ, List, [], Option, Some, None}
 use Rattle.ft_dispatch.specs.declared.dispatch.Dispatch.{Dispatch}
 use Rattle.ft_summary.specs.declared.sums.CpuSum.{CpuSum}
 use Rattle.ft_summary.specs.declared.sums.Sums.{Sums}
@@ -12,13 +12,15 @@ use Rattle.ft_stream.specs.declared.fault.StreamFault.TheVariants.{NoStream}
 use Rattle.ft_stream.specs.declared.phase.Phase.{Phase}
 use Rattle.ft_stream.specs.declared.phase.Phase.TheVariants as phases
 
--- tasks and CPUs are summed up as well, of a text of which nothing was read
+-- tasks and CPUs are summed up as well, of a whole text that runs and of which nothing was read: it runs still
 abbrev pub SumsThemUp : Phase → Phase → Type 0
-SumsThemUp old new = (kind : Kind) (choice : Choice) (text : List ℕ) (told : List Dispatch) → Streams kind choice old text told → (text ≡ []) × Streams kind (and_sums choice) new text told
+SumsThemUp old new =
+    (no_whole_at new ≡ None)
+    × ((kind : Kind) (choice : Choice) (text : List ℕ) (told : List Dispatch) → Streams kind choice old text told → (text ≡ []) × Streams kind (and_sums choice) new text told)
 
--- why they are not: no whole text runs, or it has taken a piece
+-- why they are not, of a whole text that runs: it has taken a piece
 abbrev pub IsTooLate : Phase → StreamFault → Type 0
-IsTooLate phase why = (no_whole_at phase ≡ Some why) ⊎ ((why ≡ NoStream) × HasBegun phase)
+IsTooLate phase why = (why ≡ NoStream) × HasBegun phase
 
 -- ---- what is copied
 

@@ -1,8 +1,9 @@
 //! Events that a stream leaves out.
 
-ghost use Rattle.std.specs.Prelude.{◌≡◌, ◌⊎◌, OnOk, OnErr, IfOk, IfErr, Ok};
-ghost use Rattle.ft_stream.specs.Leaving.{without_for, IsUnread, LeavesThemOut, GoesOn, IsRefused};
-ghost use Rattle.ft_stream.specs.inner.Leaving.{AreLeftOut, AreNotLeftOut, ReadsTheSame};
+ghost use Rattle.std.specs.Prelude.{◌≡◌, ◌⊎◌, OnOk, IfOk, IfErr, IfSome, IfNone, Ok, Err};
+ghost use Rattle.ft_stream.specs.Leaving.{without_for, IsUnread, LeavesThemOut, IsRefused};
+ghost use Rattle.ft_stream.specs.Telling.{refused_at};
+ghost use Rattle.ft_stream.specs.inner.Leaving.{AreLeftOut, AreNotLeftOut};
 
 use crate::fault::StreamFault;
 use crate::phase::Phase;
@@ -34,8 +35,7 @@ fn read_without(alloc: Global, name: Name, filter: &[u8]) -> Result<Without, Str
 fn leave_out(waits: &mut Waits, alloc: Global, name: Name, filter: &[u8]) -> Result<(), StreamFault>
     ensures leaves { OnOk result (AreLeftOut name filter.now waits.old waits.new) }
     ensures failed { waits.new.failed ≡ waits.old.failed }
-    ensures refused { IfErr result (λ why. AreNotLeftOut name filter.now waits.old why) }
-    ensures stays { OnErr result (ReadsTheSame waits.old waits.new) }
+    ensures refused { IfErr result (λ why. AreNotLeftOut name filter.now waits.old waits.new why) }
 {
     if waits.has_begun() {
         return Err(StreamFault::NoStream);
@@ -58,9 +58,10 @@ pub(crate) fn leave_out_phase(
     name: Name,
     filter: &[u8],
 ) -> Result<(), StreamFault>
-    ensures leaves { OnOk result (LeavesThemOut name filter.now phase.old phase.new) }
-    ensures refused { IfErr result (λ why. IsRefused name filter.now phase.old why) }
-    ensures stays { OnErr result (GoesOn phase.old phase.new) }
+    ensures leaves { IfNone (refused_at phase.old) (OnOk result (LeavesThemOut name filter.now phase.old phase.new)) }
+    ensures refused { IfNone (refused_at phase.old) (IfErr result (λ why.
+        IsRefused name filter.now phase.old phase.new why)) }
+    ensures stays { IfSome (refused_at phase.old) (λ why. (result ≡ Err why) × (phase.new ≡ phase.old)) }
 {
     match phase {
         Phase::Running(running) => leave_out(running, alloc, name, filter),

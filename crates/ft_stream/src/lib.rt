@@ -48,11 +48,13 @@
 //!   with both streams as before. Lets through: running out of memory at any time, after which the text has
 //!   failed and the part is gone.
 //! - `Stream::leave_out`: events of a name are left out, by the text of a filter
-//!   (`specs/Leaving.antt`). Lets through: in which order its refusals are tested.
+//!   (`specs/Leaving.antt`). If it is refused for memory, what was read is as before; if for another
+//!   reason, the whole stream. Lets through: in which order its refusals are tested.
 //! - `Stream::last`, `Phase::events`: the last stamp and the counts so far, of lines that have
 //!   ended.
 //! - `Stream::sum_up`: the text is summed up by task and by CPU as well (`specs/Summing.antt`), as
-//!   `ft_summary` sums up; `Phase::tasks`, `cpus`: these sums, once the text has ended.
+//!   `ft_summary` sums up; if it is refused, the stream is as before. `Phase::tasks`, `cpus`: these sums,
+//!   once the text has ended.
 //! - `Stream::doubt`: how sure waits of a text that has ended are, by its holes; exact, `with_doubt`
 //!   (`specs/Doubting.antt`), over `wait_of_both` of `ft_losses`.
 //! - `Stream::hold`: the waits of held events, by `ft_held_waits`.

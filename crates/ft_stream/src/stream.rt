@@ -126,8 +126,9 @@ impl Stream {
     /// Leaves events of a name out of the text: those that pass the filter of a text, or all if that is
     /// empty. They say nothing of who runs, and all else is as it would be with them. Refused if no stream
     /// runs or the one that runs has taken a piece, if no event has the name, as the desk refuses a
-    /// filter, and for memory: the stream goes on as before then.
-    #[tactic(auto, unfolding(crate::specs::Calls::LeavesOut))]
+    /// filter, and for memory: the stream goes on as before then, and a text that has ended keeps what was
+    /// read of it.
+    #[tactic(auto, unfolding(crate::specs::Calls::LeavesOut, crate::specs::Calls::LeavesOutOn))]
     pub fn leave_out(&mut self, name: Name, filter: &[u8]) -> u32
         ensures { LeavesOut name filter.now self.old result self.new }
     {
@@ -138,8 +139,8 @@ impl Stream {
     }
 
     /// Sums up the tasks and CPUs of the text as well. Refused if no stream runs, or the one that runs has
-    /// taken a piece or is a part: the stream goes on as before then.
-    #[tactic(auto, unfolding(crate::specs::Calls::SumsUp))]
+    /// taken a piece or is a part: the stream is as before then, also if its text has ended.
+    #[tactic(auto, unfolding(crate::specs::Calls::SumsUp, crate::specs::Calls::SumsUpOn))]
     pub fn sum_up(&mut self) -> u32
         ensures { SumsUp self.old result self.new }
     {

@@ -1,9 +1,10 @@
 //! What a stream sums up, by task and by CPU.
 
-ghost use Rattle.std.specs.Prelude.{◌≡◌, ◌-◌, OnOk, IfErr, length, min};
+ghost use Rattle.std.specs.Prelude.{◌≡◌, ◌-◌, OnOk, IfErr, IfSome, IfNone, Err, length, min};
 ghost use Rattle.ft_layout.specs.Copied.{copied};
 ghost use Rattle.ft_stream.specs.Layouts.{task_sum_layout, cpu_sum_layout};
 ghost use Rattle.ft_stream.specs.Summing.{SumsThemUp, IsTooLate, tasks_of, cpus_of, tasks_at, cpus_at};
+ghost use Rattle.ft_stream.specs.Telling.{no_whole_at};
 
 use crate::copying::OfText;
 use crate::fault::StreamFault;
@@ -166,8 +167,10 @@ impl Phase {
 
 /// Sums up tasks and CPUs of a text as well, by where its stream stands.
 pub(crate) fn sum_up_phase(phase: &mut Phase, alloc: Global) -> Result<(), StreamFault>
-    ensures sums { OnOk result (SumsThemUp phase.old phase.new) }
-    ensures refused { IfErr result (λ why. IsTooLate phase.old why × (phase.new ≡ phase.old)) }
+    ensures sums { IfNone (no_whole_at phase.old) (OnOk result (SumsThemUp phase.old phase.new)) }
+    ensures late { IfNone (no_whole_at phase.old) (IfErr result (λ why. IsTooLate phase.old why
+        × (phase.new ≡ phase.old))) }
+    ensures stays { IfSome (no_whole_at phase.old) (λ why. (result ≡ Err why) × (phase.new ≡ phase.old)) }
 {
     match phase {
         Phase::Running(running) => match running.sum_up(alloc) {

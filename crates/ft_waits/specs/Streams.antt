@@ -1,5 +1,6 @@
 -- A text that comes in pieces: what was read of it so far.
-use Rattle.std.specs.Prelude.{◌≡◌, ℕ, List, map, Option, Some, None, option_map}
+use Rattle.std.specs.Prelude.{◌≡◌, ℕ, suc, List, length, map, Option, Some, None, option_map}
+use Rattle.ft_fields.specs.Traced.{last_cpu}
 use Rattle.ft_waits.specs.Choice.{Choice}
 use Rattle.ft_waits.specs.LeftOut.{left_out_of}
 use Rattle.ft_waits.specs.Reading.{history, dispatches_in, events_of, first_stamp, last_stamp, CountsEvents, lines_read, refused, Fails}
@@ -29,6 +30,7 @@ pub record AreDispatches (choice : Choice) (text : List ℕ) (told : List Dispat
   pub first : read.first ≡ first_stamp (events_of (history text))
   pub last : read.last ≡ last_stamp (events_of (history text))
   pub events : CountsEvents read.events.items (events_of (history text))
+  pub cpus : length read.events.items ≡ suc last_cpu
   pub missing : read.missing ≡ missing_in (events_of (history text))
   pub left_out : read.left_out.items ≡ map (left_out_of (events_of (history text))) choice.without
   pub sums : AreSumsIf choice.sums (acts_in choice.without text) read.sums

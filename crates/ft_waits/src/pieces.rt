@@ -210,6 +210,7 @@ impl Waits {
         ensures late { result ≡ Err WithoutFault.Late → self.old.failed ≡ None
             → (choice : Choice) (text : List ℕ) (told : List Dispatch)
             → HasRead choice self.old text told → text ≢ [] }
+        ensures same { result ≡ Err WithoutFault.Late → self.new ≡ self.old }
         ensures stays { OnErr result ((choice : Choice) (text : List ℕ) (told : List Dispatch)
             → HasRead choice self.old text told → HasRead choice self.new text told) }
     {

@@ -15,7 +15,7 @@ use Rattle.ft_stream.specs.declared.fault.StreamFault.TheVariants.{Text, NoStrea
 -- they are left out, of a text of which nothing was read
 abbrev pub AreLeftOut : Name → List ℕ → Waits → Waits → Type 0
 AreLeftOut name filter old new =
-    (without : Without) × (without_for name filter ≡ Ok without)
+    (without : Without) × (name ≢ names.Other) × (without_for name filter ≡ Ok without)
     × ((choice : Choice) (text : List ℕ) (told : List Dispatch) → HasRead choice old text told → (text ≡ []) × HasRead (and_without choice without) new text told)
 
 -- the same was read as before
@@ -26,7 +26,8 @@ ReadsTheSame old new = (choice : Choice) (text : List ℕ) (told : List Dispatch
 abbrev pub HasReadSome : Waits → Type 0
 HasReadSome waits = waits.failed ≡ None → (choice : Choice) (text : List ℕ) (told : List Dispatch) → HasRead choice waits text told → text ≢ []
 
--- why they are not left out
-abbrev pub AreNotLeftOut : Name → List ℕ → Waits → StreamFault → Type 0
-AreNotLeftOut name filter waits why =
-    (why ≡ Text Memory) ⊎ (((why ≡ NoStream) × HasReadSome waits) ⊎ (((why ≡ NoEvent) × (name ≡ names.Other)) ⊎ IsUnread name filter why))
+-- why they are not left out, and what is left
+abbrev pub AreNotLeftOut : Name → List ℕ → Waits → Waits → StreamFault → Type 0
+AreNotLeftOut name filter old new why =
+    ((why ≡ Text Memory) × ReadsTheSame old new)
+    ⊎ ((new ≡ old) × (((why ≡ NoStream) × HasReadSome old) ⊎ (((why ≡ NoEvent) × (name ≡ names.Other)) ⊎ IsUnread name filter why)))

@@ -24,6 +24,7 @@ returns-clause-reads c = λ choice text told reads.
           ∙ ap (λ (first : Option ℕ). option_map (λ (s : ℕ). latest (events_of (history text))) first) (c.in_ok-finish.ensures.first ∙ ends.reads.state.first)
           ∙ last-known (events_of (history text));
       events = subst (λ (lines : Vec ℕ Global). CountsEvents lines.items (events_of (history text))) (sym c.in_ok-finish.ensures.lines) ends.reads.state.counts;
+      cpus = sym c.finish.new.self.lines.ok.0 ∙ c.finish.new.self.all_cpus;
       missing = c.in_ok-finish.ensures.missing ∙ ends.reads.state.missing;
       left_out = ap (λ (counts : Vec LeftOut Global). counts.items) c.in_ok-finish.ensures.left_out ∙ ends.reads.state.left_out ∙ ap (λ (without : List Without). map (left_out_of events) without) same;
       sums = subst (λ (by : Choice). AreSumsIf by.sums (acts_in by.without text) c.in_ok-sums_of.field-0) ends.by_choice
