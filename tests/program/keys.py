@@ -1,8 +1,9 @@
 #!/usr/bin/env python3
-"""Checks that what a lane of many distinct keys costs as it goes or comes stays in proportion to the keys, and what is printed.
+"""Checks that what many distinct keys cost stays in proportion to the keys, and what is printed.
 
     keys.py PROGRAM
 
+The keys are those of a lane that goes or comes, or those under which made events are counted, all of which go by one strike.
 A table of 80,000 keys takes four times as long as one of 20,000 if each key costs the same. If the cost of
 each key is in proportion to the keys, it takes 16 times as long. Here half of that is too long, since the machine may be busy.
 """
@@ -17,14 +18,25 @@ MANY = 80_000
 TIMES = 3
 TOO_LONG = 8
 TRIGGER = "attach sched_waking hist:keys=pid"
+SAVER = f"{TRIGGER}:ts0=common_timestamp.usecs:size=128"
+MAKER = """attach sched_switch hist:keys=next_pid:lat=common_timestamp.usecs-$ts0:\
+onmatch(sched.sched_waking).wakeup_latency($lat,next_pid,next_prio)"""
+
+
+def stamp(micros):
+    return f"{micros // 10**6}.{micros % 10**6:06}"
 
 
 def waking(micros, pid, cpu):
-    stamp = f"{micros // 10**6}.{micros % 10**6:06}"
-    return f" sim-1 [{cpu:03}] d.h.. {stamp}: sched_waking: comm=w pid={pid} prio=120 target_cpu=000\n"
+    return f" sim-1 [{cpu:03}] d.h.. {stamp(micros)}: sched_waking: comm=w pid={pid} prio=120 target_cpu=000\n"
 
 
-def scripts(keys):
+def switch(micros, pid):
+    said = "prev_comm=sim prev_pid=1 prev_prio=120 prev_state=S ==> next_comm=w"
+    return f" sim-1 [000] d.h.. {stamp(micros)}: sched_switch: {said} next_pid={pid} next_prio=120\n"
+
+
+def of_lanes(keys):
     """Yield scripts, each with what it prints: the lane of CPU 0, which wakes `keys` tasks before CPU 1 wakes others, goes, or
     comes to the lane of CPU 1; in a table of the usual size, and in one that has room for all."""
     for size in "", f":size={1 << 17}":
@@ -38,6 +50,32 @@ def scripts(keys):
             "".join([*load, "attached 1\n", f"unloaded {keys}\n", totals]),
         ]
         yield [f"load @2\n{TRIGGER}{size}\nload @1\ntotals 1\n", "".join([load[1], "attached 1\n", load[0], both])]
+
+
+def of_strike(keys):
+    """Yield a script with what it prints: a task whose waits have that many lengths, each of which is a key, is the first of 129,
+    of which a table has room for 128. Its first waking is struck. Then it is the last, and none of its wakings is saved."""
+    counters = ["attach wakeup_latency hist:keys=lat", "attach wakeup_latency hist:keys=lat:size=131072"]
+    totals = [f"hits {room} entries {room} dropped {keys - room}\n" for room in (2048, keys)]
+    asked, none = ["totals 3", "totals 4"], "hits 0 entries 0 dropped 0\n"
+    script = ["load @1", "load @2", SAVER, MAKER, *counters, *asked, "strike 1:1", *asked]
+    printed = ["loaded 1\n", f"loaded {2 * keys + 128}\n", *(f"attached {id}\n" for id in range(1, 5))]
+    yield ["\n".join([*script, ""]), "".join([*printed, *totals, "struck 1:1\n", none, none])]
+
+
+def lanes(keys):
+    """Yield the lines of two traces, one after the other."""
+    yield (waking(n, n, 0) for n in range(keys))
+    yield (waking(10**7 + n, keys + n, 1) for n in range(keys + 1))
+
+
+def waits(keys):
+    """Yield the lines of two traces: the first waking of task 999, and then those of 128 others, before it waits `keys` times,
+    each time a microsecond longer."""
+    yield [waking(0, 999, 1)]
+    others = [waking(1 + n, 1 + n, 0) for n in range(128)]
+    starts = [10**6 + 10**5 * n for n in range(keys)]
+    yield others + [line for n, at in enumerate(starts) for line in (waking(at, 999, 0), switch(at + 1 + n, 999))]
 
 
 def run(program, folder, script):
@@ -56,16 +94,16 @@ def run(program, folder, script):
 
 def measure(program, folder, keys, wrong):
     """Return the time of each script with that many keys. Output that isn't expected is added to `wrong`."""
-    with open(f"{folder}/trace1", "w", encoding="ascii") as file:
-        file.writelines(waking(n, n, 0) for n in range(keys))
-    with open(f"{folder}/trace2", "w", encoding="ascii") as file:
-        file.writelines(waking(10**7 + n, keys + n, 1) for n in range(keys + 1))
     times = []
-    for script, expected in scripts(keys):
-        time, printed = run(program, folder, script)
-        times.append(time)
-        if printed != expected:
-            wrong.append(f"{script!r} prints {printed!r}, not {expected!r}")
+    for scripts, traces in (of_lanes, lanes), (of_strike, waits):
+        for number, lines in enumerate(traces(keys), 1):
+            with open(f"{folder}/trace{number}", "w", encoding="ascii") as file:
+                file.writelines(lines)
+        for script, expected in scripts(keys):
+            time, printed = run(program, folder, script)
+            times.append(time)
+            if printed != expected:
+                wrong.append(f"{script!r} prints {printed!r}, not {expected!r}")
     return times
 
 

@@ -123,3 +123,7 @@ module _ {X : Type 0} (keys : List (List Part)) where
   by_marks es few passed =
       take_keys (drop passed (filter (λ e. not (is_of keys e.0.key)) es)) few
       ∙ ap (λ (ms : List Mark). list_map (λ m. m.key) (take few ms)) (drop_keys (filter (λ e. not (is_of keys e.0.key)) es) passed ∙ ap (drop passed) (others_in es))
+
+-- the same keys leave the same others
+pub others_same : (keys others : List (List Part)) → ((q : List Part) → is_of keys q ≡ is_of others q) → (ms : List Mark) → others_of keys ms ≡ others_of others ms
+others_same keys others same ms = ap (λ (test : Mark → Bool). filter test ms) (λ i m. not (same m.key i))

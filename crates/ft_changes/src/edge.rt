@@ -6,6 +6,7 @@ ghost use Rattle.ft_fields.specs.Parts.{same_key};
 ghost use Rattle.ft_table.specs.Tabled.{is_before};
 ghost use Rattle.ft_changes.specs.Rivals.{is_of, rivals};
 
+use crate::sorted_keys::SortedKeys;
 use ft_blocks::Entries;
 use ft_fields::Key;
 use ft_table::{Mark, Table};
@@ -25,7 +26,8 @@ pub fn rivals(alloc: Global, table: &Table, keys: &[Key]) -> Result<Vec<Key>, Al
             // Without those of the keys that stand in front of the last places, as many others move
             // up.
             let passed = count_before(table, keys, &start);
-            other_keys(alloc, table.marks_from(&start), keys, passed, few)
+            let sorted = SortedKeys::of(alloc, keys)?;
+            other_keys(alloc, table.marks_from(&start), &sorted, passed, few)
         }
     }
 }
@@ -42,7 +44,7 @@ fn count_before(table: &Table, keys: &[Key], mark: &Mark) -> usize
 fn other_keys(
     alloc: Global,
     marks: Entries<'_, Mark, ()>,
-    keys: &[Key],
+    keys: &SortedKeys,
     passed: usize,
     few: usize,
 ) -> Result<Vec<Key>, AllocError>
@@ -50,16 +52,9 @@ fn other_keys(
         (take few (drop passed (filter (λ entry. not (is_of keys.now entry.0.key)) marks.entry)))) }
 {
     marks
-        .filter(|entry| !has_key(keys, &entry.0.key))
+        .filter(|entry| !keys.contains(&entry.0.key))
         .skip(passed)
         .take(few)
         .map(|entry| entry.0.key)
         .collect(alloc)
-}
-
-/// Whether a key is one of some.
-pub fn has_key(keys: &[Key], key: &Key) -> bool
-    ensures { result ≡ is_of keys.now key.now }
-{
-    keys.iter().any(|other| key == other)
 }

@@ -31,13 +31,18 @@
 //! - `rivals`: the rivals of keys of which no two are the same, in order of their first hits;
 //!   exact. Lets through: running out of memory at any time; how far from the table's edge it
 //!   looks.
-//! - `has_key`: whether a key is one of some; exact.
+//! - `SortedKeys`: contracts see the keys. `new`, `of`, `insert`, `contains`: none, some keys, one
+//!   more, and whether a key is one of them; exact, except that the order of the keys is left open.
+//!   `of` and `insert` let through: running out of memory at any time. No clause says how many steps
+//!   a call takes.
 #![tactic(auto)]
 
 mod changed;
 mod edge;
 pub mod laws;
+mod sorted_keys;
 
 pub use changed::{Changed, ReadingChange};
-pub use edge::{has_key, rivals};
+pub use edge::rivals;
 pub use laws::some_rivals;
+pub use sorted_keys::SortedKeys;

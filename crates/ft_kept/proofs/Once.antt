@@ -1,6 +1,6 @@
 -- Keys, each once: the same ones, no two alike, and no more than there were.
-use Rattle.std.proofs.Common.{◌≡◌, ◌+◌, ◌≤◌, Bool, true, false, List, [], ◌∷◌, ◌++◌, length, arith, rules}
-use Rattle.std.specs.Prelude.{◌||◌}
+use Rattle.std.proofs.Common.{◌≡◌, ◌+◌, ◌<◌, ◌≤◌, ℕ, Bool, true, false, cond, List, [], ◌∷◌, ◌++◌, length, drop, get_or, refl, sym, ap, ◌∙◌, arith, rules}
+use Rattle.std.specs.Prelude.{◌||◌, not}
 use Rattle.std.specs.List.{fold, list_any, AllByRecursion, IsDistinct}
 use Rattle.std.specs.Cmp.{eq_by_cmp_equiv}
 use Rattle.std.proofs.lemmas.Bool.{both_ways, false_from_ne_true, or_parts, or_left, or_right}
@@ -12,6 +12,7 @@ use Rattle.ft_fields.specs.Orders.{key_cmp_total}
 use Rattle.ft_fields.specs.Parts.{same_key}
 use Rattle.ft_hits.proofs.Flat.{same_is, same_itself}
 use Rattle.ft_table.specs.Tabled.{Tabled}
+use Rattle.ft_changes.proofs.KeyLists.{next_key, with_own}
 use Rattle.ft_changes.specs.Rivals.{is_of, rivals, RivalsAreOthers, RivalsDiffer}
 use Rattle.ft_kept.specs.Touched.{with_new_key, each_once}
 
@@ -47,6 +48,32 @@ few_once found (key ∷ keys) = grind (arith, length-append, few_once (with_new_
 pub few_each_once : (keys : List (List Part)) → length (each_once keys) ≤ length keys
 unfolding each_once
 few_each_once keys = let all = few_once [] keys in omega (arith, all)
+
+-- ---- one key more
+
+-- with a key that was not met, or without one that was, they are those with the new key
+pub with_fresh : (met found : List (List Part)) (key : List Part) (fresh : Bool) → ((q : List Part) → is_of met q ≡ is_of found q) → fresh ≡ not (is_of met key) → cond fresh (found ++ key ∷ []) found ≡ with_new_key found key
+with_fresh met found key fresh same is = ap (λ b. cond b (found ++ key ∷ []) found) (is ∙ ap not (same key)) ∙ by (is_of found key) where
+  by : (b : Bool) → cond (not b) (found ++ key ∷ []) found ≡ cond b found (found ++ key ∷ [])
+  by true = refl
+  by false = refl
+
+-- those that were met are they, also with the key
+pub met_more : (met new found : List (List Part)) (key : List Part) → ((q : List Part) → is_of met q ≡ is_of found q) → ((q : List Part) → is_of new q ≡ (same_key q key || is_of met q)) → (q : List Part) → is_of new q ≡ is_of (with_new_key found key) q
+met_more met new found key same put q = put q ∙ ap (λ b. same_key q key || b) (same q) ∙ by (is_of found key) refl where
+  swapped : (a b : Bool) → (b || a) ≡ (a || (b || false))
+  swapped true true = refl
+  swapped true false = refl
+  swapped false true = refl
+  swapped false false = refl
+
+  by : (b : Bool) → is_of found key ≡ b → (same_key q key || is_of found q) ≡ is_of (cond b found (found ++ key ∷ [])) q
+  by true there = sym (with_own found key q there)
+  by false none = swapped (is_of found q) (same_key q key) ∙ sym (list_any-append (same_key q) found (key ∷ []))
+
+-- those that are left lead to the same
+pub once_more : (keys found : List (List Part)) (i : ℕ) (key : List Part) → i < length keys → key ≡ get_or keys i key → fold with_new_key (with_new_key found key) (drop (i + 1) keys) ≡ fold with_new_key found (drop i keys)
+once_more keys found i key within is = ap (fold with_new_key found) (sym (next_key keys i key within is))
 
 -- ---- lists one after the other
 

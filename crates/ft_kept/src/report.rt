@@ -3,11 +3,11 @@
 ghost use Rattle.std.specs.Prelude.{◌≡◌, ◌++◌, IfOk, OnOk};
 ghost use Rattle.ft_kept.specs.Changes.{keys_of};
 ghost use Rattle.ft_kept.specs.Report.{keys_reported, report_of, rows_at};
-ghost use Rattle.ft_kept.specs.Touched.{with_rivals};
+ghost use Rattle.ft_kept.specs.Touched.{each_once, with_rivals};
 
 use crate::changes::{KeyChange, Whose};
 use crate::tables::Tables;
-use ft_changes::{Changed, has_key, rivals};
+use ft_changes::{Changed, SortedKeys, rivals};
 use ft_fields::Key;
 use ft_hist::{Trigger, Triggers};
 use ft_table::Table;
@@ -68,18 +68,27 @@ fn keys_of(alloc: Global, whose: Whose, changes: &[KeyChange]) -> Result<Vec<Key
 
 /// Some keys, each once (the first of equal ones stays), and their rivals in a table. Refused for
 /// memory.
-#[tactic(auto, unfolding(crate::specs::Touched::each_once))]
 pub fn keys_with_rivals(alloc: Global, table: &Table, keys: &[Key]) -> Result<Vec<Key>, AllocError>
     ensures { IfOk result (λ found. found.items ≡ with_rivals table.now keys.now) }
 {
+    let mut found = each_once(alloc, keys)?;
+    let others = rivals(alloc, table, &found)?;
+    found.extend_from_slice(&others)?;
+    Ok(found)
+}
+
+/// Some keys, each once: the first of equal ones stays. Refused for memory.
+#[tactic(auto, unfolding(crate::specs::Touched::each_once))]
+fn each_once(alloc: Global, keys: &[Key]) -> Result<Vec<Key>, AllocError>
+    ensures { IfOk result (λ found. found.items ≡ each_once keys.now) }
+{
+    let mut met = SortedKeys::new(alloc);
     let mut found = Vec::new(alloc);
     for key in keys {
-        if !has_key(&found, key) {
+        if met.insert(*key)? {
             found.push(*key)?;
         }
     }
-    let others = rivals(alloc, table, &found)?;
-    found.extend_from_slice(&others)?;
     Ok(found)
 }
 

@@ -17,7 +17,7 @@ use Rattle.ft_table.proofs.Distinct.{key_of}
 use Rattle.ft_changes.specs.Rivals.{is_of}
 use Rattle.ft_changes.specs.inner.Edge.{inside, others_of}
 use Rattle.ft_changes.proofs.Fronts.{nothing}
-use Rattle.ft_changes.proofs.FromMark.{from_rank, all_before, by_marks}
+use Rattle.ft_changes.proofs.FromMark.{from_rank, all_before, by_marks, others_same}
 use Rattle.ft_changes.proofs.NearEdge.{near_edge}
 use Rattle.ft_changes.proofs.edge.rivals.Goals as goal
 
@@ -45,14 +45,15 @@ returns-in-None c =
     ∙ ap (λ n. list_map key_of (take few (drop passed (others_of keys (take n (drop start order)))))) (sym zero_left)
     ∙ near_edge table keys c.requires order refl few start passed (omega (arith, c.min-few.ensures, c.size.ensures)) refl refl
 
-pub returns-in-Some : goal.returns-in-Some
-returns-in-Some c =
+pub returns-in_ok-sorted-in-Some : goal.returns-in_ok-sorted-in-Some
+returns-in_ok-sorted-in-Some c =
     let keys = c.args.keys.now in
     let table = c.args.table.now in
     let order : List Mark = order_of table.hits in
     let few = c.min-few.result in
     let start : ℕ = table.size - few in
     let m = c.in-Some.start in
+    let sorted = c.in_ok-sorted-in-Some.sorted in
     let found : slice_get order start ≡ Some m = sym c.mark_near_edge.ensures ∙ c.in-Some.is in
     let within = slice_get_within order start m found in
     let at : IsRank mark_cmp order m start = rank_at order m start (rises_any table.hits) within (λ d. get_or_from_slice_get order start m d found) in
@@ -60,7 +61,8 @@ returns-in-Some c =
     let marks : keys_of c.marks_from.result ≡ take (length order - start) (drop start order) =
     c.marks_from.ensures ∙ from_rank m order start at ∙ sym (take_all (length order - start) (drop start order) (omega (arith, length-drop start order))) in
     IfOk-weaker c.other_keys.result _ _ (λ keys_found is.
-    is ∙ by_marks keys c.marks_from.result few c.count_before-passed.result
-    ∙ ap (λ (ms : List Mark). list_map key_of (take few (drop c.count_before-passed.result (others_of keys ms)))) marks
+    is ∙ by_marks sorted c.marks_from.result few c.count_before-passed.result
+    ∙ ap (λ (ms : List Mark). list_map (λ m. m.key) (take few (drop c.count_before-passed.result ms))) (others_same sorted keys c.in_ok-sorted-in-Some.ensures (keys_of c.marks_from.result))
+    ∙ ap (λ (ms : List Mark). list_map (λ m. m.key) (take few (drop c.count_before-passed.result (others_of keys ms)))) marks
     ∙ near_edge table keys c.requires order refl few start c.count_before-passed.result (omega (arith, c.min-few.ensures, c.size.ensures)) (omega (arith, within)) passed)
     c.other_keys.ensures
