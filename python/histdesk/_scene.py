@@ -2,6 +2,7 @@
 
 from __future__ import annotations
 
+import itertools
 import re
 from collections.abc import Callable, Iterable, Iterator
 from typing import TYPE_CHECKING, Any, NamedTuple, cast
@@ -29,8 +30,12 @@ WOKEN, FORKED, PREEMPTED = WAIT_KINDS
 NO_NAME = "<...>"
 # Letters of the kernel's flags that say in which context an event was, and how the context is called here.
 CONTEXTS = (("zZ", "nmi"), ("hH", "hardirq"), ("s", "softirq"))
+# What stands around the flags of a line: its CPU, its stamp, the event's name, and what follows that.
+FLAGS = re.compile(rb"\[0*([0-9]+)\] +(?:([^ :\n]+) +)?0*([0-9]+\.[0-9]{6}:) *([a-z_]+): *(.*)")
 # Stamps before all others and after them.
 NEVER, FOREVER = -1, 1 << 62
+# For so many events a text is searched, which takes a tenth of reading the stamps of its lines.
+SOUGHT = 10
 # What finds in which context an event was, as `context_of` returns it.
 Contexts = Callable[[Event], str | None]
 # For the events of a CPU: before which ones something was lost, from when on, and until when.
@@ -480,20 +485,20 @@ def of_desk(desk: Desk, recording: Recording | None = None) -> Scene:
 
 
 class LineContexts:
-    """Finds the contexts of events by the lines of a text, whose stamps are read once if there are several events."""
+    """Finds the contexts of events by the lines of a text, whose stamps are read once if there are more than `SOUGHT` events."""
 
     def __init__(self, text: Buffer) -> None:
         """Take a text, which stays as it is."""
         self._text = searchable(text)
-        self._is_first = True
+        self._asked = 0
         # The stamps in order, and for each of them where its line begins and ends.
         self._stamps: NDArray[np.int64] | None = None
         self._begins = self._ends = np.zeros(0, "i8")
 
     def __call__(self, event: Event) -> str | None:
         """Return the context of an event."""
-        if self._is_first:
-            self._is_first = False
+        self._asked += 1
+        if self._asked <= SOUGHT:
             return context_of(event, lines_with(self._text, stamp_of(event).encode()))
         if self._stamps is None:
             self._read()
@@ -545,14 +550,21 @@ def context_of(event: Event, lines: Iterable[bytes]) -> str | None:
     str or None
         `nmi`, `hardirq` or `softirq`, or `task` if the event was in no interrupt; None if its line isn't there or has no flags.
     """
-    own = re.compile(
-        rb"\[0*%d\] +(?:([^ :\n]+) +)?0*%s *%s: *.*pid=%d "
-        % (event.cpu, re.escape(stamp_of(event).encode()), event.name.encode(), event.pid or 0)
-    )
-    match = next(filter(None, map(own.search, lines)), None)
-    if not match or not match[1]:
-        return None
-    return next((name for signs, name in CONTEXTS if set(signs.encode()) & set(match[1])), "task")
+    stamp, name, pid = stamp_of(event).encode(), event.name.encode(), b"pid=%d " % (event.pid or 0)
+    for line in lines:
+        # A task's name may have brackets too.
+        for match in map(FLAGS.match, itertools.repeat(line), positions(line, b"[")):
+            if match and int(match[1]) == event.cpu and match.group(3, 4) == (stamp, name) and pid in match[5]:
+                return match[2] and next((name for signs, name in CONTEXTS if set(signs.encode()) & set(match[2])), "task")
+    return None
+
+
+def positions(text: bytes, sign: bytes) -> Iterator[int]:
+    """Go through the places of a sign in a text."""
+    at = text.find(sign)
+    while at >= 0:
+        yield at
+        at = text.find(sign, at + 1)
 
 
 def lines_with(content: Buffer, sign: bytes) -> Iterator[bytes]:

@@ -228,7 +228,8 @@ class Stretches(Sequence[Stretch]):
 def last_of(codes: NDArray[np.intp], count: int) -> NDArray[np.intp]:
     """Return where each of the numbers below `count` stands last; -1 if it isn't there."""
     places = np.full(count, -1)
-    np.maximum.at(places, codes, np.arange(len(codes)))
+    # Of several values for one place, the last one stays.
+    places[codes] = np.arange(len(codes))
     return places
 
 

@@ -11,7 +11,7 @@ import numpy as np
 from ._events import Events
 from ._losses import Hole, seconds
 from ._recording import LIMIT, Recording
-from ._scene import FOREVER, NEVER, Bounds, Contexts, Scene, Wait, context_of, lines_with
+from ._scene import FOREVER, NEVER, Bounds, Contexts, LineContexts, Scene, Wait, lines_with
 from ._schema import WAKEUP_NEW, WAKING
 from ._slices import Source
 from ._stream import Checkpoint
@@ -353,14 +353,14 @@ def contexts_in(source: Source) -> Contexts:
     """Return what finds the contexts of a recording's wakings, by the flags of their lines."""
     # The part of its text that was read last, by its ends: wakings are often near the one before.
     ends: tuple[int, int] | None = None
-    text = b""
+    inside = LineContexts(b"")
 
     def context(event: Event) -> str | None:
-        nonlocal ends, text
+        nonlocal ends, inside
         first, last = source._around(event.stamp, event.stamp + 1, 0)
         if ends != (first.at, last.at):
-            ends, text = (first.at, last.at), source._text.read(first.at, last.at)
-        return context_of(event, lines_with(text, f"{seconds(event.stamp)}:".encode()))
+            ends, inside = (first.at, last.at), LineContexts(source._text.read(first.at, last.at))
+        return inside(event)
 
     return context
 

@@ -105,13 +105,13 @@ class Slices(Cut):
         """However many waits are explained, the text around them is read once, and not for each of them."""
         teller = _explainer.explainer_of(noise(7, 6000))
         size = {}
-        for count in (20, 1000):
+        for count in (20, 800):
             waits = _explainer.greatest(teller.waits, count, True)
             self.assertEqual(len(waits), count)
             with mock.patch.object(_slices.Source, "_read", autospec=True, side_effect=_slices.Source._read) as read:
                 self.assertEqual(sorted(dict(teller.explain_together(waits))), list(range(count)))
             size[count] = sum(last.at - first.at for _, _, first, last in (call.args for call in read.call_args_list))
-        self.assertLessEqual(size[1000], 3 * size[20])
+        self.assertLessEqual(size[800], 3 * size[20])
 
     def test_what_ran_long_before(self):
         """CPU 1 switched to b long before the wait, and nothing is heard of it until it runs w; CPU 3, where w was queued, is

@@ -159,7 +159,7 @@ def json_of(why: Why, options: argparse.Namespace) -> dict[str, Any]:
         "context": why.context,
         "doubtful": why.doubtful,
         "unknown_cpus": why.unknown_cpus,
-        **{name: [one._asdict() for one in items] for name, items in lists.items()},
+        **{name: [dict(zip(one._fields, one)) for one in items] for name, items in lists.items()},
         **({"chain": json_of_chain(why.chain(options.steps, options.beyond))} if options.chain else {}),
     }
 
