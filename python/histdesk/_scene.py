@@ -2,6 +2,7 @@
 
 from __future__ import annotations
 
+import functools
 import itertools
 import re
 from collections.abc import Callable, Iterable, Iterator
@@ -32,6 +33,8 @@ NO_NAME = "<...>"
 CONTEXTS = (("zZ", "nmi"), ("hH", "hardirq"), ("s", "softirq"))
 # What stands around the flags of a line: its CPU, its stamp, the event's name, and what follows that.
 FLAGS = re.compile(rb"\[0*([0-9]+)\] +(?:([^ :\n]+) +)?0*([0-9]+\.[0-9]{6}:) *([a-z_]+): *(.*)")
+# The names of tasks and states, most of which are decoded again and again.
+text_of = functools.lru_cache(1 << 12)(layout.text_of)
 # Stamps before all others and after them.
 NEVER, FOREVER = -1, 1 << 62
 # For so many events a text is searched, which takes a tenth of reading the stamps of its lines.
@@ -130,8 +133,10 @@ class Scene:
         """
         self.events, self.line, self.holes = events, lines, holes
         self.array = events.array
-        self.stamp, self.cpu, self.name, self.pid, self.prev_pid, self.common_pid = (
-            self.array[field].copy() for field in ("stamp", "cpu", "name", "pid", "prev_pid", "common_pid")
+        # The same without attributes, which take longer to look up.
+        self._structs = events.array.view(np.ndarray)
+        self.stamp, self.cpu, self.name, self.pid, self.prev_pid, self.prev_prio, self.common_pid = (
+            self._structs[field].copy() for field in ("stamp", "cpu", "name", "pid", "prev_pid", "prev_prio", "common_pid")
         )
         self._text, self._wakings, self._bounds = text, wakings, bounds
         self._places: dict[int, NDArray[np.int64]] = {}
@@ -141,6 +146,7 @@ class Scene:
         # For each CPU: the lines of its events in ascending order, and which of its events these are.
         self._lines: dict[int, tuple[NDArray[np.integer[Any]], NDArray[np.int64]]] = {}
         self._holes: dict[int, list[tuple[int, int]]] = {}
+        self._steps: dict[Wait, Steps] = {}
         # The texts of fields of all events, if many are asked for, and how many were asked for.
         self._texts: dict[str, NDArray[np.object_]] = {}
         self._asked: dict[str, int] = {}
@@ -164,6 +170,12 @@ class Scene:
 
     def steps(self, wait: Wait) -> Steps:
         """Return the events of a wait. Raises `LookupError` if those of its ends aren't here."""
+        if wait not in self._steps:
+            self._steps[wait] = self._find_steps(wait)
+        return self._steps[wait]
+
+    def _find_steps(self, wait: Wait) -> Steps:
+        """Return the same, found anew."""
         begin = self.at(wait.begin.cpu, wait.begin.line)
         end = self.at(wait.end.cpu, wait.end.line) if wait.end else len(self.events)
         if begin is None or end is None:
@@ -173,8 +185,8 @@ class Scene:
     def steps_from(self, wait: Wait, begin: int, end: int) -> Steps:
         """Return the events of a wait from one event on, as far as another one."""
         inside = slice(begin + 1, end)
-        is_queued = (self.pid[inside] == wait.pid) & (self.name[inside] == WAKEUP)
-        queued = first_in(is_queued, begin + 1) if wait.kind == WOKEN else None
+        of_task = (self.pid[inside] == wait.pid).nonzero()[0] + begin + 1
+        queued = next(iter(of_task[self.name[of_task] == WAKEUP].tolist()), None) if wait.kind == WOKEN else None
         slept = first_in(self.prev_pid[inside] == wait.pid, begin + 1)
         placed = begin if wait.kind == FORKED else queued
         queue_cpu = int(self.cpu[begin]) if wait.kind == PREEMPTED else None if placed is None else self.target(placed)
@@ -184,7 +196,7 @@ class Scene:
 
     def target(self, at: int) -> int:
         """Return the CPU for which a task is woken or created."""
-        return int(self.array["target_cpu"][at])
+        return int(self._structs[at]["target_cpu"])
 
     # ---- tasks
 
@@ -346,8 +358,8 @@ class Scene:
         """Return a field of some events, which holds a text. If many are asked for, all are decoded together."""
         self._asked[field] = self._asked.get(field, 0) + len(events)
         if field not in self._texts and self._asked[field] <= len(self.events):
-            array = self.array[events]
-            return list(map(layout.text_of, array[field].tolist(), array[f"{field}_length"].tolist()))
+            array = self._structs[events]
+            return list(map(text_of, array[field].tolist(), array[f"{field}_length"].tolist()))
         if field not in self._texts:
             self._texts[field] = texts(self.array, field)
         return self._texts[field][events]
@@ -462,7 +474,7 @@ class Walk:
         is_turn = cuts < len(self.turns)
         turns = self.turns[cuts[is_turn]]
         pids = scene.prev_pid[turns]
-        columns.pid[is_turn], columns.prio[is_turn] = pids, np.where(pids, scene.array["prev_prio"][turns], NOTHING)
+        columns.pid[is_turn], columns.prio[is_turn] = pids, np.where(pids, scene.prev_prio[turns], NOTHING)
         columns.line[is_turn] = scene.line[turns]
         columns.task[is_turn] = scene.texts("prev_comm", turns)
         columns.task[is_turn & (columns.pid == 0)] = IDLE.task
@@ -567,11 +579,11 @@ def positions(text: bytes, sign: bytes) -> Iterator[int]:
         at = text.find(sign, at + 1)
 
 
-def lines_with(content: Buffer, sign: bytes) -> Iterator[bytes]:
-    """Go through the lines of a text that contain a sign."""
+def lines_with(content: Buffer, sign: bytes, start: int = 0) -> Iterator[bytes]:
+    """Go through the lines of a text that contain a sign, from a byte on."""
     # A text is anything that has `find`.
     text = cast("bytes", content)
-    at = text.find(sign)
+    at = text.find(sign, start)
     while at >= 0:
         end = text.find(b"\n", at)
         end = len(text) if end < 0 else end
