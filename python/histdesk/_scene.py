@@ -2,6 +2,8 @@
 
 from __future__ import annotations
 
+import functools
+import itertools
 import re
 from collections.abc import Callable, Iterable, Iterator
 from typing import TYPE_CHECKING, Any, NamedTuple, cast
@@ -29,8 +31,14 @@ WOKEN, FORKED, PREEMPTED = WAIT_KINDS
 NO_NAME = "<...>"
 # Letters of the kernel's flags that say in which context an event was, and how the context is called here.
 CONTEXTS = (("zZ", "nmi"), ("hH", "hardirq"), ("s", "softirq"))
+# What stands around the flags of a line: its CPU, its stamp, the event's name, and what follows that.
+FLAGS = re.compile(rb"\[0*([0-9]+)\] +(?:([^ :\n]+) +)?0*([0-9]+\.[0-9]{6}:) *([a-z_]+): *(.*)")
+# The names of tasks and states, most of which are decoded again and again.
+text_of = functools.lru_cache(1 << 12)(layout.text_of)
 # Stamps before all others and after them.
 NEVER, FOREVER = -1, 1 << 62
+# For so many events a text is searched, which takes a tenth of reading the stamps of its lines.
+SOUGHT = 10
 # What finds in which context an event was, as `context_of` returns it.
 Contexts = Callable[[Event], str | None]
 # For the events of a CPU: before which ones something was lost, from when on, and until when.
@@ -125,8 +133,10 @@ class Scene:
         """
         self.events, self.line, self.holes = events, lines, holes
         self.array = events.array
-        self.stamp, self.cpu, self.name, self.pid, self.prev_pid, self.common_pid = (
-            self.array[field].copy() for field in ("stamp", "cpu", "name", "pid", "prev_pid", "common_pid")
+        # The same without attributes, which take longer to look up.
+        self._structs = events.array.view(np.ndarray)
+        self.stamp, self.cpu, self.name, self.pid, self.prev_pid, self.prev_prio, self.common_pid = (
+            self._structs[field].copy() for field in ("stamp", "cpu", "name", "pid", "prev_pid", "prev_prio", "common_pid")
         )
         self._text, self._wakings, self._bounds = text, wakings, bounds
         self._places: dict[int, NDArray[np.int64]] = {}
@@ -136,6 +146,7 @@ class Scene:
         # For each CPU: the lines of its events in ascending order, and which of its events these are.
         self._lines: dict[int, tuple[NDArray[np.integer[Any]], NDArray[np.int64]]] = {}
         self._holes: dict[int, list[tuple[int, int]]] = {}
+        self._steps: dict[Wait, Steps] = {}
         # The texts of fields of all events, if many are asked for, and how many were asked for.
         self._texts: dict[str, NDArray[np.object_]] = {}
         self._asked: dict[str, int] = {}
@@ -159,6 +170,12 @@ class Scene:
 
     def steps(self, wait: Wait) -> Steps:
         """Return the events of a wait. Raises `LookupError` if those of its ends aren't here."""
+        if wait not in self._steps:
+            self._steps[wait] = self._find_steps(wait)
+        return self._steps[wait]
+
+    def _find_steps(self, wait: Wait) -> Steps:
+        """Return the same, found anew."""
         begin = self.at(wait.begin.cpu, wait.begin.line)
         end = self.at(wait.end.cpu, wait.end.line) if wait.end else len(self.events)
         if begin is None or end is None:
@@ -168,8 +185,8 @@ class Scene:
     def steps_from(self, wait: Wait, begin: int, end: int) -> Steps:
         """Return the events of a wait from one event on, as far as another one."""
         inside = slice(begin + 1, end)
-        is_queued = (self.pid[inside] == wait.pid) & (self.name[inside] == WAKEUP)
-        queued = first_in(is_queued, begin + 1) if wait.kind == WOKEN else None
+        of_task = (self.pid[inside] == wait.pid).nonzero()[0] + begin + 1
+        queued = next(iter(of_task[self.name[of_task] == WAKEUP].tolist()), None) if wait.kind == WOKEN else None
         slept = first_in(self.prev_pid[inside] == wait.pid, begin + 1)
         placed = begin if wait.kind == FORKED else queued
         queue_cpu = int(self.cpu[begin]) if wait.kind == PREEMPTED else None if placed is None else self.target(placed)
@@ -179,7 +196,7 @@ class Scene:
 
     def target(self, at: int) -> int:
         """Return the CPU for which a task is woken or created."""
-        return int(self.array["target_cpu"][at])
+        return int(self._structs[at]["target_cpu"])
 
     # ---- tasks
 
@@ -341,8 +358,8 @@ class Scene:
         """Return a field of some events, which holds a text. If many are asked for, all are decoded together."""
         self._asked[field] = self._asked.get(field, 0) + len(events)
         if field not in self._texts and self._asked[field] <= len(self.events):
-            array = self.array[events]
-            return list(map(layout.text_of, array[field].tolist(), array[f"{field}_length"].tolist()))
+            array = self._structs[events]
+            return list(map(text_of, array[field].tolist(), array[f"{field}_length"].tolist()))
         if field not in self._texts:
             self._texts[field] = texts(self.array, field)
         return self._texts[field][events]
@@ -457,7 +474,7 @@ class Walk:
         is_turn = cuts < len(self.turns)
         turns = self.turns[cuts[is_turn]]
         pids = scene.prev_pid[turns]
-        columns.pid[is_turn], columns.prio[is_turn] = pids, np.where(pids, scene.array["prev_prio"][turns], NOTHING)
+        columns.pid[is_turn], columns.prio[is_turn] = pids, np.where(pids, scene.prev_prio[turns], NOTHING)
         columns.line[is_turn] = scene.line[turns]
         columns.task[is_turn] = scene.texts("prev_comm", turns)
         columns.task[is_turn & (columns.pid == 0)] = IDLE.task
@@ -480,20 +497,20 @@ def of_desk(desk: Desk, recording: Recording | None = None) -> Scene:
 
 
 class LineContexts:
-    """Finds the contexts of events by the lines of a text, whose stamps are read once if there are several events."""
+    """Finds the contexts of events by the lines of a text, whose stamps are read once if there are more than `SOUGHT` events."""
 
     def __init__(self, text: Buffer) -> None:
         """Take a text, which stays as it is."""
         self._text = searchable(text)
-        self._is_first = True
+        self._asked = 0
         # The stamps in order, and for each of them where its line begins and ends.
         self._stamps: NDArray[np.int64] | None = None
         self._begins = self._ends = np.zeros(0, "i8")
 
     def __call__(self, event: Event) -> str | None:
         """Return the context of an event."""
-        if self._is_first:
-            self._is_first = False
+        self._asked += 1
+        if self._asked <= SOUGHT:
             return context_of(event, lines_with(self._text, stamp_of(event).encode()))
         if self._stamps is None:
             self._read()
@@ -545,21 +562,28 @@ def context_of(event: Event, lines: Iterable[bytes]) -> str | None:
     str or None
         `nmi`, `hardirq` or `softirq`, or `task` if the event was in no interrupt; None if its line isn't there or has no flags.
     """
-    own = re.compile(
-        rb"\[0*%d\] +(?:([^ :\n]+) +)?0*%s *%s: *.*pid=%d "
-        % (event.cpu, re.escape(stamp_of(event).encode()), event.name.encode(), event.pid or 0)
-    )
-    match = next(filter(None, map(own.search, lines)), None)
-    if not match or not match[1]:
-        return None
-    return next((name for signs, name in CONTEXTS if set(signs.encode()) & set(match[1])), "task")
+    stamp, name, pid = stamp_of(event).encode(), event.name.encode(), b"pid=%d " % (event.pid or 0)
+    for line in lines:
+        # A task's name may have brackets too.
+        for match in map(FLAGS.match, itertools.repeat(line), positions(line, b"[")):
+            if match and int(match[1]) == event.cpu and match.group(3, 4) == (stamp, name) and pid in match[5]:
+                return match[2] and next((name for signs, name in CONTEXTS if set(signs.encode()) & set(match[2])), "task")
+    return None
 
 
-def lines_with(content: Buffer, sign: bytes) -> Iterator[bytes]:
-    """Go through the lines of a text that contain a sign."""
+def positions(text: bytes, sign: bytes) -> Iterator[int]:
+    """Go through the places of a sign in a text."""
+    at = text.find(sign)
+    while at >= 0:
+        yield at
+        at = text.find(sign, at + 1)
+
+
+def lines_with(content: Buffer, sign: bytes, start: int = 0) -> Iterator[bytes]:
+    """Go through the lines of a text that contain a sign, from a byte on."""
     # A text is anything that has `find`.
     text = cast("bytes", content)
-    at = text.find(sign)
+    at = text.find(sign, start)
     while at >= 0:
         end = text.find(b"\n", at)
         end = len(text) if end < 0 else end

@@ -142,12 +142,20 @@ def values(column: NDArray[Any]) -> list[Any]:
 class Stretches(Sequence[Stretch]):
     """What ran on a CPU, in order: a sequence, equal to a tuple of the same. A `Stretch` is made when it is asked for."""
 
-    def __init__(self, cpu: int, columns: Columns) -> None:
-        self.cpu, self.columns = cpu, columns
+    def __init__(self, cpu: int, columns: Columns, wakings: Wakings | None = None) -> None:
+        """Take the CPU, and the stretches. If there are wakings, they say when tasks became runnable, once that is asked for."""
+        self.cpu, self._columns, self._wakings = cpu, columns, wakings
         self._shares: list[Share] | None = None
 
+    @property
+    def columns(self) -> Columns:
+        """The stretches, in columns."""
+        if self._wakings is not None:
+            self._columns, self._wakings = runnable_by(self._wakings, self._columns), None
+        return self._columns
+
     def __len__(self) -> int:
-        return len(self.columns.begin)
+        return len(self._columns.begin)
 
     @overload
     def __getitem__(self, at: int) -> Stretch:
@@ -187,31 +195,18 @@ class Stretches(Sequence[Stretch]):
     @property
     def micros(self) -> NDArray[np.int64]:
         """How long each is, in microseconds."""
-        return self.columns.end - self.columns.begin
+        return self._columns.end - self._columns.begin
 
     def after(self, wakings: Wakings) -> Stretches:
         """Return the same, each with the stamp at which its task was last woken or created before it began."""
-        columns = self.columns
-        if len(wakings.pids) > FEW:
-            is_of = np.isin(wakings.pids, columns.pid)
-            wakings = Wakings(wakings.pids[is_of], wakings.stamps[is_of])
-        pids = np.concatenate([wakings.pids, columns.pid])
-        stamps = np.concatenate([wakings.stamps, columns.begin])
-        # By task and in the order of time; at one stamp, what was woken comes before what began to run.
-        count, order = len(pids) - len(self), np.lexsort((stamps, pids))
-        last = np.maximum.accumulate(np.where(order < count, np.arange(len(order)), 0))
-        before = order[last]
-        has_waking = (order >= count) & (before < count) & (pids[before] == pids[order]) & (pids[order] != 0)
-        runnable = columns.runnable.copy()
-        runnable[order[has_waking] - count] = stamps[before[has_waking]]
-        return Stretches(self.cpu, columns._replace(runnable=runnable))
+        return Stretches(self.cpu, self.columns, wakings)
 
     @property
     def shares(self) -> list[Share]:
         """How long each task ran, the longest first; of equal ones, the one that ran first. Name and prio are the last that are
         known of a task."""
         if self._shares is None:
-            columns = self.columns
+            columns = self._columns
             pids, first, codes = np.unique(columns.pid, return_index=True, return_inverse=True)
             micros = np.bincount(codes, self.micros).astype("i8")
             tasks = columns.task[last_of(codes, len(pids))]
@@ -225,10 +220,28 @@ class Stretches(Sequence[Stretch]):
         return list(self._shares)
 
 
+def runnable_by(wakings: Wakings, columns: Columns) -> Columns:
+    """Return stretches, each with the stamp at which its task was last woken or created before it began."""
+    if len(wakings.pids) > FEW:
+        is_of = np.isin(wakings.pids, columns.pid)
+        wakings = Wakings(wakings.pids[is_of], wakings.stamps[is_of])
+    pids = np.concatenate([wakings.pids, columns.pid])
+    stamps = np.concatenate([wakings.stamps, columns.begin])
+    # By task and in the order of time; at one stamp, what was woken comes before what began to run.
+    count, order = len(wakings.pids), np.lexsort((stamps, pids))
+    last = np.maximum.accumulate(np.where(order < count, np.arange(len(order)), 0))
+    before = order[last]
+    has_waking = (order >= count) & (before < count) & (pids[before] == pids[order]) & (pids[order] != 0)
+    runnable = columns.runnable.copy()
+    runnable[order[has_waking] - count] = stamps[before[has_waking]]
+    return columns._replace(runnable=runnable)
+
+
 def last_of(codes: NDArray[np.intp], count: int) -> NDArray[np.intp]:
     """Return where each of the numbers below `count` stands last; -1 if it isn't there."""
     places = np.full(count, -1)
-    np.maximum.at(places, codes, np.arange(len(codes)))
+    # Of several values for one place, the last one stays.
+    places[codes] = np.arange(len(codes))
     return places
 
 

@@ -33,7 +33,7 @@ LEAD, WIDTH, GROWTH = 2048, 1000, 8
 # About how many events are read at once.
 PART = 1 << 18
 # About how many events waits have together that are explained together, and how many events may be between two of them.
-GROUP, GAP = 1 << 19, 1 << 14
+GROUP, GAP = 1 << 19, 1 << 16
 # For how many more there is room at both ends of those that are kept.
 SPARE = 1 << 10
 
@@ -351,16 +351,20 @@ def is_after(array: np.recarray[Any, Any], lines: NDArray[np.integer[Any]], plac
 
 def contexts_in(source: Source) -> Contexts:
     """Return what finds the contexts of a recording's wakings, by the flags of their lines."""
-    # The part of its text that was read last, by its ends: wakings are often near the one before.
+    # The part of its text that was read last, by its ends, and where the last event was found in it: wakings are often near the
+    # one before, and asked for in the order of time, in which the text is.
     ends: tuple[int, int] | None = None
-    text = b""
+    text, found, latest = b"", 0, NEVER
 
     def context(event: Event) -> str | None:
-        nonlocal ends, text
+        nonlocal ends, text, found, latest
         first, last = source._around(event.stamp, event.stamp + 1, 0)
         if ends != (first.at, last.at):
-            ends, text = (first.at, last.at), source._text.read(first.at, last.at)
-        return context_of(event, lines_with(text, f"{seconds(event.stamp)}:".encode()))
+            ends, text, latest = (first.at, last.at), source._text.read(first.at, last.at), NEVER
+        sign = f"{seconds(event.stamp)}:".encode()
+        found = max(text.find(sign, found if latest <= event.stamp and latest != NEVER else 0), 0)
+        latest = event.stamp
+        return context_of(event, lines_with(text, sign, found))
 
     return context
 

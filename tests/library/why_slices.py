@@ -1,6 +1,9 @@
 """Tests what is reported about waits from slices of a recording. That depends on what ran before the wait began, which may be
 long ago: each answer is compared with that over the whole recording, or is known by hand."""
 
+import contextlib
+import io
+import json
 import os
 import random
 import subprocess
@@ -12,6 +15,7 @@ from unittest import mock
 
 import histdesk
 from histdesk import Share, Stretch, _surroundings, _slices, _text, _explainer
+from histdesk.cli import why
 from why_traces import line, switch, trace, waking
 
 TOOL = os.path.join(os.path.dirname(os.path.realpath(__file__)), "..", "..", "tools", "why")
@@ -102,16 +106,26 @@ class Slices(Cut):
         self.assertGreater(min(waits, places), 100)
 
     def test_read_once(self):
-        """However many waits are explained, the text around them is read once, and not for each of them."""
-        teller = _explainer.explainer_of(noise(7, 6000))
-        size = {}
-        for count in (20, 1000):
-            waits = _explainer.greatest(teller.waits, count, True)
-            self.assertEqual(len(waits), count)
+        """However many waits tools/why explains, it reads the text around them once, and not for each of them."""
+        lines = []
+        for at in range(3000):
+            now, pid = 1000000 + 100 * at, 10 + at % 7
+            lines.append(waking("<idle>-0", 0, now, f"t{pid}", pid, at % 2))
+            before = f"t{10 + (at - 2) % 7}-{10 + (at - 2) % 7}" if at > 1 else "swapper-0"
+            lines.append(switch(at % 2, now + 10 + at % 40, before, "S", f"t{pid}-{pid}"))
+        text, count = trace(*lines), 2000
+        with tempfile.TemporaryDirectory() as folder, mock.patch.object(_text, "PIECE", 1 << 14):
+            path = os.path.join(folder, "my.trace")
+            with open(path, "wb") as file:
+                file.write(text)
+            out = io.StringIO()
             with mock.patch.object(_slices.Source, "_read", autospec=True, side_effect=_slices.Source._read) as read:
-                self.assertEqual(sorted(dict(teller.explain_together(waits))), list(range(count)))
-            size[count] = sum(last.at - first.at for _, _, first, last in (call.args for call in read.call_args_list))
-        self.assertLessEqual(size[1000], 3 * size[20])
+                with contextlib.redirect_stdout(out):
+                    self.assertEqual(why.main([path, "--worst", str(count), "--json"]), 0)
+        told = [wait["micros"] for wait in json.loads(out.getvalue())["waits"]]
+        self.assertEqual((len(told), told), (count, sorted(told, reverse=True)))
+        parts = [call.args[2:] for call in read.call_args_list]
+        self.assertLessEqual(sum(last.at - first.at for first, last in parts), 2 * len(text))
 
     def test_what_ran_long_before(self):
         """CPU 1 switched to b long before the wait, and nothing is heard of it until it runs w; CPU 3, where w was queued, is

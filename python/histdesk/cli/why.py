@@ -149,9 +149,11 @@ def write_json(path: str | None, waits: Iterator[str]) -> None:
 def json_of(why: Why, options: argparse.Namespace) -> dict[str, Any]:
     """Return a wait as plain data. Stamps are in microseconds, like all times."""
     events = {name: json_of_event(getattr(why, name)) for name in ("begin", "end", "queued", "slept")}
-    lists: dict[str, Sequence[Any]] = {"shares": why.shares, "holes": why.holes}
+    lists: dict[str, Sequence[Any]] = {"holes": why.holes}
     if options.all:
         lists["stretches"] = why.stretches
+    # There may be many, and this is the quickest way to a dictionary.
+    shares = [{"task": task, "pid": pid, "prio": prio, "micros": us, "runs": runs} for task, pid, prio, us, runs in why.shares]
     return {
         **{name: getattr(why, name) for name in ("kind", "task", "pid", "prio", "micros", "until", "cpu", "queue_cpu")},
         **events,
@@ -159,6 +161,7 @@ def json_of(why: Why, options: argparse.Namespace) -> dict[str, Any]:
         "context": why.context,
         "doubtful": why.doubtful,
         "unknown_cpus": why.unknown_cpus,
+        "shares": shares,
         **{name: [one._asdict() for one in items] for name, items in lists.items()},
         **({"chain": json_of_chain(why.chain(options.steps, options.beyond))} if options.chain else {}),
     }
