@@ -70,7 +70,7 @@ def begin(options: argparse.Namespace) -> None:
         The tool's: `trace`, and those that choose a part of it, which is not read in passing.
     """
     is_part = any(getattr(options, name, None) is not None for name in ("start", "until", "events"))
-    origin = None if is_part else recording_origin(first_bytes(options.trace))
+    origin = None if is_part or options.trace == "-" else recording_origin(first_bytes(options.trace))
     if origin:
         # If it can't be run, this is reported when the text is read.
         with contextlib.suppress(OSError):

@@ -41,8 +41,9 @@ def kernel_fields(label: bytes, text: bytes) -> bytes:
     """Return the fields of an event in the kernel's layout, by what stands after its label and the colon; as they are, without
     the blanks around them, if the plugins haven't printed them."""
     if label in _FIELDS:
-        pattern, fields = _FIELDS[label]
-        match = pattern.fullmatch(text.removeprefix(blanks_after(label))) or pattern.fullmatch(text.lstrip(b" "))
+        (pattern, fields), blanks = _FIELDS[label], blanks_after(label)
+        # A name may begin with blanks too.
+        match = pattern.fullmatch(text[len(blanks) :] if text.startswith(blanks) else text.lstrip(b" "))
         if match:
             return match.expand(fields)
     return text.strip(b" ")

@@ -47,7 +47,7 @@ class TraceCmdFormat(ColumnFormat):
 
     pattern = re.compile(PLAIN, re.MULTILINE | re.VERBOSE)
     name = "trace-cmd report"
-    advice = "report it with -N, or without trace-cmd's other plugins"
+    advice = "report it with -N"
     program = "trace-cmd"
     command = ("trace-cmd", "report", "-N", "-t", "-i")
     # The command by which it prints the flags too, but cuts off names.
