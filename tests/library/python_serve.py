@@ -493,28 +493,104 @@ class Ends(unittest.TestCase):
         self.assertIn("can't be read and is left out", json.loads(running.get("about")[2])["recordings"][0]["remarks"][0])
         self.assertIn(b"can't be read and is left out", running.end()[2])
 
+    def browser(self, then=""):
+        """Return an environment with a browser, a script that writes down what it is asked to open and goes on with a command,
+        and the file that it writes."""
+        folder = tempfile.TemporaryDirectory()
+        self.addCleanup(folder.cleanup)
+        path, told = os.path.join(folder.name, "browser"), os.path.join(folder.name, "told")
+        with open(path, "w", encoding="utf-8") as file:
+            file.write(f'#!/bin/sh\necho "$@" >>{told}\n{then}\n')
+        os.chmod(path, 0o755)
+        # The files that lead to an address are made here.
+        return {**environment(), "BROWSER": path, "XDG_RUNTIME_DIR": folder.name, "HOME": folder.name}, told
+
+    def asked(self, told):
+        """Wait until a browser has been started, and return what it is asked to open."""
+        for _ in range(10 * LIMIT):
+            if os.path.exists(told) and os.path.getsize(told):
+                with open(told, encoding="utf-8") as file:
+                    return file.read()
+            time.sleep(0.1)
+        raise AssertionError("no browser was opened")
+
+    def opened(self, told):
+        """Return the file that a browser has been asked to open."""
+        content = self.asked(told)
+        found = urllib.parse.urlparse(content.strip())
+        self.assertEqual((found.scheme, found.netloc, content.count("\n")), ("file", "", 1), content)
+        return urllib.parse.unquote(found.path)
+
     def test_browser(self):
         """A browser is opened if there is a desktop, or if one is named; and --no-browser opens none."""
-        with tempfile.TemporaryDirectory() as folder:
-            browser, told = os.path.join(folder, "browser"), os.path.join(folder, "told")
-            with open(browser, "w", encoding="utf-8") as file:
-                file.write(f'#!/bin/sh\necho "$1" >>{told}\n')
-            os.chmod(browser, 0o755)
-            named = {**environment(), "BROWSER": browser}
-            running = Running(TRACE, env=named)
-            for _ in range(100):
-                if os.path.exists(told) and os.path.getsize(told):
-                    break
-                time.sleep(0.1)
-            with open(told, encoding="utf-8") as file:
-                self.assertEqual(file.read(), running.address + "\n")
+        env, told = self.browser()
+        running = Running(TRACE, env=env)
+        with open(self.opened(told), encoding="utf-8") as file:
+            page = file.read()
+        self.assertEqual(re.findall('url=([^"]*)"', page), [running.address])
+        self.assertEqual(set(re.findall("http:[^\"'<>]*", page)), {running.address})
+        running.end()
+        os.unlink(told)
+        for words, env in ((["--no-browser"], env), ([], environment())):
+            running = Running(TRACE, *words, env=env)
+            running.get("about")
             running.end()
+            self.assertFalse(os.path.exists(told))
+
+    def test_address_is_secret(self):
+        """No other user sees the address: it stands in no command line, and in a file that only this user can read. However the
+        tool ends, the file is gone."""
+        for number in (signal.SIGINT, signal.SIGTERM, signal.SIGHUP):
+            # The browser stays, and stops there.
+            env, told = self.browser("exec >/dev/null 2>&1; kill -STOP $$")
+            running = Running(TRACE, env=env)
+            asked, lines = self.asked(told), command_lines()
+            browsers = [pid for pid, line in lines.items() if line.endswith(f"\0{asked.strip()}\0".encode())]
+            self.assertEqual(len(browsers), 1)
+            self.addCleanup(os.kill, browsers[0], signal.SIGKILL)
+            self.assertEqual([line for line in lines.values() if running.token.encode() in line], [])
+            path = self.opened(told)
+            for place, mode in ((path, 0o600), (os.path.dirname(path), 0o700)):
+                self.assertEqual((os.stat(place).st_mode & 0o777, os.stat(place).st_uid), (mode, os.getuid()))
+            self.assertEqual(running.end(number), (-number, b"", b""))
+            self.assertFalse(os.path.exists(os.path.dirname(path)))
+
+    def test_folders_of_the_file(self):
+        """Without a folder for the time of the login, the file is in that for temporary files; if there are snaps, it is in the
+        home folder. If none can be written, no browser is opened, and the page is served all the same."""
+        env, told = self.browser()
+        folder = os.path.dirname(told)
+        del env["XDG_RUNTIME_DIR"]
+        for changes, wanted in (
+            ({"TMPDIR": "a"}, "a"),
+            ({"TMPDIR": "a", "XDG_RUNTIME_DIR": "none"}, "a"),
+            ({"TMPDIR": "a", "XDG_RUNTIME_DIR": "b"}, "b"),
+            ({"TMPDIR": "a", "XDG_RUNTIME_DIR": "b", "HOME": "c"}, "c"),
+        ):
+            places = {name: os.path.join(folder, place) for name, place in changes.items()}
+            for place in ("a", "b", os.path.join("c", "snap")):
+                os.makedirs(os.path.join(folder, place), exist_ok=True)
+            running = Running(TRACE, env={**env, **places})
+            self.assertEqual(os.path.dirname(os.path.dirname(self.opened(told))), os.path.join(folder, wanted))
+            running.end()
+            self.assertEqual(os.listdir(os.path.join(folder, "a")) + os.listdir(os.path.join(folder, "b")), [])
             os.unlink(told)
-            for words, env in ((["--no-browser"], named), ([], environment())):
-                running = Running(TRACE, *words, env=env)
-                running.get("about")
-                running.end()
-                self.assertFalse(os.path.exists(told))
+        limit = lambda: resource.setrlimit(resource.RLIMIT_FSIZE, (0, 0))
+        running = Running(TRACE, env={**env, "XDG_RUNTIME_DIR": os.path.join(folder, "b")}, preexec_fn=limit)
+        self.assertEqual(running.get("about")[0], 200)
+        status, out, err = running.end()
+        self.assertEqual((status, out), (-signal.SIGINT, b""))
+        self.assertRegex(err.decode(), r"\Aview: no browser is opened, since .*: File too large\n\Z")
+        self.assertEqual((os.path.exists(told), os.listdir(os.path.join(folder, "b"))), (False, []))
+
+
+def command_lines():
+    """Return the command lines of all processes, by their numbers."""
+    found = {}
+    for name in filter(str.isdigit, os.listdir("/proc")):
+        with contextlib.suppress(OSError), open(f"/proc/{name}/cmdline", "rb") as file:
+            found[int(name)] = file.read()
+    return found
 
 
 def saved_data(page):

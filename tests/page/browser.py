@@ -47,11 +47,12 @@ def missing():
 
 
 class Server:
-    """tools/view, and the address that it prints."""
+    """tools/view, and the address that it prints. It opens no browser, unless one is named."""
 
-    def __init__(self, *words):
-        command = [sys.executable, VIEW, "--no-browser", *words]
-        self.process = subprocess.Popen(command, stdout=subprocess.PIPE, stderr=subprocess.DEVNULL, text=True)
+    def __init__(self, *words, browser=None):
+        command = [sys.executable, VIEW, *words, *([] if browser else ["--no-browser"])]
+        env = {**os.environ, "BROWSER": browser or ""}
+        self.process = subprocess.Popen(command, stdout=subprocess.PIPE, stderr=subprocess.DEVNULL, text=True, env=env)
         self.address = self.process.stdout.readline().split()[0]
 
     def end(self):
