@@ -40,7 +40,8 @@ import plain_waits
 import recordings
 from python_runner import main
 
-FILTER = {"recording": 0, "event": "sched_waking", "text": "pid > 100"}
+FILTER = {"recording": 0, "event": "sched_waking", "text": "pid > 100", "strikes": []}
+WAIT = {"recording": 0, "cpu": 0, "line": 24, "strikes": []}
 # How many seconds anything may take at most.
 LIMIT = 60
 # How many events a desk holds.
@@ -256,10 +257,7 @@ class What(Asked):
         asks = {
             "filter": (FILTER, {"count": 59}),
             "trigger": ({**FILTER, "text": "hist:keys=pid"}, {"totals": {"hits": 68, "entries": 14, "dropped": 0}}),
-            "wait": (
-                {"recording": 0, "cpu": 0, "line": 24},
-                {"task": "wrk", "pid": 24653, "begin": 1404968458, "end": 1404968766},
-            ),
+            "wait": (WAIT, {"task": "wrk", "pid": 24653, "begin": 1404968458, "end": 1404968766}),
             "strike": ({"strikes": [{"event": "sched_waking", "text": "common_pid == 24659"}]}, {"struck": [6]}),
             "script": (
                 {"recording": 0, "event": "sched_waking", "filter": "pid > 1", "trigger": "hist:keys=pid", "strikes": []},
@@ -272,17 +270,34 @@ class What(Asked):
             self.assertEqual((status, headers["Content-Type"]), (200, "application/json"))
             self.assertEqual({name: answer.get(name) for name in wanted}, wanted)
         self.assertEqual(json.loads(self.running.post("strike", {"strikes": []})[2])["rows"], [])
-        window = {"recording": 0, "cpu": 0, "line": 24, "from": 1404968400, "until": 1404968800, "after": True}
-        answer = json.loads(self.running.post("wait", window)[2])
+        answer = json.loads(self.running.post("wait", {**WAIT, "from": 1404968400, "until": 1404968800})[2])
         self.assertEqual((answer["from"], answer["until"]), (1404968400, 1404968800))
+
+    def test_strikes_are_those_of_the_question(self):
+        """Whoever asks is answered without the events that the question names, whatever others have asked for. The figures are
+        those of examples/recipes.trace, as histwatch prints them for recipe 11 of docs/GUIDE.md, and counts of its lines."""
+        by_irq = [{"event": "sched_waking", "text": "common_pid == 24659"}]
+        to_task = [{"event": "sched_switch", "text": "next_pid == 24650"}]
+        hits = {"sched_waking": {0: 68, 1: 62, 2: 68}, "sched_switch": {0: 116, 1: 116, 2: 103}}
+        for _ in range(2):
+            for at, strikes in enumerate(([], by_irq, to_task)):
+                self.running.post("strike", {"strikes": strikes})
+                for other, carried in enumerate(([], by_irq, to_task)):
+                    for event, counts in hits.items():
+                        key = "next_pid" if event == "sched_switch" else "pid"
+                        asked = {"recording": 0, "event": event, "text": f"hist:keys={key}", "strikes": carried}
+                        answer = json.loads(self.running.post("trigger", asked)[2])
+                        self.assertEqual(answer["totals"]["hits"], counts[other], (at, other, event))
+                    answer = json.loads(self.running.post("filter", {**FILTER, "strikes": carried})[2])
+                    self.assertEqual((answer["count"], "new" in answer), (59, bool(carried)))
 
     def test_refused(self):
         """What the desk refuses is answered."""
         answers = [
             ("filter", {**FILTER, "text": "pid >> 1"}, "the filter can't be read: unexpected token", 5),
             ("filter", {**FILTER, "event": "none"}, "there is no such command or event", None),
-            ("wait", {"recording": 0, "cpu": 0, "line": 10**9}, None, None),
-            ("wait", {"recording": 0, "cpu": 2**40, "line": 1}, None, None),
+            ("wait", {**WAIT, "line": 10**9}, None, None),
+            ("wait", {**WAIT, "cpu": 2**40}, None, None),
         ]
         for path, asked, words, at in answers:
             status, _, body = self.running.post(path, asked)
@@ -316,18 +331,26 @@ class What(Asked):
             self.assertEqual(self.running.error("POST", f"/{self.running.token}/filter", *[body]), (400, words), body)
         lone = json.dumps({**FILTER, "text": "\ud800"}).encode()
         self.assertEqual(self.running.error("POST", f"/{self.running.token}/filter", lone)[0], 400)
-        for strikes in (
-            [1],
-            [{}],
-            [{"event": "sched_waking"}],
-            [{"event": 1, "text": ""}],
-            [{"event": "a", "text": "", "x": ""}],
-        ):
-            told = self.running.error("POST", f"/{self.running.token}/strike", {"strikes": strikes})
-            self.assertEqual(told, (400, "a strike is an event and a text"))
-        told = self.running.error("POST", f"/{self.running.token}/strike", {"strikes": [{"event": "other", "text": ""}]})
-        self.assertEqual(told[0], 400)
-        window = {"recording": 0, "cpu": 0, "line": 24, "from": 5, "until": 5}
+        questions = {
+            "strike": {},
+            "filter": FILTER,
+            "trigger": {**FILTER, "text": "hist:keys=pid"},
+            "wait": WAIT,
+            "script": {"recording": 0, "event": "sched_waking", "filter": "", "trigger": ""},
+        }
+        for name, asked in questions.items():
+            ask = lambda strikes: self.running.error("POST", f"/{self.running.token}/{name}", {**asked, "strikes": strikes})
+            for strikes in (
+                [1],
+                [{}],
+                [{"event": "sched_waking"}],
+                [{"event": 1, "text": ""}],
+                [{"event": "a", "text": "", "x": ""}],
+            ):
+                self.assertEqual(ask(strikes), (400, "a strike is an event and a text"))
+            self.assertEqual(ask([{"event": "other", "text": ""}])[0], 400)
+            self.assertEqual(ask(None), (400, "strikes is missing, or of another type"))
+        window = {**WAIT, "from": 5, "until": 5}
         self.assertEqual(self.running.error("POST", f"/{self.running.token}/wait", window), (400, "until must be after from"))
         for query in ("", "?", "?recording=x", "?recording", "?recording=0&more=1", "?recording=7", "?recording=" + "1" * 5000):
             self.assertEqual(self.running.get(f"waits.bin{query}")[0], 400, query)
@@ -374,7 +397,7 @@ class What(Asked):
 
     def test_closed(self):
         """Whoever has gone before the answer came disturbs nobody."""
-        body = json.dumps({"recording": 0, "event": "sched_waking", "text": "pid > 5"}).encode()
+        body = json.dumps({**FILTER, "text": "pid > 5"}).encode()
         head = f"POST /{self.running.token}/filter HTTP/1.1\r\nHost: {self.running.host}\r\nContent-Length: {len(body)}\r\n\r\n"
         for content in (head.encode() + body, head.encode() + body[:-3], head.encode()[:30], b"GET / HTTP/1.1\r\n"):
             for _ in range(20):
@@ -637,7 +660,7 @@ class Saved(unittest.TestCase):
             self.assertEqual(len(scenes), data["about"]["recordings"][at]["waits"])
             for place in list(scenes)[:5]:
                 cpu, line = map(int, place.split(":"))
-                asked = {"recording": at, "cpu": cpu, "line": line}
+                asked = {"recording": at, "cpu": cpu, "line": line, "strikes": []}
                 self.assertEqual(scenes[place], json.loads(running.post("wait", asked)[2]))
         self.assertEqual((data["packed"], sorted(data["script"])), (True, ["command", "of", "script"]))
         running.end()
@@ -732,7 +755,8 @@ class Long(unittest.TestCase):
             f"{len({wait.end for wait in self.waits} - {wait.end for wait in self.left})} waits are gone", answer["report"][1]
         )
         last = self.waits[-1]
-        told = json.loads(running.post("wait", {"recording": 0, "cpu": last.end.cpu, "line": last.end.line})[2])
+        asked = {"recording": 0, "cpu": last.end.cpu, "line": last.end.line, "strikes": []}
+        told = json.loads(running.post("wait", asked)[2])
         self.assertEqual((told["begin"], told["end"], told["pid"]), (last.begin.stamp, last.end.stamp, last.pid))
         self.assertEqual(running.end(), (-signal.SIGINT, b"", b""))
 

@@ -28,11 +28,11 @@ SIZES = ((1280, 720), (3840, 2160))
 PATIENCE = 30
 # What scripts of these tests use of the page's modules. A saved page knows its modules by their names, without a path.
 MODULES = """
-const names = ["canvas", "keys", "lanes", "state", "strike", "time", "worst"];
+const names = ["canvas", "keys", "lanes", "state", "strike", "time", "timeline", "worst"];
 const path = document.getElementById("saved") ? "" : "./";
 const modules = await Promise.all(names.map((name) => import(`${path}${name}.js`)));
 const page = Object.assign({}, ...modules);
-const { choose, colour, forgetStyles, KEYS, lanes, openTab, overTime, rem, side, state, strikes, worst } = page;
+const { choose, colour, forgetStyles, KEYS, lanes, openTab, overTime, rem, side, state, strikes, timeline, worst } = page;
 """
 
 
@@ -116,11 +116,12 @@ class Page(unittest.TestCase):
 
     def open(self, address):
         self.driver.get(address)
-        self.until(
-            lambda: self.js(
-                "return document.body.classList.contains('ready') && document.getElementById('figures').tBodies[0].rows.length"
-            )
-        )
+        self.until_ready()
+
+    def until_ready(self):
+        """Wait until the page shows figures."""
+        script = "return document.body.classList.contains('ready') && document.getElementById('figures').tBodies[0].rows.length"
+        self.until(lambda: self.js(script))
 
     def resize(self, width, height):
         words = {"width": width, "height": height, "deviceScaleFactor": 1, "mobile": False}

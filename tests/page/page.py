@@ -16,7 +16,7 @@ import sys
 import tempfile
 import unittest
 
-from browser import OTHER, PAGES, TRACE, VIEW, Page, Server, bounds, figures_of, quietly, shown
+from browser import OTHER, PAGES, SIZES, TRACE, VIEW, Page, Server, bounds, figures_of, quietly, shown
 
 import histdesk
 import python_runner
@@ -268,8 +268,8 @@ class Triggers(Page):
                 self.assertEqual({pid: [int(count), int(micros)] for pid, count, micros in told}, shown, (event, text, struck))
 
 
-class Strikes(Page):
-    """Waits without some wakings."""
+class Striking(Page):
+    """What tests of strikes do, and know."""
 
     def tick(self, text):
         self.js('document.querySelector(`[data-strike="${CSS.escape(arguments[0])}"]`).click()', text)
@@ -288,6 +288,10 @@ class Strikes(Page):
             ]
             wanted[key] = [pair(*both) for both in zip(*sides)]
         self.until_equal(wanted, lambda: {row[0]: row[1:] for row in self.rows("#rows")})
+
+
+class Strikes(Striking):
+    """Waits without some wakings."""
 
     def test_a_tick_strikes_and_undo_takes_it_back(self):
         pid = int(self.waits.array.pid[self.waits.names == "nginx"][0])
@@ -640,6 +644,112 @@ class Saved(Page):
             self.driver.get_log("browser")
             self.open(self.server.address)
             self.assertEqual([line["message"] for line in self.driver.get_log("browser")], [])
+
+
+class OneServer(Striking):
+    """Pages that ask one server, each with strikes of its own."""
+
+    # examples/recipes.trace has 116 switches, of which 13 run task 24650, and 7 wakings by task 12304. Without these, two waits
+    # of task 24659 have 467 us instead of 3 and 4.
+    SWITCHES, STRUCK = 116, {"sched_switch if next_pid == 24650": 13, "sched_waking if common_pid == 12304": 7}
+    SWITCH, WAKING = STRUCK
+
+    def strike(self, text):
+        """Strike events by a filter that is typed."""
+        event, condition = text.split(" if ")
+        self.choose("#strike-event", event)
+        self.typed("#strike-text", condition)
+        self.find("#strike-any button").click()
+        self.assert_struck(text)
+
+    def assert_all_agree(self):
+        """Test that figures, the trigger's table and the script are those of the strikes that are ticked, and return these."""
+        struck = self.js("return state.strikes.map((one) => strikes.key(one))")
+        ticked = "return [...document.querySelectorAll('#ticks :checked')].map((one) => one.dataset.strike)"
+        self.assertEqual(sorted(self.js(ticked)), sorted(struck))
+        if struck:
+            self.assert_struck(*struck)
+        else:
+            self.until_equal([figures_of(self.waits)], self.figures)
+        self.click("#tab-table")
+        hits = self.SWITCHES - sum(self.STRUCK[text] for text in struck if text == self.SWITCH)
+        self.until(lambda: f" rows of {hits} hits, " in self.text("#table-summary"))
+        self.click("#tab-script")
+        events = sum(self.STRUCK[text] for text in struck)
+        self.until_equal(
+            events, lambda: self.text("#script-text").startswith("load") and self.text("#script-text").count("\nstrike ")
+        )
+        self.click("#tab-strike")
+        return struck
+
+    def test_a_page_that_is_loaded_again(self):
+        self.strike(self.SWITCH)
+        self.assertEqual(self.assert_all_agree(), [self.SWITCH])
+        self.driver.refresh()
+        self.until_ready()
+        self.assertEqual(self.assert_all_agree(), [])
+
+    def test_back_and_forward(self):
+        self.strike(self.SWITCH)
+        self.driver.get("about:blank")
+        for move in (self.driver.back, self.driver.forward, self.driver.back):
+            move()
+            if self.driver.current_url == self.server.address:
+                self.until_ready()
+                # A browser may have kept the page as it was.
+                self.assert_all_agree()
+
+    def in_another_tab(self):
+        """Open the page in another tab, which is closed at the end."""
+        first = self.driver.current_window_handle
+        self.driver.switch_to.new_window("tab")
+        second = self.driver.current_window_handle
+
+        def close():
+            self.driver.switch_to.window(second)
+            self.driver.close()
+            self.driver.switch_to.window(first)
+
+        self.addCleanup(close)
+        self.resize(*SIZES[0])
+        self.open(self.server.address)
+        return first, second
+
+    def test_two_tabs(self):
+        self.strike(self.WAKING)
+        first, second = self.in_another_tab()
+        self.assertEqual(self.assert_all_agree(), [])
+        self.strike(self.SWITCH)
+        self.assertEqual(self.assert_all_agree(), [self.SWITCH])
+        self.driver.switch_to.window(first)
+        self.assertEqual(self.assert_all_agree(), [self.WAKING])
+        # A filter chooses among the waits that are new here, and they are explained as they are here.
+        self.press("v")
+        self.typed("#filter", "next_pid > 0")
+        after = quietly(histdesk.diff, TRACE, without=self.WAKING).after
+        self.until(lambda: self.js("return state.filter"))
+        self.until_equal(figures_of(after), lambda: self.figures()[1])
+        fresh = "[...worst.numbers.keys()].filter((row) => worst.numbers[row] >= side().parts[0].count)"
+        rows = self.js(f"return {fresh}")
+        self.assertEqual(len(rows), 2)
+        for row in rows:
+            self.js("worst.choose(arguments[0], true)", row)
+            self.until(lambda: " waited 467 us" in self.text("#wait-text"))
+            self.until(lambda: "without the struck events" in self.text("#wait-note"))
+        self.driver.switch_to.window(second)
+        self.assertEqual(self.assert_all_agree(), [self.SWITCH])
+
+    def test_a_browser_is_led_to_the_page_by_a_file(self):
+        with tempfile.TemporaryDirectory() as folder:
+            browser, told = os.path.join(folder, "browser"), pathlib.Path(folder, "told")
+            pathlib.Path(browser).write_text(f'#!/bin/sh\necho "$1" >{told}.part && mv {told}.part {told}\n', encoding="utf-8")
+            os.chmod(browser, 0o755)
+            server = Server(*self.words, browser=browser)
+            self.addCleanup(server.end)
+            self.until(told.exists)
+            self.driver.get(told.read_text(encoding="utf-8").strip())
+            self.until_equal(server.address, lambda: self.driver.current_url)
+            self.until_ready()
 
 
 class Ends(Page):

@@ -125,6 +125,7 @@ export const lanes = {
     const { wait, cut, thin, cpus } = this.scene;
     const { about } = state.recordings[wait.recording];
     const notes = [];
+    if (wait.strikes.length) notes.push("This is the wait without the struck events.");
     if (cpus.length < about.cpus.length) notes.push("The wait is so long that only its own CPUs are shown.");
     if (cut) notes.push("Only the time around the wait is shown: there are too many events.");
     if (thin) notes.push(`Grey stands for many short runs${SAVED ? "" : ": zoom in to see them"}.`);

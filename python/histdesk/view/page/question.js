@@ -38,8 +38,9 @@ const applyFilter = latest(async () => {
   const event = byId("event").value;
   const typed = byId("filter").value;
   const text = typed.trim();
-  const { recordings, fresh } = state;
-  const filter = (_, recording) => ask("filter", { recording, event, text: typed });
+  const { recordings, struck, fresh } = state;
+  // Events are struck from the first recording.
+  const filter = (_, recording) => ask("filter", { recording, event, text: typed, strikes: recording ? [] : struck });
   const answers = text ? await Promise.all(recordings.map(filter)) : [];
   const wrong = answers.find((answer) => answer.refused);
   explainBox("filter", wrong);
@@ -70,7 +71,7 @@ const askTrigger = latest(async () => {
 });
 
 async function showScript(recording, event, trigger) {
-  const { filter, strikes } = state;
+  const { filter, struck: strikes } = state;
   const answer = SAVED
     ? SAVED.script || SAVED.about
     : await ask("script", { recording, event, filter, trigger, strikes });
@@ -81,7 +82,7 @@ async function showScript(recording, event, trigger) {
 
 async function showTable(recording, event, trigger) {
   const text = state.filter ? `${trigger} if ${state.filter}` : trigger;
-  const answer = await ask("trigger", { recording, event, text });
+  const answer = await ask("trigger", { recording, event, text, strikes: state.struck });
   const { refused, columns, rows, totals, more, of } = answer;
   byId("trigger").dataset.refused = refused ? trigger : "";
   if (refused) return explainBox("trigger", answer);

@@ -41,8 +41,8 @@ export const columnsOf = (recording) =>
   SAVED ? unzip(SAVED.waits[recording]) : ask(`waits.bin?recording=${recording}`);
 
 // What ran during a wait and around it; or between the stamps of a window.
-export async function sceneOf({ recording, cpu, line, after }, window) {
-  if (!SAVED) return ask("wait", { recording, cpu, line, ...window, ...(after && { after }) });
+export async function sceneOf({ recording, cpu, line, strikes }, window) {
+  if (!SAVED) return ask("wait", { recording, cpu, line, ...window, strikes });
   scenes[recording] ??= JSON.parse(new TextDecoder().decode(await unzip(SAVED.scenes[recording])));
   const refused = `This file has what ran during its longest waits only. For any other wait, run ${SAVED.about.command}`;
   return scenes[recording][`${cpu}:${line}`] || { refused };

@@ -1,4 +1,4 @@
-// What the waits would be without some events: what can be ticked, what is struck, and which rows that changes.
+// The waits without some events: what can be ticked, what is struck, and which rows that changes.
 
 import { all, byId, element, explainBox, report, sentenceOf, speak } from "./elements.js";
 import { number, plural } from "./numbers.js";
@@ -42,7 +42,7 @@ export const strikes = {
     const answer = await ask("strike", { strikes: list });
     if (answer.refused) return this.refuse(list, answer);
     this.counts = answer.struck;
-    await applyStrikes(answer);
+    await applyStrikes(list, answer);
     this.showRows(list.length ? answer.rows : this.differences);
     return speak(this.summary());
   },
