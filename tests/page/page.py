@@ -752,13 +752,257 @@ class OneServer(Striking):
             self.until_ready()
 
 
-class Ends(Page):
-    """What the page shows if the server ends, or if something goes wrong."""
+# What a test lets go wrong between page and server: `wrong` has, by the first part of a path, how requests fail: "gone" if no
+# server answers, a number for that HTTP status, and "held" if the answer waits until `release` is called.
+WRONG = """window.wrong = {};
+    const server = window.fetch, held = [];
+    window.release = () => { window.wrong = {}; held.splice(0).forEach((go) => go()); };
+    window.asked = [];
+    window.fetch = async (path, ...words) => {
+        const name = path.split("?")[0], how = window.wrong[name];
+        window.asked.push(name);
+        if (how === "gone") throw new TypeError("Failed to fetch");
+        if (how === "held") await new Promise((go) => held.push(go));
+        if (how > 0) return new Response('{"error": "MemoryError: no room"}', { status: how });
+        return server(path, ...words);
+    };"""
+GONE = "could not be read: the server does not answer; if it has ended, start it again"
+ROOMLESS = "could not be read: MemoryError: no room"
+
+
+class Wrong(Page):
+    """What the page shows while an answer is awaited, if it fails, and after later ones."""
+
+    words = (OTHER, TRACE)
+
+    def setUp(self):
+        added = self.driver.execute_cdp_cmd("Page.addScriptToEvaluateOnNewDocument", {"source": WRONG})
+        self.addCleanup(self.driver.execute_cdp_cmd, "Page.removeScriptToEvaluateOnNewDocument", added)
+        super().setUp()
+        self.until(lambda: self.rows("#rows"))
+
+    def let(self, **wrong):
+        """Let requests go wrong, by their paths; all others succeed."""
+        self.js("release(); Object.assign(window.wrong, arguments[0])", wrong)
+
+    def line(self, panel):
+        """Return the line in a panel about what it waits for, or what could not be read; None if there is none."""
+        return self.js("return document.querySelector(`#${arguments[0]} > .progress`)?.firstChild.textContent.trim()", panel)
+
+    def assert_answered(self, *panels):
+        """Test that no panel waits, and that nothing is said to be wrong."""
+        busy = "return arguments[0].map((id) => document.getElementById(id).ariaBusy ?? 'false')"
+        self.until_equal(["false"] * len(panels), lambda: self.js(busy, panels))
+        self.assertEqual([self.line(panel) for panel in panels], [None] * len(panels))
+        self.assertEqual(self.text("#status"), "")
+
+    def filtered(self):
+        """Return the figures of waits of tasks with PIDs above 21605, as the page shows them."""
+        sides = (quietly(histdesk.waits, path) for path in self.words)
+        return [figures_of(side[side.array.pid > 21605]) for side in sides]
+
+    def test_panels_say_that_they_wait(self):
+        typed = """const box = document.getElementById("filter");
+            box.value = "next_pid > 21605";
+            box.dispatchEvent(new Event("input"));"""
+        tick = "document.querySelector('#ticks input').click();"
+        for path, panel, act, what in (
+            ("filter", "histogram", typed, "the waits that pass the filter"),
+            ("filter", "worst", typed, "the waits that pass the filter"),
+            ("strike", "strike", tick, "the waits without these events"),
+            ("strike", "histogram", tick, "the waits without these events"),
+            ("trigger", "table", "openTab('table');", "the trigger's table"),
+            ("script", "script", "openTab('script');", "the script"),
+            ("overview", "timeline", "openTab('timeline'); timeline.draw();", "what each CPU ran"),
+            ("wait", "wait", "worst.choose(0, true);", "what ran during this wait"),
+        ):
+            script = f"""const [id, path] = arguments, panel = document.getElementById(id);
+                const look = () => [panel.ariaBusy, panel.querySelector(":scope > .progress")?.textContent ?? null];
+                window.wrong[path] = "held";
+                {act}
+                const seen = [look()];
+                for (const pause of [150, 500]) {{
+                    await new Promise((resume) => setTimeout(resume, pause));
+                    seen.push(look());
+                }}
+                return seen;"""
+            with self.subTest(path=path, panel=panel):
+                seen = self.js(script, panel, path)
+                self.assertEqual(seen, [["true", None], ["true", None], ["true", f"reading {what} …"]])
+                self.js("release()")
+                self.assert_answered("histogram", "worst", "time", "strike", panel)
+                self.open(self.server.address)
+
+    def test_recordings_are_asked_for_again(self):
+        for wrong in ("held", 500):
+            script = f"window.wrong['waits.bin'] = {wrong!r};"
+            added = self.driver.execute_cdp_cmd("Page.addScriptToEvaluateOnNewDocument", {"source": script})
+            self.driver.get(self.server.address)
+            self.driver.execute_cdp_cmd("Page.removeScriptToEvaluateOnNewDocument", added)
+            wanted = "reading the recordings …" if wrong == "held" else f"The recordings {ROOMLESS}"
+            self.until_equal(wanted, lambda: self.line("main"))
+            self.assertEqual(self.find("#main").get_attribute("aria-busy"), "true" if wrong == "held" else "false")
+            self.js("release()")
+            if wrong != "held":
+                self.click("#main > .progress button")
+            self.until_ready()
+            self.assert_answered("main")
+
+    def test_all_cpus_are_asked_for_again(self):
+        from selenium.webdriver.common.keys import Keys
+
+        shares = "return timeline.overview?.shares().busy"
+        for wrong, why in (("gone", GONE), (500, ROOMLESS)):
+            self.let(overview=wrong)
+            self.click("#tab-timeline")
+            self.until_equal(f"What each CPU ran {why}", lambda: self.line("timeline"))
+            self.assertEqual(self.find("#timeline").get_attribute("aria-busy"), "false")
+            self.assertEqual(self.text("#view-title"), "")
+            self.assertEqual(self.text("#status"), f"What each CPU ran {why}")
+            self.assertIsNone(self.js(shares))
+            self.let()
+            # Whoever looks at it again sees it.
+            self.click("#tab-time")
+            self.click("#tab-timeline")
+            self.until(lambda: self.js(shares))
+            self.assert_answered("timeline")
+            self.assertIn("% busy", self.text("#view-title"))
+            self.open(self.server.address)
+        # And so does whoever presses the button.
+        self.let(overview=500)
+        self.click("#tab-timeline")
+        self.until_equal(f"What each CPU ran {ROOMLESS}", lambda: self.line("timeline"))
+        self.let()
+        self.js("document.querySelector('#timeline > .progress button').focus()")
+        self.press(Keys.ENTER)
+        self.until(lambda: self.js(shares))
+        self.assert_answered("timeline")
+        self.assertEqual(self.js("return document.activeElement.id"), "timeline-lanes")
+
+    def test_what_failed_does_not_stay_after_later_answers(self):
+        self.let(overview="gone", filter="gone")
+        self.click("#tab-timeline")
+        self.typed("#filter", "next_pid > 21605")
+        self.until_equal(f"The waits that pass the filter {GONE}", lambda: self.line("histogram"))
+        self.until_equal(f"What each CPU ran {GONE}", lambda: self.line("timeline"))
+        self.let()
+        # Another question is answered, so the server is there, and all is asked again.
+        self.click("#tab-table")
+        self.until(lambda: self.rows("#table-rows"))
+        self.until_equal(self.filtered(), self.figures)
+        self.until(lambda: "% busy" in self.text("#view-title"))
+        self.assert_answered("histogram", "timeline", "table")
+
+    def test_a_filter_that_is_not_applied_says_so(self):
+        from selenium.webdriver.common.keys import Keys
+
+        before, count = self.figures(), self.text("#count")
+        for wrong, why in (("gone", GONE), (500, ROOMLESS)):
+            self.let(filter=wrong)
+            self.typed("#filter", "next_pid > 21605")
+            self.until_equal(f"The waits that pass the filter {why}", lambda: self.line("histogram"))
+            self.assertEqual(self.find("#filter").get_attribute("aria-invalid"), "true")
+            self.assertEqual(self.text("#filter-message"), f"not applied: {why.partition(': ')[2]}")
+            # What is shown is what was answered, and the table and the script are of that.
+            self.assertEqual((self.figures(), self.text("#count"), self.js("return state.filter")), (before, count, ""))
+            self.assertIn("stale", self.find("#count").get_attribute("class"))
+            self.let()
+            self.find("#filter").send_keys(Keys.ENTER)
+            self.until_equal(self.filtered(), self.figures)
+            self.assertEqual((self.text("#filter-message"), self.find("#filter").get_attribute("aria-invalid")), ("", "false"))
+            self.assertNotIn("stale", self.find("#count").get_attribute("class"))
+            self.assert_answered("histogram", "worst")
+            self.typed("#filter", " ")
+            self.until_equal(before, self.figures)
+
+    def test_strikes_that_failed_are_not_ticked(self):
+        before, rows, ticks = self.figures(), self.rows("#rows"), "return document.querySelectorAll('#ticks :checked').length"
+        for wrong, why in (("gone", GONE), (500, ROOMLESS)):
+            for path in ("strike", "filter"):
+                # With a filter, the new waits have to pass it, too.
+                self.typed("#filter", "next_pid > 0")
+                self.until(lambda: self.js("return state.filter"))
+                shown = self.figures()
+                self.let(**{path: wrong})
+                self.js("document.querySelector('#ticks input').click()")
+                self.until_equal(f"The waits without these events {why}", lambda: self.text("#status"))
+                self.assertEqual(
+                    (self.js(ticks), self.js("return [state.strikes.length, strikes.history.length]")), (0, [0, 0])
+                )
+                self.assertEqual((self.figures(), self.rows("#rows")), (shown, rows))
+                self.assertFalse(self.find("#undo").is_enabled())
+                self.let()
+                self.js("document.querySelector('#ticks input').click()")
+                self.until(lambda: "struck, " in self.text("#side-summary"))
+                self.assert_answered("strike", "histogram", "worst")
+                # One that can't be taken back stays.
+                struck = self.text("#side-summary")
+                self.let(strike=wrong)
+                self.click("#undo")
+                self.until_equal(f"The waits without these events {why}", lambda: self.text("#status"))
+                self.assertEqual((self.js(ticks), self.text("#side-summary")), (1, struck))
+                self.let()
+                self.click("#undo")
+                self.until_equal(rows, lambda: self.rows("#rows"))
+                self.typed("#filter", " ")
+                self.until_equal(before, self.figures)
+                self.assert_answered("strike", "histogram", "worst")
+
+    def test_the_table_and_the_script_are_asked_for_again(self):
+        for tab, what, path, content in (
+            ("table", "The trigger's table", "trigger", lambda: self.rows("#table-rows")),
+            ("script", "The script", "script", lambda: self.text("#script-text")),
+        ):
+            for wrong, why in (("gone", GONE), (500, ROOMLESS)):
+                self.let(**{path: wrong})
+                self.click(f"#tab-{tab}")
+                self.until_equal(f"{what} {why}", lambda: self.line(tab))
+                self.assertFalse(content())
+                if tab == "table":
+                    self.assertEqual(self.text("#trigger-message"), f"not applied: {why.partition(': ')[2]}")
+                self.let()
+                self.click("#tab-strike")
+                self.click(f"#tab-{tab}")
+                self.until(content)
+                self.assert_answered(tab)
+                self.open(self.server.address)
+
+    def test_a_wait_is_asked_for_again(self):
+        self.click("#worst-1")
+        self.until(lambda: self.js("return lanes.scene !== null"))
+        for wrong, why in (("gone", GONE), (500, ROOMLESS)):
+            self.let(wait=wrong)
+            self.click("#worst-0")
+            self.until_equal(f"What ran during this wait {why}", lambda: self.line("wait"))
+            # What was shown is about another wait.
+            self.assertFalse(self.find("#wait-text").is_displayed())
+            self.assertEqual(self.text("#view-title"), "")
+            self.let()
+            self.click("#tab-time")
+            self.click("#tab-wait")
+            micros = int(self.waits.array.micros.max())
+            self.until(lambda: f"waited {micros:,} µs" in self.text("#view-title"))
+            self.assert_answered("wait")
+
+    def test_what_differs_is_asked_for_again(self):
+        rows = self.rows("#rows")
+        failing = "window.wrong.differences = 500;"
+        added = self.driver.execute_cdp_cmd("Page.addScriptToEvaluateOnNewDocument", {"source": failing})
+        self.open(self.server.address)
+        self.driver.execute_cdp_cmd("Page.removeScriptToEvaluateOnNewDocument", added)
+        self.until_equal(f"What differs {ROOMLESS}", lambda: self.line("strike"))
+        self.assertFalse(self.find("#rows").is_displayed())
+        self.let()
+        self.js("document.querySelector('#ticks input').click()")
+        self.until(lambda: "struck, " in self.text("#side-summary"))
+        self.click("#undo")
+        self.until_equal(rows, lambda: self.rows("#rows"))
+        self.assert_answered("strike")
 
     def test_an_ended_server_is_told(self):
         self.server.end()
         self.typed("#filter", "next_pid > 0")
-        self.until(lambda: "The server has ended" in self.text("#status"))
+        self.until_equal(f"The waits that pass the filter {GONE}", lambda: self.text("#status"))
         type(self).server = Server(*self.words)
 
 

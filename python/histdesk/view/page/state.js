@@ -138,7 +138,6 @@ export async function applyStrikes(strikes, { changed }) {
   if (fresh) for (const index of new Uint32Array(decodeBase64(changed.taken).buffer)) waits.strikes[index] = 1;
   Object.assign(state, { struck: strikes, fresh });
   arrange();
-  if (state.filter !== text || state.event !== event) announce("filter");
 }
 
 // ---- what is chosen
