@@ -1,4 +1,4 @@
-"""view TRACE [TRACE]: a page to look at waits, and to ask what they would be without some events."""
+"""view TRACE [TRACE]: a page to look at waits, also with some events not counted."""
 
 from __future__ import annotations
 
@@ -22,9 +22,10 @@ if TYPE_CHECKING:
 
 DESCRIPTION = """A page in a browser that shows how long tasks waited for a processor: a histogram, which follows
 a filter as it is typed, the longest waits, what ran on all CPUs during one of them and during the
-whole recording, and the waits without some events. Two recordings are drawn one over the other,
-and the page says which waits differ. TRACE is the text of the kernel's trace file, compressed by
-gzip or not, or a recording of perf or trace-cmd; - is standard input.
+whole recording, and the waits that are left if some events are not counted. All else stays as it
+was recorded then: no task runs sooner. Two recordings are drawn one over the other, and the page
+says which waits differ. TRACE is the text of the kernel's trace file, compressed by gzip or not, or
+a recording of perf or trace-cmd; - is standard input.
 
 It prints the page's address, opens a browser if there is a desktop, and answers until Ctrl-C. It
 listens only on this machine (127.0.0.1), and answers only requests for the complete address, which
