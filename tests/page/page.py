@@ -806,32 +806,30 @@ class Wrong(Page):
             box.value = "next_pid > 21605";
             box.dispatchEvent(new Event("input"));"""
         tick = "document.querySelector('#ticks input').click();"
-        for path, panel, act, what in (
-            ("filter", "histogram", typed, "the waits that pass the filter"),
-            ("filter", "worst", typed, "the waits that pass the filter"),
-            ("strike", "strike", tick, "the waits without these events"),
-            ("strike", "histogram", tick, "the waits without these events"),
-            ("trigger", "table", "openTab('table');", "the trigger's table"),
-            ("script", "script", "openTab('script');", "the script"),
-            ("overview", "timeline", "openTab('timeline'); timeline.draw();", "what each CPU ran"),
-            ("wait", "wait", "worst.choose(0, true);", "what ran during this wait"),
+        for path, panels, act, what in (
+            ("filter", ["histogram", "worst", "time"], typed, "the waits that pass the filter"),
+            ("strike", ["strike", "histogram", "worst", "time"], tick, "the waits without these events"),
+            ("trigger", ["table"], "openTab('table');", "the trigger's table"),
+            ("script", ["script"], "openTab('script');", "the script"),
+            ("overview", ["timeline"], "openTab('timeline'); timeline.draw();", "what each CPU ran"),
+            ("wait", ["wait"], "worst.choose(0, true);", "what ran during this wait"),
         ):
-            script = f"""const [id, path] = arguments, panel = document.getElementById(id);
-                const look = () => [panel.ariaBusy, panel.querySelector(":scope > .progress")?.textContent ?? null];
+            script = f"""const [ids, path] = arguments, panels = ids.map((id) => document.getElementById(id));
+                const stateOf = (panel) => [panel.ariaBusy, panel.querySelector(":scope > .progress")?.textContent ?? null];
                 window.wrong[path] = "held";
                 {act}
-                const seen = [look()];
+                const seen = [panels.map(stateOf)];
                 for (const pause of [150, 500]) {{
                     await new Promise((resume) => setTimeout(resume, pause));
-                    seen.push(look());
+                    seen.push(panels.map(stateOf));
                 }}
                 return seen;"""
-            with self.subTest(path=path, panel=panel):
-                seen = self.js(script, panel, path)
-                self.assertEqual(seen, [["true", None], ["true", None], ["true", f"reading {what} …"]])
+            with self.subTest(path=path):
+                seen = self.js(script, panels, path)
+                states = ["true", None], ["true", None], ["true", f"reading {what} …"]
+                self.assertEqual(seen, [[state] * len(panels) for state in states])
                 self.js("release()")
-                self.assert_answered("histogram", "worst", "time", "strike", panel)
-                self.open(self.server.address)
+                self.assert_answered(*panels)
 
     def test_recordings_are_asked_for_again(self):
         for wrong in ("held", 500):
@@ -852,9 +850,10 @@ class Wrong(Page):
         from selenium.webdriver.common.keys import Keys
 
         shares = "return timeline.overview?.shares().busy"
-        for wrong, why in (("gone", GONE), (500, ROOMLESS)):
+        open_tab, other_recording = lambda: self.click("#tab-timeline"), lambda: self.press("v")
+        for wrong, why, act in (("gone", GONE, open_tab), (500, ROOMLESS, other_recording)):
             self.let(overview=wrong)
-            self.click("#tab-timeline")
+            act()
             self.until_equal(f"What each CPU ran {why}", lambda: self.line("timeline"))
             self.assertEqual(self.find("#timeline").get_attribute("aria-busy"), "false")
             self.assertEqual(self.text("#view-title"), "")
@@ -867,10 +866,9 @@ class Wrong(Page):
             self.until(lambda: self.js(shares))
             self.assert_answered("timeline")
             self.assertIn("% busy", self.text("#view-title"))
-            self.open(self.server.address)
         # And so does whoever presses the button.
         self.let(overview=500)
-        self.click("#tab-timeline")
+        self.click("[data-zoom='0.5']")
         self.until_equal(f"What each CPU ran {ROOMLESS}", lambda: self.line("timeline"))
         self.let()
         self.js("document.querySelector('#timeline > .progress button').focus()")
@@ -917,36 +915,32 @@ class Wrong(Page):
 
     def test_strikes_that_failed_are_not_ticked(self):
         before, rows, ticks = self.figures(), self.rows("#rows"), "return document.querySelectorAll('#ticks :checked').length"
-        for wrong, why in (("gone", GONE), (500, ROOMLESS)):
-            for path in ("strike", "filter"):
-                # With a filter, the new waits have to pass it, too.
-                self.typed("#filter", "next_pid > 0")
-                self.until(lambda: self.js("return state.filter"))
-                shown = self.figures()
-                self.let(**{path: wrong})
-                self.js("document.querySelector('#ticks input').click()")
-                self.until_equal(f"The waits without these events {why}", lambda: self.text("#status"))
-                self.assertEqual(
-                    (self.js(ticks), self.js("return [state.strikes.length, strikes.history.length]")), (0, [0, 0])
-                )
-                self.assertEqual((self.figures(), self.rows("#rows")), (shown, rows))
-                self.assertFalse(self.find("#undo").is_enabled())
-                self.let()
-                self.js("document.querySelector('#ticks input').click()")
-                self.until(lambda: "struck, " in self.text("#side-summary"))
-                self.assert_answered("strike", "histogram", "worst")
-                # One that can't be taken back stays.
-                struck = self.text("#side-summary")
-                self.let(strike=wrong)
-                self.click("#undo")
-                self.until_equal(f"The waits without these events {why}", lambda: self.text("#status"))
-                self.assertEqual((self.js(ticks), self.text("#side-summary")), (1, struck))
-                self.let()
-                self.click("#undo")
-                self.until_equal(rows, lambda: self.rows("#rows"))
-                self.typed("#filter", " ")
-                self.until_equal(before, self.figures)
-                self.assert_answered("strike", "histogram", "worst")
+        # With a filter, the new waits have to pass it, too.
+        for path, wrong, why in (("strike", "gone", GONE), ("filter", 500, ROOMLESS)):
+            self.typed("#filter", "next_pid > 21605")
+            self.until_equal(self.filtered(), self.figures)
+            self.let(**{path: wrong})
+            self.js("document.querySelector('#ticks input').click()")
+            self.until_equal(f"The waits without these events {why}", lambda: self.text("#status"))
+            self.assertEqual((self.js(ticks), self.js("return [state.strikes.length, strikes.history.length]")), (0, [0, 0]))
+            self.assertEqual((self.figures(), self.rows("#rows")), (self.filtered(), rows))
+            self.assertFalse(self.find("#undo").is_enabled())
+            self.let()
+            self.js("document.querySelector('#ticks input').click()")
+            self.until(lambda: "struck, " in self.text("#side-summary"))
+            self.assert_answered("strike", "histogram", "worst")
+            # One that can't be taken back stays.
+            struck = self.text("#side-summary")
+            self.let(strike=wrong)
+            self.click("#undo")
+            self.until_equal(f"The waits without these events {why}", lambda: self.text("#status"))
+            self.assertEqual((self.js(ticks), self.text("#side-summary")), (1, struck))
+            self.let()
+            self.click("#undo")
+            self.until_equal(rows, lambda: self.rows("#rows"))
+            self.typed("#filter", " ")
+            self.until_equal(before, self.figures)
+            self.assert_answered("strike", "histogram", "worst")
 
     def test_the_table_and_the_script_are_asked_for_again(self):
         for tab, what, path, content in (
@@ -965,7 +959,6 @@ class Wrong(Page):
                 self.click(f"#tab-{tab}")
                 self.until(content)
                 self.assert_answered(tab)
-                self.open(self.server.address)
 
     def test_a_wait_is_asked_for_again(self):
         self.click("#worst-1")
