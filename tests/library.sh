@@ -56,7 +56,7 @@ done
 python=python3
 if ((${#pythons[@]} > 0)); then
     python=${pythons[-1]}
-    beside "the page" pytest_counts "$python" "$tests"/page/{page,page_keys,page_looks,timeline_page}.py
+    beside "the page" pytest_counts "$python" "$tests"/page/{page,page_answers,page_keys,page_looks,timeline_page}.py
 fi
 beside scripts "$tests/lint.sh"
 part recorded "$tests/tools/recorded.sh" "$tests/../tools"

@@ -225,6 +225,28 @@ class Page(unittest.TestCase):
         return int(self.js("return document.getElementById('worst-rows').getAttribute('aria-rowcount')")) - 1
 
 
+class Striking(Page):
+    """What tests of strikes do, and know."""
+
+    def tick(self, text):
+        self.js('document.querySelector(`[data-strike="${CSS.escape(arguments[0])}"]`).click()', text)
+
+    def assert_struck(self, *texts):
+        """Test that the page shows what the package says of a recording without these events."""
+        difference = quietly(histdesk.diff, TRACE, without=list(texts))
+        self.until_equal([figures_of(difference.before), figures_of(difference.after)], self.figures)
+        rows = {f"{row.key[0]} {row.key[1]} {row.key[2]}": row for row in difference.table("task")}
+        pair = lambda was, now: shown(was) if was == now else f"{shown(was)} → {shown(now)}"
+        wanted = {}
+        for key, row in rows.items():
+            sides = [
+                [getattr(side, name) if side.count else None for name in ("count", "p50", "p99", "max")]
+                for side in (row.before, row.after)
+            ]
+            wanted[key] = [pair(*both) for both in zip(*sides)]
+        self.until_equal(wanted, lambda: {row[0]: row[1:] for row in self.rows("#rows")})
+
+
 def bounds(power):
     """Return the bounds of a power of two, as the page shows them."""
     return f"above {power.low - 1:,} to {power.high:,} µs" if power.low > 1 else f"up to {power.high:,} µs"
