@@ -51,7 +51,7 @@ python=python3
 if ((${#pythons[@]} > 0)); then
     python=${pythons[-1]}
     beside "README with a bare Python" "$python" "$tests/documents/sessions.py" --bare "$histdesk" "$histwatch" README.md
-    beside "the page" pytest_counts "$python" "$tests"/page/{page,page_keys,page_looks,timeline_page}.py
+    beside "the page" pytest_counts "$python" "$tests"/page/{page,page_answers,page_keys,page_looks,timeline_page}.py
 fi
 beside scripts "$tests/lint.sh"
 part recorded "$tests/tools/recorded.sh" "$tests/../tools"

@@ -40,7 +40,8 @@ import plain_waits
 import recordings
 from python_runner import main
 
-FILTER = {"recording": 0, "event": "sched_waking", "text": "pid > 100"}
+FILTER = {"recording": 0, "event": "sched_waking", "text": "pid > 100", "strikes": []}
+WAIT = {"recording": 0, "cpu": 0, "line": 24, "strikes": []}
 # How many seconds anything may take at most.
 LIMIT = 60
 # How many events a desk holds.
@@ -256,10 +257,7 @@ class What(Asked):
         asks = {
             "filter": (FILTER, {"count": 59}),
             "trigger": ({**FILTER, "text": "hist:keys=pid"}, {"totals": {"hits": 68, "entries": 14, "dropped": 0}}),
-            "wait": (
-                {"recording": 0, "cpu": 0, "line": 24},
-                {"task": "wrk", "pid": 24653, "begin": 1404968458, "end": 1404968766},
-            ),
+            "wait": (WAIT, {"task": "wrk", "pid": 24653, "begin": 1404968458, "end": 1404968766}),
             "strike": ({"strikes": [{"event": "sched_waking", "text": "common_pid == 24659"}]}, {"struck": [6]}),
             "script": (
                 {"recording": 0, "event": "sched_waking", "filter": "pid > 1", "trigger": "hist:keys=pid", "strikes": []},
@@ -272,17 +270,34 @@ class What(Asked):
             self.assertEqual((status, headers["Content-Type"]), (200, "application/json"))
             self.assertEqual({name: answer.get(name) for name in wanted}, wanted)
         self.assertEqual(json.loads(self.running.post("strike", {"strikes": []})[2])["rows"], [])
-        window = {"recording": 0, "cpu": 0, "line": 24, "from": 1404968400, "until": 1404968800, "after": True}
-        answer = json.loads(self.running.post("wait", window)[2])
+        answer = json.loads(self.running.post("wait", {**WAIT, "from": 1404968400, "until": 1404968800})[2])
         self.assertEqual((answer["from"], answer["until"]), (1404968400, 1404968800))
+
+    def test_strikes_are_those_of_the_question(self):
+        """Whoever asks is answered without the events that the question names, whatever others have asked for. The figures are
+        those of examples/recipes.trace, as histwatch prints them for recipe 11 of docs/GUIDE.md, and counts of its lines."""
+        by_irq = [{"event": "sched_waking", "text": "common_pid == 24659"}]
+        to_task = [{"event": "sched_switch", "text": "next_pid == 24650"}]
+        hits = {"sched_waking": {0: 68, 1: 62, 2: 68}, "sched_switch": {0: 116, 1: 116, 2: 103}}
+        for _ in range(2):
+            for at, strikes in enumerate(([], by_irq, to_task)):
+                self.running.post("strike", {"strikes": strikes})
+                for other, carried in enumerate(([], by_irq, to_task)):
+                    for event, counts in hits.items():
+                        key = "next_pid" if event == "sched_switch" else "pid"
+                        asked = {"recording": 0, "event": event, "text": f"hist:keys={key}", "strikes": carried}
+                        answer = json.loads(self.running.post("trigger", asked)[2])
+                        self.assertEqual(answer["totals"]["hits"], counts[other], (at, other, event))
+                    answer = json.loads(self.running.post("filter", {**FILTER, "strikes": carried})[2])
+                    self.assertEqual((answer["count"], "new" in answer), (59, bool(carried)))
 
     def test_refused(self):
         """What the desk refuses is answered."""
         answers = [
             ("filter", {**FILTER, "text": "pid >> 1"}, "the filter can't be read: unexpected token", 5),
             ("filter", {**FILTER, "event": "none"}, "there is no such command or event", None),
-            ("wait", {"recording": 0, "cpu": 0, "line": 10**9}, None, None),
-            ("wait", {"recording": 0, "cpu": 2**40, "line": 1}, None, None),
+            ("wait", {**WAIT, "line": 10**9}, None, None),
+            ("wait", {**WAIT, "cpu": 2**40}, None, None),
         ]
         for path, asked, words, at in answers:
             status, _, body = self.running.post(path, asked)
@@ -316,18 +331,26 @@ class What(Asked):
             self.assertEqual(self.running.error("POST", f"/{self.running.token}/filter", *[body]), (400, words), body)
         lone = json.dumps({**FILTER, "text": "\ud800"}).encode()
         self.assertEqual(self.running.error("POST", f"/{self.running.token}/filter", lone)[0], 400)
-        for strikes in (
-            [1],
-            [{}],
-            [{"event": "sched_waking"}],
-            [{"event": 1, "text": ""}],
-            [{"event": "a", "text": "", "x": ""}],
-        ):
-            told = self.running.error("POST", f"/{self.running.token}/strike", {"strikes": strikes})
-            self.assertEqual(told, (400, "a strike is an event and a text"))
-        told = self.running.error("POST", f"/{self.running.token}/strike", {"strikes": [{"event": "other", "text": ""}]})
-        self.assertEqual(told[0], 400)
-        window = {"recording": 0, "cpu": 0, "line": 24, "from": 5, "until": 5}
+        questions = {
+            "strike": {},
+            "filter": FILTER,
+            "trigger": {**FILTER, "text": "hist:keys=pid"},
+            "wait": WAIT,
+            "script": {"recording": 0, "event": "sched_waking", "filter": "", "trigger": ""},
+        }
+        for name, asked in questions.items():
+            ask = lambda strikes: self.running.error("POST", f"/{self.running.token}/{name}", {**asked, "strikes": strikes})
+            for strikes in (
+                [1],
+                [{}],
+                [{"event": "sched_waking"}],
+                [{"event": 1, "text": ""}],
+                [{"event": "a", "text": "", "x": ""}],
+            ):
+                self.assertEqual(ask(strikes), (400, "a strike is an event and a text"))
+            self.assertEqual(ask([{"event": "other", "text": ""}])[0], 400)
+            self.assertEqual(ask(None), (400, "strikes is missing, or of another type"))
+        window = {**WAIT, "from": 5, "until": 5}
         self.assertEqual(self.running.error("POST", f"/{self.running.token}/wait", window), (400, "until must be after from"))
         for query in ("", "?", "?recording=x", "?recording", "?recording=0&more=1", "?recording=7", "?recording=" + "1" * 5000):
             self.assertEqual(self.running.get(f"waits.bin{query}")[0], 400, query)
@@ -374,7 +397,7 @@ class What(Asked):
 
     def test_closed(self):
         """Whoever has gone before the answer came disturbs nobody."""
-        body = json.dumps({"recording": 0, "event": "sched_waking", "text": "pid > 5"}).encode()
+        body = json.dumps({**FILTER, "text": "pid > 5"}).encode()
         head = f"POST /{self.running.token}/filter HTTP/1.1\r\nHost: {self.running.host}\r\nContent-Length: {len(body)}\r\n\r\n"
         for content in (head.encode() + body, head.encode() + body[:-3], head.encode()[:30], b"GET / HTTP/1.1\r\n"):
             for _ in range(20):
@@ -493,28 +516,104 @@ class Ends(unittest.TestCase):
         self.assertIn("can't be read and is left out", json.loads(running.get("about")[2])["recordings"][0]["remarks"][0])
         self.assertIn(b"can't be read and is left out", running.end()[2])
 
+    def browser(self, then=""):
+        """Return an environment with a browser, a script that writes down what it is asked to open and goes on with a command,
+        and the file that it writes."""
+        folder = tempfile.TemporaryDirectory()
+        self.addCleanup(folder.cleanup)
+        path, told = os.path.join(folder.name, "browser"), os.path.join(folder.name, "told")
+        with open(path, "w", encoding="utf-8") as file:
+            file.write(f'#!/bin/sh\necho "$@" >>{told}\n{then}\n')
+        os.chmod(path, 0o755)
+        # The files that lead to an address are made here.
+        return {**environment(), "BROWSER": path, "XDG_RUNTIME_DIR": folder.name, "HOME": folder.name}, told
+
+    def asked(self, told):
+        """Wait until a browser has been started, and return what it is asked to open."""
+        for _ in range(10 * LIMIT):
+            if os.path.exists(told) and os.path.getsize(told):
+                with open(told, encoding="utf-8") as file:
+                    return file.read()
+            time.sleep(0.1)
+        raise AssertionError("no browser was opened")
+
+    def opened(self, told):
+        """Return the file that a browser has been asked to open."""
+        content = self.asked(told)
+        found = urllib.parse.urlparse(content.strip())
+        self.assertEqual((found.scheme, found.netloc, content.count("\n")), ("file", "", 1), content)
+        return urllib.parse.unquote(found.path)
+
     def test_browser(self):
         """A browser is opened if there is a desktop, or if one is named; and --no-browser opens none."""
-        with tempfile.TemporaryDirectory() as folder:
-            browser, told = os.path.join(folder, "browser"), os.path.join(folder, "told")
-            with open(browser, "w", encoding="utf-8") as file:
-                file.write(f'#!/bin/sh\necho "$1" >>{told}\n')
-            os.chmod(browser, 0o755)
-            named = {**environment(), "BROWSER": browser}
-            running = Running(TRACE, env=named)
-            for _ in range(100):
-                if os.path.exists(told) and os.path.getsize(told):
-                    break
-                time.sleep(0.1)
-            with open(told, encoding="utf-8") as file:
-                self.assertEqual(file.read(), running.address + "\n")
+        env, told = self.browser()
+        running = Running(TRACE, env=env)
+        with open(self.opened(told), encoding="utf-8") as file:
+            page = file.read()
+        self.assertEqual(re.findall('url=([^"]*)"', page), [running.address])
+        self.assertEqual(set(re.findall("http:[^\"'<>]*", page)), {running.address})
+        running.end()
+        os.unlink(told)
+        for words, env in ((["--no-browser"], env), ([], environment())):
+            running = Running(TRACE, *words, env=env)
+            running.get("about")
             running.end()
+            self.assertFalse(os.path.exists(told))
+
+    def test_address_is_secret(self):
+        """No other user sees the address: it stands in no command line, and in a file that only this user can read. However the
+        tool ends, the file is gone."""
+        for number in (signal.SIGINT, signal.SIGTERM, signal.SIGHUP):
+            # The browser stays, and stops there.
+            env, told = self.browser("exec >/dev/null 2>&1; kill -STOP $$")
+            running = Running(TRACE, env=env)
+            asked, lines = self.asked(told), command_lines()
+            browsers = [pid for pid, line in lines.items() if line.endswith(f"\0{asked.strip()}\0".encode())]
+            self.assertEqual(len(browsers), 1)
+            self.addCleanup(os.kill, browsers[0], signal.SIGKILL)
+            self.assertEqual([line for line in lines.values() if running.token.encode() in line], [])
+            path = self.opened(told)
+            for place, mode in ((path, 0o600), (os.path.dirname(path), 0o700)):
+                self.assertEqual((os.stat(place).st_mode & 0o777, os.stat(place).st_uid), (mode, os.getuid()))
+            self.assertEqual(running.end(number), (-number, b"", b""))
+            self.assertFalse(os.path.exists(os.path.dirname(path)))
+
+    def test_folders_of_the_file(self):
+        """Without a folder for the time of the login, the file is in that for temporary files; if there are snaps, it is in the
+        home folder. If none can be written, no browser is opened, and the page is served all the same."""
+        env, told = self.browser()
+        folder = os.path.dirname(told)
+        del env["XDG_RUNTIME_DIR"]
+        for changes, wanted in (
+            ({"TMPDIR": "a"}, "a"),
+            ({"TMPDIR": "a", "XDG_RUNTIME_DIR": "none"}, "a"),
+            ({"TMPDIR": "a", "XDG_RUNTIME_DIR": "b"}, "b"),
+            ({"TMPDIR": "a", "XDG_RUNTIME_DIR": "b", "HOME": "c"}, "c"),
+        ):
+            places = {name: os.path.join(folder, place) for name, place in changes.items()}
+            for place in ("a", "b", os.path.join("c", "snap")):
+                os.makedirs(os.path.join(folder, place), exist_ok=True)
+            running = Running(TRACE, env={**env, **places})
+            self.assertEqual(os.path.dirname(os.path.dirname(self.opened(told))), os.path.join(folder, wanted))
+            running.end()
+            self.assertEqual(os.listdir(os.path.join(folder, "a")) + os.listdir(os.path.join(folder, "b")), [])
             os.unlink(told)
-            for words, env in ((["--no-browser"], named), ([], environment())):
-                running = Running(TRACE, *words, env=env)
-                running.get("about")
-                running.end()
-                self.assertFalse(os.path.exists(told))
+        limit = lambda: resource.setrlimit(resource.RLIMIT_FSIZE, (0, 0))
+        running = Running(TRACE, env={**env, "XDG_RUNTIME_DIR": os.path.join(folder, "b")}, preexec_fn=limit)
+        self.assertEqual(running.get("about")[0], 200)
+        status, out, err = running.end()
+        self.assertEqual((status, out), (-signal.SIGINT, b""))
+        self.assertRegex(err.decode(), r"\Aview: no browser is opened, since .*: File too large\n\Z")
+        self.assertEqual((os.path.exists(told), os.listdir(os.path.join(folder, "b"))), (False, []))
+
+
+def command_lines():
+    """Return the command lines of all processes, by their numbers."""
+    found = {}
+    for name in filter(str.isdigit, os.listdir("/proc")):
+        with contextlib.suppress(OSError), open(f"/proc/{name}/cmdline", "rb") as file:
+            found[int(name)] = file.read()
+    return found
 
 
 def saved_data(page):
@@ -561,7 +660,7 @@ class Saved(unittest.TestCase):
             self.assertEqual(len(scenes), data["about"]["recordings"][at]["waits"])
             for place in list(scenes)[:5]:
                 cpu, line = map(int, place.split(":"))
-                asked = {"recording": at, "cpu": cpu, "line": line}
+                asked = {"recording": at, "cpu": cpu, "line": line, "strikes": []}
                 self.assertEqual(scenes[place], json.loads(running.post("wait", asked)[2]))
         self.assertEqual((data["packed"], sorted(data["script"])), (True, ["command", "of", "script"]))
         running.end()
@@ -656,7 +755,8 @@ class Long(unittest.TestCase):
             f"{len({wait.end for wait in self.waits} - {wait.end for wait in self.left})} waits are gone", answer["report"][1]
         )
         last = self.waits[-1]
-        told = json.loads(running.post("wait", {"recording": 0, "cpu": last.end.cpu, "line": last.end.line})[2])
+        asked = {"recording": 0, "cpu": last.end.cpu, "line": last.end.line, "strikes": []}
+        told = json.loads(running.post("wait", asked)[2])
         self.assertEqual((told["begin"], told["end"], told["pid"]), (last.begin.stamp, last.end.stamp, last.pid))
         self.assertEqual(running.end(), (-signal.SIGINT, b"", b""))
 

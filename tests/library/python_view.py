@@ -37,7 +37,7 @@ import plain_waits
 import recordings
 from histdesk import _recording, _schema, _waits
 from histdesk._stretches import Stretch, stretches_of
-from histdesk.view import server, model
+from histdesk.view import model, server, sources
 from histdesk.view.thinning import thin
 from python_answers import at_micros
 from python_runner import main
@@ -134,9 +134,16 @@ def bits_of(text, count):
     return [bool(content[at // 8] >> at % 8 & 1) for at in range(count)]
 
 
+def known_after(view, answer):
+    """Return what a page knows of a recording after strikes."""
+    about = view.about()["recordings"][0]
+    tasks = dict(enumerate(about["tasks"]))
+    return {**about, "tasks": {**tasks, **answer["changed"]["tasks"]}}
+
+
 def after(view, answer):
     """Return the waits after strikes, from the answer to them: those before that are left, and the new ones."""
-    about = view.about()["recordings"][0]
+    about = known_after(view, answer)
     taken = base64.b64decode(answer["changed"]["taken"])
     places = struct.unpack(f"<{len(taken) // 4}I", taken)
     gone = set(places)
@@ -646,7 +653,7 @@ class Strikes(unittest.TestCase):
             answer = self.check(view, text, strikes)
             _, new = after(view, answer)
             for (event, condition), pattern in FILTERS.items():
-                found, places = view.filter(0, event, condition), places_of(text, pattern)
+                found, places = view.filter(0, event, condition, strikes), places_of(text, pattern)
                 self.assertEqual({name: found[name] for name in ("count", "chosen")}, masks[event, condition])
                 end = "end" if event == "sched_switch" else "begin"
                 wanted = [getattr(wait, end) in places and is_of(wait, event) for wait in new]
@@ -685,24 +692,55 @@ class Strikes(unittest.TestCase):
         """A wait that begins elsewhere without struck events is told as it is then, if that is asked for."""
         lines = [waking(0, 1000, 2), waking(0, 1100, 2, target=1), switch(0, 1200, "<idle>-0", "w-2", state="R")]
         view = view_of(text_of(lines))
-        self.assertEqual(view.wait(0, (0, 3), after=True)["begin"], 1100)
-        self.assertEqual(view.strike([("sched_waking", "target_cpu == 1")])["struck"], [1])
-        told = [view.wait(0, (0, 3), after=one) for one in (False, True)]
+        told = [view.wait(0, (0, 3), strikes=one) for one in ([], [("sched_waking", "target_cpu == 1")])]
         self.assertEqual([one["begin"] for one in told], [1100, 1000])
         self.assertIn(" waited 200 us for CPU 0, ", told[1]["text"])
         self.assertEqual(told[1]["marks"][0], {"cpu": 0, "stamp": 1000, "what": "woken"})
         # If the event ends no wait then, the wait is told as it was.
-        self.assertEqual(view.strike([("sched_waking", "pid == 2")])["struck"], [2])
-        self.assertEqual(view.wait(0, (0, 3), after=True)["begin"], 1100)
+        self.assertEqual(view.wait(0, (0, 3), strikes=[("sched_waking", "pid == 2")])["begin"], 1100)
 
     def test_tables(self):
         """A trigger's table is that without the struck events."""
-        text = example("recipes.trace")
-        view = view_of(text)
-        view.strike([("sched_waking", "pid < 60")])
-        self.assertEqual(view.trigger(0, "sched_waking", "hist:keys=pid")["totals"]["hits"], 64)
-        view.strike([])
-        self.assertEqual(view.trigger(0, "sched_waking", "hist:keys=pid")["totals"]["hits"], 68)
+        view = view_of(example("recipes.trace"))
+        ask = ("sched_waking", "hist:keys=pid")
+        self.assertEqual(view.trigger(0, *ask, [("sched_waking", "pid < 60")])["totals"]["hits"], 64)
+        self.assertEqual(view.trigger(0, *ask)["totals"]["hits"], 68)
+
+    def test_questions_know_nothing_of_each_other(self):
+        """The answer to a question depends on its own strikes, whatever was asked before."""
+        text = recordings.simulated(3).text
+        chance, view = random.Random(4), view_of(text)
+        lists = [[], *([one] for one in FILTERS), *(list(FILTERS)[:count] for count in range(2, 6))]
+        wait = next(wait for wait in plain_waits.waits_of(text) if wait.kind == "woken")
+        asks = (
+            lambda view, strikes: {**view.strike(strikes), "seconds": None},
+            lambda view, strikes: view.filter(0, "sched_switch", "next_pid & 1", strikes),
+            lambda view, strikes: view.trigger(0, "sched_waking", "hist:keys=pid", strikes),
+            lambda view, strikes: view.wait(0, (wait.end.cpu, wait.end.line), strikes=strikes),
+            lambda view, strikes: view.script(0, model.Asked("sched_waking", "", "hist:keys=pid"), strikes),
+        )
+        pairs = [(at, ask) for at in range(len(lists)) for ask in range(len(asks))]
+        wanted = {(at, ask): asks[ask](view_of(text), lists[at]) for at, ask in pairs}
+        self.assertGreater(len(lists), 2 * model.ANSWERS)
+        for _ in range(3):
+            for at, ask in chance.sample(pairs, len(pairs)):
+                self.assertEqual(asks[ask](view, lists[at]), wanted[at, ask], (lists[at], ask))
+                self.assertLessEqual(len(view.sides[0]._remainders), model.ANSWERS)
+        self.assertEqual(view.about(), view_of(text).about())
+
+    def test_answers_are_kept(self):
+        """A recording is read once for all questions about the same strikes, unless others have come in between."""
+        view, strikes = view_of(recordings.simulated(1).text), [("sched_waking", "pid < 110")]
+        with unittest.mock.patch("histdesk.view.sources.again_without", side_effect=sources.again_without) as read:
+            for _ in range(2):
+                view.strike(strikes)
+                view.filter(0, "sched_switch", "next_pid & 1", strikes)
+                view.wait(0, (0, 1), strikes=strikes)
+            self.assertEqual(read.call_count, 1)
+            for pid in range(model.ANSWERS):
+                view.strike([("sched_waking", f"pid == {pid}")])
+            view.strike(strikes)
+            self.assertEqual(read.call_count, 2 + model.ANSWERS)
 
     def test_refused(self):
         text = recordings.simulated(2).text
@@ -712,23 +750,36 @@ class Strikes(unittest.TestCase):
         answer = view.strike([*kept, ("sched_switch", "next_pid ==> 3")])
         wanted = {"refused": "the filter can't be read: unexpected token", "at": 11, "hint": "", "strike": 1}
         self.assertEqual(answer, wanted)
-        self.assertEqual(view.filter(0, "sched_waking", "pid < 110")["new"], "")
+        for strikes in ([*kept, ("sched_switch", "next_pid ==> 3")], [("other", "")], [("sched_wakeup", "")], [("", "")]):
+            for ask in (
+                lambda: view.strike(strikes),
+                lambda: view.filter(0, "sched_waking", "pid < 110", strikes),
+                lambda: view.trigger(0, "sched_waking", "hist:keys=pid", strikes),
+                lambda: view.wait(0, (0, 1), strikes=strikes),
+                lambda: view.script(0, model.Asked("sched_waking", "", ""), strikes),
+            ):
+                if len(strikes) > 1:
+                    self.assertEqual(ask(), wanted)
+                    continue
+                with self.assertRaisesRegex(
+                    ValueError, "waits begin and end with sched_waking, sched_wakeup_new, sched_switch"
+                ):
+                    ask()
+        self.assertEqual(view.filter(0, "sched_waking", "pid < 110", kept)["new"], "")
         self.check(view, text, kept)
-        for event in ("sched_wakeup", "other", ""):
-            with self.assertRaisesRegex(ValueError, "waits begin and end with sched_waking, sched_wakeup_new, sched_switch"):
-                view.strike([(event, "")])
 
     def test_no_memory(self):
-        """If memory runs out in a strike, what was struck before stays struck."""
+        """If memory runs out in a strike, other questions have the answers that they had."""
         text = recordings.simulated(2).text
         view = view_of(text)
         kept = [("sched_waking", "pid < 110")]
         self.check(view, text, kept)
-        new = view.filter(0, "sched_switch", "next_pid & 1")["new"]
+        new = view.filter(0, "sched_switch", "next_pid & 1", kept)["new"]
         with unittest.mock.patch("histdesk.view.sources.again_without", side_effect=MemoryError):
             with self.assertRaises(MemoryError):
-                view.strike([("sched_switch", "")])
-        self.assertEqual(view.filter(0, "sched_switch", "next_pid & 1")["new"], new)
+                view.strike([("sched_switch", "next_pid & 1")])
+        self.assertEqual(view.filter(0, "sched_switch", "next_pid & 1", kept)["new"], new)
+        self.check(view, text, [("sched_switch", "next_pid & 1")])
         self.check(view, text, [("sched_waking", "pid == 104 || pid > 110")])
         self.check(view, text, [])
 
@@ -737,11 +788,10 @@ class Strikes(unittest.TestCase):
         text = example("recipes.trace")
         view = view_of(text)
         for condition, hits in (("pid < 60", 64), ("pid > 0", 0), ("pid < 60", 64), ("common_pid == 24659", 62), ("", 0)):
-            view.strike([("sched_waking", condition)])
-            self.assertEqual(view.trigger(0, "sched_waking", "hist:keys=pid")["totals"]["hits"], hits, condition)
+            answer = view.trigger(0, "sched_waking", "hist:keys=pid", [("sched_waking", condition)])
+            self.assertEqual(answer["totals"]["hits"], hits, condition)
         for strikes, hits in (([("sched_waking", "pid < 60")], 64), ([("sched_waking", "pid < 60"), ("sched_waking", "")], 0)):
-            view.strike(strikes)
-            self.assertEqual(view.trigger(0, "sched_waking", "hist:keys=pid")["totals"]["hits"], hits)
+            self.assertEqual(view.trigger(0, "sched_waking", "hist:keys=pid", strikes)["totals"]["hits"], hits)
 
     def test_new_names(self):
         """The task of a new wait may have a name that none had before."""
@@ -753,9 +803,12 @@ class Strikes(unittest.TestCase):
         view = view_of(text_of(lines))
         self.assertEqual([(wait.name, wait.micros) for wait in waits_in(view)], [("a", 100)])
         # Without the switch that ran it, the task waits until the other one; nobody knows how that came about.
-        answer = view.strike([("sched_switch", "common_cpu == 0")])
-        self.assertEqual(answer["changed"]["tasks"], {1: "b"})
-        self.assertEqual([(wait.name, wait.micros) for wait in after(view, answer)[1]], [("b", 200)])
+        for condition in ("common_cpu == 0", "next_pid == 1 && common_cpu == 0"):
+            # Each answer has all names that are new in it, since it may go to another page than the one before.
+            answer = view.strike([("sched_switch", condition)])
+            self.assertEqual(answer["changed"]["tasks"], {1: "b"})
+            self.assertEqual([(wait.name, wait.micros) for wait in after(view, answer)[1]], [("b", 200)])
+        self.assertEqual(view.about()["recordings"][0]["tasks"], ["a"])
         self.assertEqual(view.strike([])["changed"]["tasks"], {})
 
     def test_many(self):
@@ -771,7 +824,7 @@ class Strikes(unittest.TestCase):
         for name in ("changed", "rows", "report", "struck"):
             self.assertEqual(answers[0][name], answers[1][name])
         for event, trigger in Triggers.TRIGGERS:
-            self.assertEqual(view.trigger(0, event, trigger), other.trigger(0, event, trigger))
+            self.assertEqual(view.trigger(0, event, trigger, strikes), other.trigger(0, event, trigger, strikes))
 
 
 def rows_told(answer):
@@ -836,14 +889,13 @@ class Long(unittest.TestCase):
         self.same(sorted([*left, *new], key=lambda wait: wait.end), wanted)
         self.assertTrue(left and new)
         # A filter chooses from the new waits too, and from those that were there before.
-        found = self.view.filter(0, "sched_switch", "next_pid == 103")
+        found = self.view.filter(0, "sched_switch", "next_pid == 103", self.STRIKES)
         masks = bits_of(found["chosen"], len(self.waits)), bits_of(found["new"], len(new))
         for waits, mask in zip((self.waits, new), masks):
             self.same(mask, [wait.pid == 103 for wait in waits])
         found = self.view.filter(0, "sched_waking", "common_cpu == 1")
         mask = [wait.kind == "woken" and wait.begin.cpu == 1 for wait in self.waits]
         self.same(bits_of(found["chosen"], len(self.waits)), mask)
-        self.view.strike([])
 
     def test_refused(self):
         answer = self.view.filter(0, "sched_switch", "next_pid ==> 3")
@@ -904,11 +956,10 @@ class Scripts(unittest.TestCase):
         path = os.path.join(EXAMPLES, "recipes.trace")
         view = view_of(path)
         strikes = [("sched_waking", "pid < 60"), ("sched_switch", 'prev_state == "D"')]
-        view.strike(strikes)
         for event, trigger in Triggers.TRIGGERS:
             text, _, condition = trigger.partition(" if ")
             _, printed = self.tables(view, path, model.Asked(event, condition, f" {text} "), strikes)
-            table = view.trigger(0, event, trigger)
+            table = view.trigger(0, event, trigger, strikes)
             self.assertEqual((shown(table), tuple(table["totals"].values())), printed)
 
     @with_program

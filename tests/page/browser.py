@@ -28,11 +28,11 @@ SIZES = ((1280, 720), (3840, 2160))
 PATIENCE = 30
 # What scripts of these tests use of the page's modules. A saved page knows its modules by their names, without a path.
 MODULES = """
-const names = ["canvas", "keys", "lanes", "state", "strike", "time", "worst"];
+const names = ["canvas", "keys", "lanes", "state", "strike", "time", "timeline", "worst"];
 const path = document.getElementById("saved") ? "" : "./";
 const modules = await Promise.all(names.map((name) => import(`${path}${name}.js`)));
 const page = Object.assign({}, ...modules);
-const { choose, colour, forgetStyles, KEYS, lanes, openTab, overTime, rem, side, state, strikes, worst } = page;
+const { choose, colour, forgetStyles, KEYS, lanes, openTab, overTime, rem, side, state, strikes, timeline, worst } = page;
 """
 
 
@@ -47,11 +47,12 @@ def missing():
 
 
 class Server:
-    """tools/view, and the address that it prints."""
+    """tools/view, and the address that it prints. It opens no browser, unless one is named."""
 
-    def __init__(self, *words):
-        command = [sys.executable, VIEW, "--no-browser", *words]
-        self.process = subprocess.Popen(command, stdout=subprocess.PIPE, stderr=subprocess.DEVNULL, text=True)
+    def __init__(self, *words, browser=None):
+        command = [sys.executable, VIEW, *words, *([] if browser else ["--no-browser"])]
+        env = {**os.environ, "BROWSER": browser or ""}
+        self.process = subprocess.Popen(command, stdout=subprocess.PIPE, stderr=subprocess.DEVNULL, text=True, env=env)
         self.address = self.process.stdout.readline().split()[0]
 
     def end(self):
@@ -115,11 +116,12 @@ class Page(unittest.TestCase):
 
     def open(self, address):
         self.driver.get(address)
-        self.until(
-            lambda: self.js(
-                "return document.body.classList.contains('ready') && document.getElementById('figures').tBodies[0].rows.length"
-            )
-        )
+        self.until_ready()
+
+    def until_ready(self):
+        """Wait until the page shows figures."""
+        script = "return document.body.classList.contains('ready') && document.getElementById('figures').tBodies[0].rows.length"
+        self.until(lambda: self.js(script))
 
     def resize(self, width, height):
         words = {"width": width, "height": height, "deviceScaleFactor": 1, "mobile": False}
@@ -221,6 +223,28 @@ class Page(unittest.TestCase):
     def count_listed(self):
         # The header is a row, too.
         return int(self.js("return document.getElementById('worst-rows').getAttribute('aria-rowcount')")) - 1
+
+
+class Striking(Page):
+    """What tests of strikes do, and know."""
+
+    def tick(self, text):
+        self.js('document.querySelector(`[data-strike="${CSS.escape(arguments[0])}"]`).click()', text)
+
+    def assert_struck(self, *texts):
+        """Test that the page shows what the package says of a recording without these events."""
+        difference = quietly(histdesk.diff, TRACE, without=list(texts))
+        self.until_equal([figures_of(difference.before), figures_of(difference.after)], self.figures)
+        rows = {f"{row.key[0]} {row.key[1]} {row.key[2]}": row for row in difference.table("task")}
+        pair = lambda was, now: shown(was) if was == now else f"{shown(was)} → {shown(now)}"
+        wanted = {}
+        for key, row in rows.items():
+            sides = [
+                [getattr(side, name) if side.count else None for name in ("count", "p50", "p99", "max")]
+                for side in (row.before, row.after)
+            ]
+            wanted[key] = [pair(*both) for both in zip(*sides)]
+        self.until_equal(wanted, lambda: {row[0]: row[1:] for row in self.rows("#rows")})
 
 
 def bounds(power):

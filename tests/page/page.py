@@ -16,7 +16,7 @@ import sys
 import tempfile
 import unittest
 
-from browser import OTHER, PAGES, TRACE, VIEW, Page, Server, bounds, figures_of, quietly, shown
+from browser import OTHER, PAGES, TRACE, VIEW, Page, Striking, bounds, figures_of, quietly, shown
 
 import histdesk
 import python_runner
@@ -268,26 +268,8 @@ class Triggers(Page):
                 self.assertEqual({pid: [int(count), int(micros)] for pid, count, micros in told}, shown, (event, text, struck))
 
 
-class Strikes(Page):
+class Strikes(Striking):
     """Waits without some wakings."""
-
-    def tick(self, text):
-        self.js('document.querySelector(`[data-strike="${CSS.escape(arguments[0])}"]`).click()', text)
-
-    def assert_struck(self, *texts):
-        """Test that the page shows what the package says of a recording without these events."""
-        difference = quietly(histdesk.diff, TRACE, without=list(texts))
-        self.until_equal([figures_of(difference.before), figures_of(difference.after)], self.figures)
-        rows = {f"{row.key[0]} {row.key[1]} {row.key[2]}": row for row in difference.table("task")}
-        pair = lambda was, now: shown(was) if was == now else f"{shown(was)} → {shown(now)}"
-        wanted = {}
-        for key, row in rows.items():
-            sides = [
-                [getattr(side, name) if side.count else None for name in ("count", "p50", "p99", "max")]
-                for side in (row.before, row.after)
-            ]
-            wanted[key] = [pair(*both) for both in zip(*sides)]
-        self.until_equal(wanted, lambda: {row[0]: row[1:] for row in self.rows("#rows")})
 
     def test_a_tick_strikes_and_undo_takes_it_back(self):
         pid = int(self.waits.array.pid[self.waits.names == "nginx"][0])
@@ -640,16 +622,6 @@ class Saved(Page):
             self.driver.get_log("browser")
             self.open(self.server.address)
             self.assertEqual([line["message"] for line in self.driver.get_log("browser")], [])
-
-
-class Ends(Page):
-    """What the page shows if the server ends, or if something goes wrong."""
-
-    def test_an_ended_server_is_told(self):
-        self.server.end()
-        self.typed("#filter", "next_pid > 0")
-        self.until(lambda: "The server has ended" in self.text("#status"))
-        type(self).server = Server(*self.words)
 
 
 class Files(unittest.TestCase):

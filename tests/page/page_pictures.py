@@ -18,7 +18,7 @@ SIZE = (1280, 720)
 
 
 def light(page):
-    """Show a wait of a bar, and what the waits would have been without some wakings."""
+    """Show a wait of a bar, and the waits without some wakings."""
     page.js("choose(state.scale.bar(2000), null); worst.choose(3, true)")
     page.until(lambda: page.js("return lanes.scene !== null"))
     page.js(

@@ -10,9 +10,6 @@ import histdesk
 import recordings
 from histdesk.view.model import Side
 
-# What scripts of these tests use in addition.
-TIMELINE = "const { timeline } = await import(`${path}timeline.js`);"
-
 
 class Timeline(Page):
     """The picture, with the tab open."""
@@ -28,7 +25,7 @@ class Timeline(Page):
 
     def ask(self, expression, *words):
         """Return the value of an expression of the page."""
-        return self.js(f"{TIMELINE} return {expression}", *words)
+        return self.js(f"return {expression}", *words)
 
     def sight(self):
         """Return when the time in sight begins and ends, in microseconds since the first event."""
@@ -43,19 +40,17 @@ class Timeline(Page):
     def run_with_a_wait(self):
         """Bring a run that ended a wait into sight, and return its CPU and line, and where its middle is."""
         found = self.js(
-            f"""{TIMELINE}
-            const {{ end, begin, line }} = timeline.overview.runs;
+            """const { end, begin, line } = timeline.overview.runs;
             const at = [...begin.keys()].filter((run) => timeline.waitBefore(run) !== null)
                 .sort((one, other) => end[other] - begin[other] - end[one] + begin[one])[0];
             timeline.goTo(begin[at], end[at]);
-            return {{ cpu: timeline.overview.cpus[timeline.overview.runs.lane[at]], line: line[at] }};"""
+            return { cpu: timeline.overview.cpus[timeline.overview.runs.lane[at]], line: line[at] };"""
         )
         self.answered()
         place = self.js(
-            f"""{TIMELINE}
-            const {{ overview: {{ runs, cpus }}, axis, top, tall }} = timeline, {{ cpu, line }} = arguments[0];
+            """const { overview: { runs, cpus }, axis, top, tall } = timeline, { cpu, line } = arguments[0];
             const at = [...runs.line.keys()].find((run) => runs.line[run] === line && cpus[runs.lane[run]] === cpu);
-            return {{ x: axis.x((runs.begin[at] + runs.end[at]) / 2), y: top + (runs.lane[at] + 0.5) * tall }};""",
+            return { x: axis.x((runs.begin[at] + runs.end[at]) / 2), y: top + (runs.lane[at] + 0.5) * tall };""",
             found,
         )
         return found, place
@@ -143,9 +138,8 @@ class AllCpus(Timeline):
 
     def test_waiting_tasks_lead_to_the_longest_wait(self):
         place = self.js(
-            f"""{TIMELINE}
-            const {{ overview, axis, bottom, queue }} = timeline, part = overview.most.indexOf(Math.max(...overview.most));
-            return {{ x: axis.x(overview.timeOf(part + 0.5)), y: bottom - queue / 2, time: overview.timeOf(part + 0.5) }};"""
+            """const { overview, axis, bottom, queue } = timeline, part = overview.most.indexOf(Math.max(...overview.most));
+            return { x: axis.x(overview.timeOf(part + 0.5)), y: bottom - queue / 2, time: overview.timeOf(part + 0.5) };"""
         )
         self.click_at(self.find("#timeline-lanes"), place["x"], place["y"])
         self.until(lambda: self.js("return lanes.scene !== null"))
@@ -251,12 +245,11 @@ class ManyRuns(Timeline):
 
     def test_a_click_among_many_runs_goes_closer(self):
         place = self.js(
-            f"""{TIMELINE}
-            const {{ overview, axis, top, tall }} = timeline;
-            for (let cell = 0; cell < overview.task.length; cell++) {{
+            """const { overview, axis, top, tall } = timeline;
+            for (let cell = 0; cell < overview.task.length; cell++) {
                 const lane = Math.floor(cell / overview.width), time = overview.timeOf(cell % overview.width + 0.5);
-                if (!timeline.isSingle(lane, time)) return {{ x: axis.x(time), y: top + (lane + 0.5) * tall }};
-            }}
+                if (!timeline.isSingle(lane, time)) return { x: axis.x(time), y: top + (lane + 0.5) * tall };
+            }
             return null;"""
         )
         low, high = self.sight()

@@ -50,9 +50,10 @@ nothing has changed, the chance that any of them is reported is at most 5 %. The
 if nothing has changed, each recording could as well have been made on the other side, so take turns
 in recording before and after. It needs 4 recordings on each side.
 
-With --without, the waits are those of the remaining events. If a waking is taken away, its wait is
-gone; but if another waking came before it, the wait begins there and is longer, even if the task
-was still running then. A line reports how many waits there are of each kind.
+With --without, some events are not counted, and the waits are those of the remaining events. All
+else stays as it was recorded: no task runs sooner. If a waking is left out, its wait is gone; but
+if another waking came before it, the wait begins there and is longer, even if the task was still
+running then. A line reports how many waits are gone, begin with another event, or are new.
 
 TRACE is the text of the kernel's trace file, compressed by gzip or not, or a recording of perf or
 trace-cmd; - is standard input.

@@ -1,15 +1,17 @@
-"""view TRACE [TRACE]: a page to look at waits, and to ask what they would be without some events."""
+"""view TRACE [TRACE]: a page to look at waits, also with some events not counted."""
 
 from __future__ import annotations
 
 import argparse
+import contextlib
 import os
+import queue
 import shlex
 import signal
 import sys
 import threading
 import webbrowser
-from typing import TYPE_CHECKING, Sequence
+from typing import TYPE_CHECKING, Iterator, NoReturn, Sequence
 
 from .._invocation import program, tool
 from . import arguments, process
@@ -20,13 +22,15 @@ if TYPE_CHECKING:
 
 DESCRIPTION = """A page in a browser that shows how long tasks waited for a processor: a histogram, which follows
 a filter as it is typed, the longest waits, what ran on all CPUs during one of them and during the
-whole recording, and the waits without some events. Two recordings are drawn one over the other,
-and the page says which waits differ. TRACE is the text of the kernel's trace file, compressed by
-gzip or not, or a recording of perf or trace-cmd; - is standard input.
+whole recording, and the waits that are left if some events are not counted. All else stays as it
+was recorded then: no task runs sooner. Two recordings are drawn one over the other, and the page
+says which waits differ. TRACE is the text of the kernel's trace file, compressed by gzip or not, or
+a recording of perf or trace-cmd; - is standard input.
 
 It prints the page's address, opens a browser if there is a desktop, and answers until Ctrl-C. It
 listens only on this machine (127.0.0.1), and answers only requests for the complete address, which
-contains a random word.
+contains a random word. The browser is started with a file that leads there, and that only you can
+read, since all users of a machine see what a program is started with.
 
 A recording may be of any length. If it has more events than a desk holds, a trigger's table and
 the script cover only its first events, and say so.
@@ -37,6 +41,22 @@ triggers or strikes, and shows all CPUs with the time divided into at most 1,024
 tools/waits --help says what a wait is. In a terminal, tools/why explains one, and tools/diff compares."""
 # If none of these variables is set, there is no desktop.
 DESKTOPS = ("BROWSER", "DISPLAY", "WAYLAND_DISPLAY")
+# The signals that end the tool, unless whoever started it had them ignored.
+ENDING = (signal.SIGINT, signal.SIGTERM, signal.SIGHUP)
+
+
+class Termination(BaseException):
+    """A signal that ends the tool.
+
+    Attributes
+    ----------
+    signal
+        The signal.
+    """
+
+    def __init__(self, number: int) -> None:
+        super().__init__(number)
+        self.signal = signal.Signals(number)
 
 
 def parsed(argv: Sequence[str] | None) -> argparse.Namespace:
@@ -101,16 +121,68 @@ def work(argv: Sequence[str] | None) -> int:
         saved_page.save(view, options.save)
         return process.SUCCESS
     server = server_of(view, options.port)
-    # Nothing has to be put in order, so Ctrl-C ends it whatever it does.
-    if signal.getsignal(signal.SIGINT) is signal.default_int_handler:
-        signal.signal(signal.SIGINT, signal.SIG_DFL)
-    server.listen()
-    print(f"{server.address}  (Ctrl-C ends it)" if sys.stdout.isatty() else server.address, flush=True)
-    if not options.no_browser and any(map(os.environ.get, DESKTOPS)):
-        # With some browsers, the call returns only when they end.
-        threading.Thread(target=webbrowser.open, args=[server.address], daemon=True).start()
-    server.answer_all(view.prepare())
+    is_wanted = not options.no_browser and any(map(os.environ.get, DESKTOPS))
+    try:
+        catch_signals()
+        server.listen()
+        print(f"{server.address}  (Ctrl-C ends it)" if sys.stdout.isatty() else server.address, flush=True)
+        with browser(server.address) if is_wanted else contextlib.nullcontext():
+            answer_all(server, view)
+    except Termination as termination:
+        process.end_by(termination.signal)
     return process.SUCCESS
+
+
+def catch_signals() -> None:
+    """Have signals that end the tool raise `Termination`; further ones are ignored then."""
+    defaults = signal.SIG_DFL, signal.default_int_handler
+    numbers = [number for number in ENDING if signal.getsignal(number) in defaults]
+
+    def end(number: int, _: object) -> NoReturn:
+        for one in numbers:
+            signal.signal(one, signal.SIG_IGN)
+        raise Termination(number)
+
+    for number in numbers:
+        signal.signal(number, end)
+
+
+@contextlib.contextmanager
+def browser(address: str) -> Iterator[None]:
+    """Open a browser at an address. The browser is started with a file that leads there, and that is removed at the end."""
+    from ..view.redirect import redirect_to
+
+    with contextlib.ExitStack() as stack:
+        try:
+            url = stack.enter_context(redirect_to(address))
+        except OSError as error:
+            process.say(
+                "view", f"no browser is opened, since no file can be written that leads it to the page: {error.strerror}"
+            )
+        else:
+            # With some browsers, the call returns only when they end.
+            threading.Thread(target=webbrowser.open, args=[url], daemon=True).start()
+        yield
+
+
+def answer_all(server: Server, view: View) -> None:
+    """Answer questions in another thread, so that a signal ends this one whatever is being answered.
+
+    Raises
+    ------
+    Termination
+        If a signal ends the tool.
+    """
+    failures: queue.SimpleQueue[Exception] = queue.SimpleQueue()
+
+    def answer() -> None:
+        try:
+            server.answer_all(view.prepare())
+        except Exception as error:
+            failures.put(error)
+
+    threading.Thread(target=answer, daemon=True).start()
+    raise failures.get()
 
 
 def main(argv: Sequence[str] | None = None) -> int:

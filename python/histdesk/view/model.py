@@ -19,7 +19,7 @@ from .._recording import Recording
 from .._refusal import Refused, place_in
 from .._values import Bucket, Log2
 from .._waits import Waits, waits
-from .._without import Chosen, LeftOut, check, check_events
+from .._without import Chosen, LeftOut, check
 from ..native import layout
 from .hints import hint_of
 from .schema import schema
@@ -56,16 +56,23 @@ LONGEST = 2**32 - 1
 FIGURES = ("count", "p50", "p99", "max")
 # How many rows of a trigger's table are reported at most.
 ROWS = 1000
-# How many answers to strikes are kept.
+# Of how many lists of strikes the answers are kept.
 ANSWERS = 4
 # How many parts the timeline of a saved page has at most: for each CPU, and for all CPUs together.
 COARSE, CELLS = 1024, 1 << 16
 
 
+# Strikes, as a question names them: the names of events, each with a filter that chooses which of them.
+Strikes = Sequence[tuple[str, str]]
+
+
 class View:
     """What a page shows of one or two recordings, which are numbered 0 and 1. Another number raises `ValueError`.
 
-    A refusal is an answer, too: it says why, and at which character of a text."""
+    A question that depends on strikes has them among its arguments, so several pages may ask, each with strikes of its own.
+    Strikes of an event with which no wait begins or ends raise `ValueError`.
+
+    A refusal is an answer, too: it says why, and at which character of a text. One of a strike has the number of the strike."""
 
     def __init__(self, sides: Sequence[Side], command: str = "", program: str = "./histdesk") -> None:
         """Take what a page shows.
@@ -91,18 +98,19 @@ class View:
         """Return the waits of a recording, column by column."""
         return self.side(recording).columns()
 
-    def filter(self, recording: int, event: str, text: str) -> Json:
-        """Return which waits end at a switch that passes a filter or, for an event of another name, begin at one that does."""
+    def filter(self, recording: int, event: str, text: str, strikes: Strikes = ()) -> Json:
+        """Return which waits end at a switch that passes a filter or, for an event of another name, begin at one that does.
+        With strikes, `new` says which of the new waits of `strike` do."""
         side = self.side(recording)
-        return answered(text, lambda: side.filter(event, text), event)
+        return without(strikes, lambda chosen: answered(text, lambda: side.filter(event, text, chosen), event))
 
-    def trigger(self, recording: int, event: str, text: str) -> Json:
+    def trigger(self, recording: int, event: str, text: str, strikes: Strikes = ()) -> Json:
         """Return the table of a trigger, without the events that are struck. If a desk doesn't hold the whole recording, `of`
         says which events it holds; otherwise `of` is None."""
         side = self.side(recording)
-        return answered(text, lambda: side.trigger(event, text), event)
+        return without(strikes, lambda chosen: answered(text, lambda: side.trigger(event, text, chosen), event))
 
-    def wait(self, recording: int, place: tuple[int, int], window: Window = Window(), after: bool = False) -> Json:
+    def wait(self, recording: int, place: tuple[int, int], window: Window = Window(), strikes: Strikes = ()) -> Json:
         """Return a wait, and what ran around it.
 
         Parameters
@@ -113,11 +121,11 @@ class View:
             The CPU and the line of the event that begins or ends the wait.
         window
             The stretch of time to report.
-        after
-            Whether to look first for the wait that the event ends without the struck events.
+        strikes
+            If the event ends a wait without these events, it is that wait.
         """
         side = self.side(recording)
-        return answered("", lambda: side.wait(place, window, after))
+        return without(strikes, lambda chosen: answered("", lambda: side.wait(place, window, chosen)))
 
     def overview(self, recording: int, start: int, until: int, width: int) -> Json:
         """Return what all CPUs did between two stamps, in so many equal parts of that time.
@@ -137,30 +145,16 @@ class View:
         before, after = (side.waits for side in self.sides)
         return {"rows": [plain_difference(row) for row in Difference(before, after).table("name")]}
 
-    def strike(self, strikes: Sequence[tuple[str, str]]) -> Json:
-        """Return what differs from `waits` without some events of the first recording.
-
-        Parameters
-        ----------
-        strikes
-            The names of events, each with a filter that chooses which of them. A refusal has the number of its filter.
-        """
+    def strike(self, strikes: Strikes) -> Json:
+        """Return what differs from `waits` without some events of the first recording."""
         side, began = self.side(0), time.perf_counter()
-        chosen = chosen_of(strikes)
-        try:
-            check(chosen)
-        except Refused as refused:
-            number = getattr(refused, "which", 0)
-            event, text = strikes[number]
-            return {**refusal(refused, text, event), "strike": number}
-        return {**side.strike(chosen), "seconds": time.perf_counter() - began}
+        return without(strikes, lambda chosen: {**side.strike(chosen), "seconds": time.perf_counter() - began})
 
-    def script(self, recording: int, asked: Asked, strikes: Sequence[tuple[str, str]]) -> Json:
+    def script(self, recording: int, asked: Asked, strikes: Strikes) -> Json:
         """Return the script that gives the table of the waits, and that of a trigger, without some events, and the shell's line
         that runs it. `of` is the same as in the answer of `trigger`."""
-        side, chosen = self.side(recording), chosen_of(strikes)
-        check_events(chosen)
-        return answered("", lambda: side.script(asked, chosen, self.program))
+        side = self.side(recording)
+        return without(strikes, lambda chosen: answered("", lambda: side.script(asked, chosen, self.program)))
 
     def prepare(self) -> Iterator[None]:
         """Do what later answers need, step by step."""
@@ -174,22 +168,22 @@ class View:
         return self.sides[number]
 
 
-class Strikes(NamedTuple):
-    """Strikes.
+class Remainder(NamedTuple):
+    """What is left of a recording without some events.
 
     Attributes
     ----------
-    chosen
-        The events that are struck.
     waits
-        The waits without them.
+        Its waits.
     change
-        How these differ from all waits.
+        How these differ from the waits of all events.
+    answer
+        What `Side.strike` returns.
     """
 
-    chosen: tuple[Chosen, ...]
     waits: Waits
     change: Change
+    answer: Json
 
 
 class Side:
@@ -219,13 +213,12 @@ class Side:
             self.waits, self.again = trace, Whole(trace, trace.source)
         else:
             self.waits, self.again = waits(trace), Part(trace)
-        self.strikes: Strikes | None = None
         # The numbers by which the page knows tasks, by their names.
         self._tasks: dict[str, int] = {name: number for number, name in enumerate(self.waits._names.tolist())}
         self._overview: Overview | None = None
         self._steps: Iterator[None] | None = None
-        # The last strikes and their answers, the newest last, so that taking one back takes no time.
-        self._answers: dict[tuple[Chosen, ...], tuple[Strikes, Json]] = {}
+        # What is left without the events of the last few questions, the newest last: taking a strike back takes no time.
+        self._remainders: dict[tuple[Chosen, ...], Remainder] = {}
 
     @property
     def overview(self) -> Overview:
@@ -285,12 +278,13 @@ class Side:
 
     def columns(self) -> bytes:
         """Return the waits, column by column."""
-        return self._columns_of(self.waits)
+        return self._columns_of(self.waits, self._tasks)
 
-    def _columns_of(self, some: Waits) -> bytes:
-        """Return some waits, of all events or without those that are struck, column by column."""
+    def _columns_of(self, some: Waits, tasks: dict[str, int]) -> bytes:
+        """Return some waits, of all events or without some, column by column. `tasks` has the numbers of known names; others
+        are added."""
         records = some._records
-        names = [self._tasks.setdefault(name, len(self._tasks)) for name in some._names.tolist()]
+        names = [tasks.setdefault(name, len(tasks)) for name in some._names.tolist()]
         columns = {name: records[name] for name, _ in COLUMNS if name in (records.dtype.names or ())}
         columns["begin"] = records["begin_stamp"] - (self.waits.held.first or 0)
         columns["micros"] = np.minimum(some._column("micros"), LONGEST)
@@ -298,15 +292,16 @@ class Side:
         columns["doubtful"] = some._column("doubtful")
         return packed(columns)
 
-    def filter(self, event: str, text: str) -> Json:
+    def filter(self, event: str, text: str, chosen: Sequence[Chosen] = ()) -> Json:
         """Return the waits that a filter chooses; an empty one chooses all of that event. If events are struck, also return
         which new waits of `strike` it chooses."""
         events = self.again.matching(Chosen(event, text if text.strip() else ""))
         is_end = event == "sched_switch"
         first = chosen_among(self._ends if is_end else self._begins, events, len(self.waits))
         answer: Json = {"count": int(first.sum()), "chosen": bits(first)}
-        if self.strikes:
-            new = self.strikes.waits[self.strikes.change.new]
+        if chosen:
+            remainder = self.without(chosen)
+            new = remainder.waits[remainder.change.new]
             answer["new"] = bits(chosen_among(places_of(new, "end" if is_end else "begin"), events, len(new)))
         return answer
 
@@ -322,37 +317,39 @@ class Side:
 
     def strike(self, chosen: Sequence[Chosen]) -> Json:
         """Return what differs from `columns` without some events."""
-        key = tuple(chosen)
-        if not key:
-            self.strikes = None
-            return strike_answer([], [], {"taken": "", "new": "", "count": 0, "tasks": {}}, [], Fate(0, 0, 0))
-        if key not in self._answers:
-            self._answers[key] = self._strike(key)
-        # The newest one is kept longest.
-        self.strikes, answer = self._answers[key] = self._answers.pop(key)
-        while len(self._answers) > ANSWERS:
-            del self._answers[next(iter(self._answers))]
-        return answer
+        if chosen:
+            return self.without(chosen).answer
+        return strike_answer([], [], {"taken": "", "new": "", "count": 0, "tasks": {}}, [], Fate(0, 0, 0))
 
-    def _strike(self, chosen: tuple[Chosen, ...]) -> tuple[Strikes, Json]:
-        """Return the waits without some events, and the answer of `strike`."""
+    def without(self, chosen: Sequence[Chosen]) -> Remainder:
+        """Return what is left of it without some events. That of the last few questions is kept."""
+        key = tuple(chosen)
+        remainder = self._remainders.pop(key, None) or self._remainder(key)
+        # The newest one is kept longest.
+        self._remainders[key] = remainder
+        while len(self._remainders) > ANSWERS:
+            del self._remainders[next(iter(self._remainders))]
+        return remainder
+
+    def _remainder(self, chosen: tuple[Chosen, ...]) -> Remainder:
+        """Return what is left of it without some events, for which it is read again."""
         less, left_out = self.again.without(chosen)
-        change, known = change_of(self.waits, less, self._ends), len(self._tasks)
+        change, tasks = change_of(self.waits, less, self._ends), self._tasks.copy()
         changed = {
             "taken": text_of(change.taken.astype("<u4").tobytes()),
-            "new": text_of(self._columns_of(less[change.new])),
+            "new": text_of(self._columns_of(less[change.new], tasks)),
             "count": len(change.new),
-            "tasks": {number: name for name, number in self._tasks.items() if number >= known},
+            "tasks": {number: name for name, number in tasks.items() if number >= len(self._tasks)},
         }
         rows = rows_of(self.waits, less, change)
-        return Strikes(chosen, less, change), strike_answer(chosen, left_out, changed, rows, change.fate)
+        return Remainder(less, change, strike_answer(chosen, left_out, changed, rows, change.fate))
 
-    def trigger(self, event: str, text: str) -> Json:
-        """Return the table of a trigger."""
+    def trigger(self, event: str, text: str, chosen: Sequence[Chosen] = ()) -> Json:
+        """Return the table of a trigger without some events."""
         # A trigger that can't be attached to a desk without triggers is refused.
         with Desk() as empty:
             empty.attach(event, text)
-        trigger = self.again.held.without(self.strikes.chosen if self.strikes else ()).attach(event, text)
+        trigger = self.again.held.without(chosen).attach(event, text)
         try:
             rows, totals = trigger.rows(), trigger.totals()
             return {
@@ -366,9 +363,9 @@ class Side:
         finally:
             trigger.remove()
 
-    def wait(self, place: tuple[int, int], window: Window = Window(), after: bool = False) -> Json:
+    def wait(self, place: tuple[int, int], window: Window = Window(), chosen: Sequence[Chosen] = ()) -> Json:
         """Return a wait, and what ran around it; see `View.wait`."""
-        changed = Explainer(self.strikes.waits).wait_with("end", *place) if after and self.strikes else None
+        changed = Explainer(self.without(chosen).waits).wait_with("end", *place) if chosen else None
         return self.again.strip(changed or self.again.teller.wait_at(*place), window, MOST)
 
     def strips(self, some: Waits, most: int) -> Iterator[tuple[tuple[int, int], Json]]:
@@ -412,9 +409,23 @@ def chosen_among(places: Places, events: Matches, count: int) -> NDArray[np.bool
     return mask
 
 
-def chosen_of(strikes: Sequence[tuple[str, str]]) -> list[Chosen]:
-    """Return the events that strikes name."""
-    return [Chosen(event, text if text.strip() else "") for event, text in strikes]
+def without(strikes: Strikes, ask: Callable[[list[Chosen]], Json]) -> Json:
+    """Return the answer of `ask`, which takes the events that strikes name, or why one of these can't be struck.
+
+    Raises
+    ------
+    ValueError
+        If no wait begins or ends with one of them.
+        It also raises what `ask` raises.
+    """
+    chosen = [Chosen(event, text if text.strip() else "") for event, text in strikes]
+    try:
+        check(chosen)
+    except Refused as refused:
+        number = getattr(refused, "which", 0)
+        event, text = strikes[number]
+        return {**refusal(refused, text, event), "strike": number}
+    return ask(chosen)
 
 
 # ---- plain data

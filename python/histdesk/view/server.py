@@ -20,6 +20,8 @@ from .script import Asked
 from .timeline import Window
 
 Json = Union[None, bool, int, float, str, list[Any], dict[str, Any]]
+# Arguments by name, each with its types.
+Arguments = dict[str, tuple[type[Any], ...]]
 
 HOST = "127.0.0.1"
 # The most bytes that a request's body may have.
@@ -68,7 +70,7 @@ class Ask(NamedTuple):
     """
 
     answer: Callable[..., Union[Json, bytes]]
-    takes: dict[str, tuple[type[Any], ...]]
+    takes: Arguments
 
 
 class Job:
@@ -322,9 +324,18 @@ def server_of(view: View, port: int) -> Server:
         If the port is taken.
     """
     optional = int, type(None)
+    strikes: Arguments = {"strikes": (list,)}
+    text: Arguments = {"recording": (int,), "event": (str,), "text": (str,), **strikes}
+    place: Arguments = {"recording": (int,), "cpu": (int,), "line": (int,), "from": optional, "until": optional, **strikes}
 
-    def wait(recording: int, cpu: int, line: int, after: bool | None = None, **window: int | None) -> Json:
-        return view.wait(recording, (cpu, line), Window(window.get("from"), window.get("until")), bool(after))
+    def wait(recording: int, cpu: int, line: int, strikes: list[Any], **window: int | None) -> Json:
+        return view.wait(recording, (cpu, line), Window(window.get("from"), window.get("until")), strikes_of(strikes))
+
+    def filter(recording: int, event: str, text: str, strikes: list[Any]) -> Json:
+        return view.filter(recording, event, text, strikes_of(strikes))
+
+    def trigger(recording: int, event: str, text: str, strikes: list[Any]) -> Json:
+        return view.trigger(recording, event, text, strikes_of(strikes))
 
     def script(recording: int, event: str, filter: str, trigger: str, strikes: list[Any]) -> Json:
         return view.script(recording, Asked(event, filter, trigger), strikes_of(strikes))
@@ -339,21 +350,11 @@ def server_of(view: View, port: int) -> Server:
         "waits.bin": Ask(view.waits, {"recording": (int,)}),
     }
     posts = {
-        "filter": Ask(view.filter, {"recording": (int,), "event": (str,), "text": (str,)}),
-        "script": Ask(script, {"recording": (int,), "event": (str,), "filter": (str,), "trigger": (str,), "strikes": (list,)}),
-        "strike": Ask(lambda strikes: view.strike(strikes_of(strikes)), {"strikes": (list,)}),
-        "trigger": Ask(view.trigger, {"recording": (int,), "event": (str,), "text": (str,)}),
-        "wait": Ask(
-            wait,
-            {
-                "recording": (int,),
-                "cpu": (int,),
-                "line": (int,),
-                "from": optional,
-                "until": optional,
-                "after": (bool, type(None)),
-            },
-        ),
+        "filter": Ask(filter, text),
+        "script": Ask(script, {"recording": (int,), "event": (str,), "filter": (str,), "trigger": (str,), **strikes}),
+        "strike": Ask(lambda strikes: view.strike(strikes_of(strikes)), strikes),
+        "trigger": Ask(trigger, text),
+        "wait": Ask(wait, place),
     }
     return Server(port, gets, posts)
 

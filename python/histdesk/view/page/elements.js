@@ -49,21 +49,22 @@ export function report(text, isError = false) {
   Object.assign(byId("status"), { textContent: text, className: isError ? "error" : "" });
 }
 
-// Reports what went wrong. `fetch` throws a `TypeError` if no server answers.
-export function reportFailure(error) {
-  const isGone = error instanceof TypeError && /fetch/i.test(error.message);
-  report(isGone ? "The server has ended: start tools/view again." : `This went wrong: ${error.message}`, true);
-}
-
 // Writes a message below a text box: why its text is refused, with a caret below the character where it is wrong, and what was
 // probably meant; or else a remark.
 export function explainBox(id, refusal = null, remark = "") {
-  const box = byId(id);
-  const message = byId(`${id}-message`);
-  box.setAttribute("aria-invalid", Boolean(refusal));
-  message.textContent = refusal ? withCaret(refusal) : remark;
-  message.title = refusal ? sentenceOf(refusal) : "";
+  const message = refusal ? withCaret(refusal) : remark;
+  markBox(id, Boolean(refusal), message, refusal ? sentenceOf(refusal) : "");
   if (refusal) speak(sentenceOf(refusal));
+}
+
+// Says below a text box that its text is not applied.
+export function rejectBox(id, why) {
+  markBox(id, true, `not applied: ${why}`, why);
+}
+
+function markBox(id, isInvalid, text, title) {
+  byId(id).setAttribute("aria-invalid", isInvalid);
+  Object.assign(byId(`${id}-message`), { textContent: text, title });
   alignMessage(id);
 }
 

@@ -1,9 +1,10 @@
 // One wait: what ran on each CPU from a bit before it began to a bit after it ended, who woke the task, and all that in words.
 
+import { Asker } from "./asker.js";
 import { clear, colour, drawTimes, fill, hatch, line, rem, within, write } from "./canvas.js";
 import { byId, element, speak, tip } from "./elements.js";
 import { duration, number } from "./numbers.js";
-import { latest, SAVED, sceneOf } from "./source.js";
+import { SAVED, sceneOf } from "./source.js";
 import { addPanel, after, redraw, state } from "./state.js";
 import { TimeAxis } from "./time_axis.js";
 
@@ -11,7 +12,8 @@ import { TimeAxis } from "./time_axis.js";
 const BEGINNINGS = { woken: "woke it", new: "forked it", preempted: "ran in its place" };
 
 export const lanes = {
-  // What the server says of the wait; null if there is none.
+  // The wait that was answered last, and what the server says of it; null if that is nothing.
+  answered: null,
   scene: null,
   // What is drawn where, for the pointer.
   boxes: [],
@@ -23,25 +25,41 @@ export const lanes = {
     addPanel("wait", this);
     this.canvas = byId("lanes");
     this.axis = new TimeAxis(this, this.canvas);
-    this.refine = latest(() => this.askMore());
-    const explain = latest(async (wait) => this.show(wait, await sceneOf(wait)));
+    this.asker = new Asker("what ran during this wait", ["wait"], (wait) => this.explain(wait));
+    this.moreAsker = new Asker("more of what ran", ["wait"], () => this.askMore());
     after("wait", () => {
-      byId("wait-empty").textContent = "asking what ran meanwhile …";
-      explain(state.wait);
+      byId("wait-empty").textContent = "";
+      this.asker.ask(state.wait);
     });
   },
 
   changed() {
     redraw("wait");
-    if (this.scene && !SAVED) this.refine();
+    if (this.scene && !SAVED) this.moreAsker.ask();
   },
 
-  show(wait, scene) {
-    this.scene = scene.refused ? null : { ...scene, wait };
-    for (const id of ["lanes", "wait-text"]) byId(id).hidden = !this.scene;
-    Object.assign(byId("wait-empty"), { hidden: this.scene, textContent: scene.refused || "" });
+  // Shows what ran during a wait; if there is no answer, nothing, since what was shown is about another wait.
+  async explain(wait) {
+    try {
+      this.show(wait, await sceneOf(wait));
+    } catch (error) {
+      this.setScene(null, null, "");
+      byId("view-title").textContent = "";
+      throw error;
+    }
+  },
+
+  setScene(wait, scene, whyNone) {
+    Object.assign(this, { answered: wait, scene });
+    for (const id of ["lanes", "wait-text"]) byId(id).hidden = !scene;
+    Object.assign(byId("wait-empty"), { hidden: Boolean(scene), textContent: whyNone });
+  },
+
+  show(wait, { refused, ...scene }) {
+    this.setScene(wait, refused ? null : { ...scene, wait }, refused || "");
     redraw("wait");
-    speak(this.scene ? this.title() : scene.refused);
+    this.moreAsker.set({ error: null });
+    speak(this.scene ? this.title() : refused);
     if (!this.scene) return;
     const { first, last } = state.recordings[wait.recording].about;
     this.axis.set(...[first, last, scene.from, scene.until].map((at) => at - scene.begin));
@@ -93,6 +111,7 @@ export const lanes = {
 
   draw() {
     byId("view-title").textContent = "";
+    if (state.wait && this.answered !== state.wait && !this.asker.isBusy) this.asker.ask(state.wait);
     if (!this.scene) return;
     const { context, width, height } = clear(this.canvas);
     const { scene, axis } = this;
@@ -125,6 +144,7 @@ export const lanes = {
     const { wait, cut, thin, cpus } = this.scene;
     const { about } = state.recordings[wait.recording];
     const notes = [];
+    if (wait.strikes.length) notes.push("This is the wait without the struck events.");
     if (cpus.length < about.cpus.length) notes.push("The wait is so long that only its own CPUs are shown.");
     if (cut) notes.push("Only the time around the wait is shown: there are too many events.");
     if (thin) notes.push(`Grey stands for many short runs${SAVED ? "" : ": zoom in to see them"}.`);

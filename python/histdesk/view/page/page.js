@@ -1,7 +1,8 @@
 // The page: it asks for the recordings, and starts the panels and what listens to clicks and keys.
 
+import { Asker } from "./asker.js";
 import { forgetStyles } from "./canvas.js";
-import { alignMessage, all, byId, element, handleKey, report, reportFailure } from "./elements.js";
+import { alignMessage, all, byId, element, handleKey, report } from "./elements.js";
 import { histogram } from "./histogram.js";
 import { goTo, KEYS, listenToKeys } from "./keys.js";
 import { lanes } from "./lanes.js";
@@ -111,10 +112,6 @@ async function begin() {
   regroup();
   strikes.start();
   document.body.classList.add("ready");
-  if (!isTwo) return;
-  const { rows } = SAVED ? SAVED.differences : await ask("differences");
-  strikes.differences = rows;
-  strikes.showRows(rows);
 }
 
-begin().catch(reportFailure);
+new Asker("the recordings", ["main"], begin).ask();

@@ -1,6 +1,7 @@
 // Where answers come from: the server of tools/view or, in a saved page, the data in it.
 
-import { byId, reportFailure } from "./elements.js";
+import { hearServer, NoAnswer } from "./asker.js";
+import { byId } from "./elements.js";
 
 const data = byId("saved");
 // The data of a saved page; null if a server answers.
@@ -15,10 +16,18 @@ export async function ask(path, body) {
     headers: { "Content-Type": "application/json" },
     body: JSON.stringify(body),
   };
-  const answer = await fetch(path, options);
-  if (answer.ok) return path.startsWith("waits.bin") ? answer.arrayBuffer() : answer.json();
-  const { error } = await answer.json().catch(() => ({}));
+  const answer = await fetch(path, options).catch(throwNoAnswer);
+  hearServer();
+  if (answer.ok) return path.startsWith("waits.bin") ? answer.arrayBuffer().catch(throwNoAnswer) : contentOf(answer);
+  const { error } = await contentOf(answer).catch(() => ({}));
   throw new Error(error || `${answer.status} ${answer.statusText}`);
+}
+
+// An answer that breaks off is none.
+const contentOf = async (answer) => JSON.parse(await answer.text().catch(throwNoAnswer));
+
+function throwNoAnswer() {
+  throw new NoAnswer();
 }
 
 export function decodeBase64(text) {
@@ -41,8 +50,8 @@ export const columnsOf = (recording) =>
   SAVED ? unzip(SAVED.waits[recording]) : ask(`waits.bin?recording=${recording}`);
 
 // What ran during a wait and around it; or between the stamps of a window.
-export async function sceneOf({ recording, cpu, line, after }, window) {
-  if (!SAVED) return ask("wait", { recording, cpu, line, ...window, ...(after && { after }) });
+export async function sceneOf({ recording, cpu, line, strikes }, window) {
+  if (!SAVED) return ask("wait", { recording, cpu, line, ...window, strikes });
   scenes[recording] ??= JSON.parse(new TextDecoder().decode(await unzip(SAVED.scenes[recording])));
   const refused = `This file has what ran during its longest waits only. For any other wait, run ${SAVED.about.command}`;
   return scenes[recording][`${cpu}:${line}`] || { refused };
@@ -52,22 +61,4 @@ export async function sceneOf({ recording, cpu, line, after }, window) {
 export async function overviewOf({ recording, from, until, width }) {
   if (SAVED) return JSON.parse(new TextDecoder().decode(await unzip(SAVED.overviews[recording])));
   return ask(`overview?recording=${recording}&from=${from}&until=${until}&width=${width}`);
-}
-
-// A function that does one piece of work at a time; of the calls that come meanwhile, only the newest waits, so that typing is
-// never far ahead of the answers.
-export function latest(work) {
-  let isBusy = false;
-  let next = null;
-  return async (...args) => {
-    next = args;
-    if (isBusy) return;
-    isBusy = true;
-    while (next) {
-      const now = next;
-      next = null;
-      await work(...now).catch(reportFailure);
-    }
-    isBusy = false;
-  };
 }

@@ -12,7 +12,9 @@ export const state = {
   schema: null,
   // For each recording, its `waits` and what is known `about` it.
   recordings: [],
-  // The waits that are new after strikes; null without strikes.
+  // The strikes that were answered, each an event and the text of a filter, and the waits that are new after them; null without
+  // strikes.
+  struck: [],
   fresh: null,
   // What is compared: the recordings, or the waits before and after strikes; and which of these is listed.
   sides: [],
@@ -26,6 +28,7 @@ export const state = {
   group: null,
   // The wait that is explained.
   wait: null,
+  // The strikes that are wanted.
   strikes: [],
   // The filter that the counted waits pass, and the event to which it applies.
   filter: "",
@@ -122,17 +125,19 @@ export function showSide(at) {
 }
 
 // Takes over the waits after strikes from the server's answer, and applies the filter to the new ones.
-export async function applyStrikes({ struck, changed }) {
+export async function applyStrikes(strikes, { changed }) {
   const [{ waits, about }] = state.recordings;
   const { filter: text, event } = state;
+  const fresh = strikes.length ? new Waits(decodeBase64(changed.new).buffer, changed.count) : null;
+  if (fresh && text) {
+    const { new: mask } = await ask("filter", { recording: 0, event, text, strikes });
+    fresh.passes = decodeMask(mask, fresh.count);
+  }
   Object.assign(about.tasks, changed.tasks);
-  const fresh = struck.length ? new Waits(decodeBase64(changed.new).buffer, changed.count) : null;
-  if (fresh && text) fresh.passes = decodeMask((await ask("filter", { recording: 0, event, text })).new, fresh.count);
   waits.strikes.fill(0);
   if (fresh) for (const index of new Uint32Array(decodeBase64(changed.taken).buffer)) waits.strikes[index] = 1;
-  state.fresh = fresh;
+  Object.assign(state, { struck: strikes, fresh });
   arrange();
-  if (state.filter !== text || state.event !== event) announce("filter");
 }
 
 // ---- what is chosen
@@ -149,6 +154,7 @@ export function chooseWait(at) {
   if (at === null) return;
   const one = side();
   const value = (column) => one.value(column, at);
+  const isFresh = at >= one.parts[0].count;
   state.wait = {
     recording: one.recording,
     cpu: value("endCpu"),
@@ -159,7 +165,7 @@ export function chooseWait(at) {
     kind: kindName(value("kind")),
     micros: value("micros"),
     end: one.end(at),
-    after: at >= one.parts[0].count,
+    strikes: isFresh ? state.struck : [],
   };
   openTab("wait");
   announce("wait");

@@ -1,14 +1,17 @@
-// What the waits would be without some events: what can be ticked, what is struck, and which rows that changes.
+// The waits without some events: what can be ticked, what is struck, and which rows that changes.
 
+import { Asker, inTurn } from "./asker.js";
 import { all, byId, element, explainBox, report, sentenceOf, speak } from "./elements.js";
 import { number, plural } from "./numbers.js";
-import { ask, latest, SAVED } from "./source.js";
+import { ask, SAVED } from "./source.js";
 import { applyStrikes, nameOf, state } from "./state.js";
 
 // How many rows are shown at most, and how many tasks can be ticked at most.
 const ROWS = 100;
 const TASKS = 300;
 const FIGURES = ["count", "p50", "p99", "max"];
+// What shows the waits without some events.
+const PANELS = ["strike", "histogram", "worst", "time"];
 // Tasks that handle interrupts.
 const HANDLERS = /^(irq\/|ksoftirqd)/;
 
@@ -16,12 +19,15 @@ export const strikes = {
   // What can be ticked: sections by title, and filters that were typed.
   sections: [],
   own: [],
-  // The strikes before each change, for undo; and how many events each current strike has.
+  // The strikes before each change, for undo; what these were when strikes were answered last; and how many events each of the
+  // answered strikes has.
   history: [],
+  answered: [],
   counts: [],
-  // The texts of the rows that differ, by their keys; the rows that differ without strikes; and all rows, for sorting.
+  // The texts of the rows that differ, by their keys; the rows that differ without strikes, null if they are not known; and all
+  // rows, for sorting.
   rowTexts: new Map(),
-  differences: [],
+  differences: null,
   rows: [],
 
   start() {
@@ -33,18 +39,35 @@ export const strikes = {
     for (const head of all("[data-change]")) {
       head.addEventListener("click", () => this.showRows(this.rows, head.dataset.change));
     }
-    this.send = latest((list) => this.strike(list));
-    if (SAVED) byId("rows-empty").textContent = `To see the waits without some wakings, run ${SAVED.about.command}`;
+    const work = (list, history) => inTurn(() => this.strike(list, history));
+    this.asker = new Asker("the waits without these events", PANELS, work, () => this.takeBack());
+    this.differenceAsker = new Asker("what differs", ["strike"], () => this.compare());
+    if (SAVED) byId("rows-empty").textContent = `To leave events out, run ${SAVED.about.command}`;
     else this.offer();
+    if (state.recordings.length > 1) this.differenceAsker.ask();
   },
 
-  async strike(list) {
+  async strike(list, history) {
     const answer = await ask("strike", { strikes: list });
     if (answer.refused) return this.refuse(list, answer);
-    this.counts = answer.struck;
-    await applyStrikes(answer);
-    this.showRows(list.length ? answer.rows : this.differences);
+    await applyStrikes(list, answer);
+    Object.assign(this, { answered: history, counts: answer.struck });
+    this.showRows(list.length ? answer.rows : this.differences ?? []);
+    if (!list.length && !this.differences && state.recordings.length > 1) this.differenceAsker.ask();
     return speak(this.summary());
+  },
+
+  // Shows the strikes that were answered last, since those after them have no answer.
+  takeBack() {
+    state.strikes = state.struck;
+    this.history = [...this.answered];
+    this.check();
+  },
+
+  // Shows how two recordings differ, unless something is struck.
+  async compare() {
+    this.differences ??= (SAVED ? SAVED.differences : await ask("differences")).rows;
+    if (!state.struck.length) this.showRows(this.differences);
   },
 
   // Offers wakings of the tasks with most waits, those by interrupts, and those on each CPU.
@@ -93,14 +116,15 @@ export const strikes = {
     return element("label", { title: `strike ${key}` }, input, title, element("span"));
   },
 
-  // Ticks what is struck, and shows how many events each strike has.
+  // Ticks what is to be struck, and shows how many events each strike has.
   check() {
-    const counts = new Map(state.strikes.map((one, at) => [this.key(one), this.counts[at]]));
+    const wanted = new Set(state.strikes.map((one) => this.key(one)));
+    const counts = new Map(state.struck.map((one, at) => [this.key(one), this.counts[at]]));
     for (const input of byId("ticks").querySelectorAll("input")) {
       const count = counts.get(input.dataset.strike);
       const text = count === undefined ? "" : number(count);
       const { lastChild } = input.parentElement;
-      input.checked = counts.has(input.dataset.strike);
+      input.checked = wanted.has(input.dataset.strike);
       if (lastChild.textContent !== text) lastChild.textContent = text;
     }
     // A button that is focused and gets disabled would lose the focus to nothing.
@@ -115,7 +139,7 @@ export const strikes = {
     const rows = this.rowTexts.size;
     const most = rows > ROWS ? `, ${ROWS} shown` : "";
     const differences = `${plural(rows, "row")} differ${rows === 1 ? "s" : ""}${most}`;
-    if (!state.strikes.length) return rows ? differences : "";
+    if (!state.struck.length) return rows ? differences : "";
     const of = recordings.length > 1 ? ` of ${nameOf(recordings[0].about.path)}` : "";
     return `${plural(count, "event")}${of} struck, ${differences}`;
   },
@@ -136,7 +160,7 @@ export const strikes = {
 
   set(list) {
     state.strikes = list;
-    this.send(list);
+    this.asker.ask(list, [...this.history]);
   },
 
   undo() {
@@ -161,10 +185,10 @@ export const strikes = {
     this.rows = rows.sort((one, other) => change(other) - change(one));
     this.rowTexts = new Map(rows.map((row) => [keyOf(row), JSON.stringify([row.before, row.after])]));
     for (const head of all("[data-change]")) head.ariaSort = head.dataset.change === by ? "descending" : "none";
-    const isNew = (row) => state.strikes.length && before.get(keyOf(row)) !== this.rowTexts.get(keyOf(row));
+    const isNew = (row) => state.struck.length && before.get(keyOf(row)) !== this.rowTexts.get(keyOf(row));
     byId("rows").tBodies[0].replaceChildren(...rows.slice(0, ROWS).map((row) => rowOf(row, isNew(row))));
     byId("rows").hidden = !rows.length;
-    const none = state.strikes.length ? "Without these events the waits are the same." : "Nothing is struck.";
+    const none = state.struck.length ? "Without these events the waits are the same." : "Nothing is struck.";
     Object.assign(byId("rows-empty"), { hidden: rows.length > 0, textContent: none });
     this.check();
   },

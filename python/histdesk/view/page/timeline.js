@@ -1,10 +1,11 @@
 // All CPUs over time: what each ran, where it idled though a task waited for a processor, and how many tasks waited.
 
+import { Asker } from "./asker.js";
 import { clear, colour, drawTimes, fill, hatch, line, rem, rgb, within, write } from "./canvas.js";
 import { byId, element, report, speak, tip } from "./elements.js";
 import { duration, number, plural, stamp } from "./numbers.js";
 import { IDLE, Overview, WHOLE } from "./overview.js";
-import { latest, overviewOf, SAVED } from "./source.js";
+import { overviewOf, SAVED } from "./source.js";
 import { addPanel, after, chooseWait, openTab, redraw, side, state } from "./state.js";
 import { TimeAxis } from "./time_axis.js";
 
@@ -26,7 +27,7 @@ const STREW = 0x9e3779b1;
 const colourNumber = (pid) => (Math.imul(pid, STREW) >>> 8) % COLOURS;
 
 export const timeline = {
-  // The server's last answer, the last question, and the pictures that are made of the answer.
+  // The server's last answer, the question that was asked last, and the pictures that are made of the answer.
   overview: null,
   question: "",
   pictures: null,
@@ -42,7 +43,8 @@ export const timeline = {
     // The table takes its room from the picture.
     byId("timeline-list").addEventListener("toggle", () => redraw("timeline"));
     for (const change of ["question", "wait"]) after(change, () => this.showButton());
-    this.ask = latest(async (question) => this.take(question, await overviewOf(question)));
+    const work = async (question) => this.take(question, await overviewOf(question));
+    this.asker = new Asker("what each CPU ran", ["timeline"], work);
   },
 
   changed() {
@@ -67,16 +69,16 @@ export const timeline = {
     redraw("timeline");
   },
 
-  // Asks for what is in sight, unless that was asked for last. A saved page has one answer.
+  // Asks for what is in sight, unless that was asked for last and was answered, or will be. A saved page has one answer.
   update() {
     const { about, recording } = side();
     const { axis } = this;
     const width = Math.min(Math.round(axis.width * (window.devicePixelRatio || 1)), WIDEST);
     const [from, until] = SAVED ? [about.first, about.last] : [axis.low, axis.high].map((at) => about.first + Math.round(at));
     const question = { recording, from, until: Math.max(until, from + 1), width: SAVED ? 0 : Math.max(width, 1) };
-    if (this.question === JSON.stringify(question)) return;
+    if (this.question === JSON.stringify(question) && !this.asker.error) return;
     this.question = JSON.stringify(question);
-    this.ask(question);
+    this.asker.ask(question);
   },
 
   draw() {
@@ -94,7 +96,7 @@ export const timeline = {
     Object.assign(this, { top: 0.3 * unit, height: height - queue - 2.6 * unit, queue });
     if (about.first === null) return write(context, "This recording has no event.", width / 2, height / 2, "center");
     this.update();
-    byId("view-title").textContent = this.overview ? this.title + this.remark() : "reading what each CPU ran …";
+    byId("view-title").textContent = this.overview ? this.title + this.remark() : "";
     if (this.overview?.width) this.drawAll(context, unit);
     context.strokeStyle = colour("grid");
     return drawTimes(context, axis, height - 1.7 * unit);
