@@ -1,5 +1,5 @@
 -- Lists of events that come to what is kept or go from it: those on one trigger's name, those of new lanes, and those of a lane.
-use Rattle.std.proofs.Common.{subst, ◌≡◌, ◌+◌, ◌<◌, ℕ, List, ◌∷◌, drop, get_or, length, sym, ap, ◌∙◌, Bool, true, false, cond, [], refl, Option, Some, None, is_some, unwrap_or, ⊎_elim, option_map}
+use Rattle.std.proofs.Common.{subst, ◌≡◌, ◌+◌, ◌<◌, ℕ, List, ◌∷◌, ◌++◌, drop, get_or, length, sym, ap, ◌∙◌, Bool, true, false, cond, [], refl, Option, Some, None, is_some, unwrap_or, ⊎_elim, option_map}
 use Rattle.std.specs.Prelude.{◌&&◌, option_and_then, option_map, if◌then◌else◌, IsPermutation, ◌||◌, not, map as list_map}
 use Rattle.std.specs.List.{IsDistinct, list_any, AllByRecursion, sum_by}
 use Rattle.std.specs.FinMap as map
@@ -10,7 +10,7 @@ use Rattle.std.specs.declared.cmp.Ordering.TheVariants.{Less}
 use Rattle.std.proofs.lemmas.List.{drop_more, length-map}
 use Rattle.std.proofs.lemmas.Bool.{false_from_ne_true, cases_Bool, eqb-true, or_parts, true≢false}
 use Rattle.std.proofs.lemmas.List.Elements.{All-from_recursion, recursion_from_All}
-use Rattle.std.proofs.lemmas.List.Sorted.{All-permutation, IsPermutation-map}
+use Rattle.std.proofs.lemmas.List.Sorted.{All-permutation, IsPermutation-map, sum_by-IsPermutation}
 use Rattle.std.proofs.lemmas.Map.Entries.{option_filter}
 use Rattle.std.proofs.lemmas.Map.Keys.{IsDistinct-from_sorted, IsDistinct-IsPermutation, sorted_head, sorted_tail}
 use Rattle.std.proofs.lemmas.List.Sums.{sum_by-cons}
@@ -29,6 +29,10 @@ use Rattle.ft_replay.proofs.Choosing.{get-chosen}
 use Rattle.ft_replay.proofs.Naming.{named_all}
 use Rattle.ft_repair.specs.declared.triggers.Member.{Member}
 use Rattle.ft_repair.specs.inner.Joining.{CanMove, own_after, own_before, is_one, with_acts}
+use Rattle.ft_repair.specs.inner.Going.{HasItsLane, lane_events}
+use Rattle.ft_lanes.proofs.Counts.{remove_none}
+use Rattle.ft_replay.specs.Costs.{count_on_lane}
+use Rattle.std.specs.Option.{option_map_or}
 use Rattle.ft_repair.proofs.Alike.{never_any}
 use Rattle.ft_repair.proofs.Changing.{IsChanging, changing_all, none_left, next_of, Changes, changing_none}
 use Rattle.ft_repair.proofs.KeptFor.{act_in, acts_held, AllHeld, held_is, merged_held, no_hit, acts_alike, for_kept, kept_for, plain_shelf}
@@ -423,6 +427,63 @@ module _ (triggers : Triggers) (lanes : Lanes) (cpu : ℕ) where
         (lines_apart cpu (map.entries lane.events) sorted)
         (λ at none. acts_alike triggers (merged lanes) (merged others) at (same_there at.pos none))
 
+module _ (triggers : Triggers) (lanes : Lanes) (cpu : ℕ) where
+  -- some events of the lane are left
+  abbrev pub AreGoing : List (Pos × Traced) → Shelves → Type 0
+  AreGoing = AreMoving triggers lanes Retract (merged lanes) (merged (others triggers lanes cpu))
+
+  -- events of which each goes, and with which the lane goes
+  record AreItsEvents (es : List (Pos × Traced)) : Type 0 where
+    pub each : AllByRecursion (Moves triggers lanes Retract (merged lanes) (merged (others triggers lanes cpu))) es
+    pub own : AllByRecursion (λ e. e.0.cpu ≡ cpu) es
+    pub apart : IsDistinct (eq_by_cmp pos_cmp) (keys_of es)
+    pub same : (q : Pos) → find pos_cmp q es ≡ None → map.get (merged lanes) q ≡ map.get (merged (others triggers lanes cpu)) q
+
+  all_own : (lines : List (ℕ × Traced)) → AllByRecursion (λ e. e.0.cpu ≡ cpu) (placed cpu lines)
+  all_own [] = tt
+  all_own (e ∷ lines) = (refl, all_own lines)
+
+  in_order : (held : Option Lane) → map.get lanes cpu ≡ held → AreItsEvents (option_map_or (λ (lane : Lane). placed cpu (map.entries lane.events)) held [])
+  unfolding IsDistinct
+  in_order None none = record { each = tt; own = tt; apart = tt; same = λ q _. ap (λ (l : Lanes). map.get (merged l) q) (sym (remove_none lanes cpu none)) }
+  in_order (Some lane) there = record {
+    each = all_placed cpu _ (map.entries lane.events) (all_map _ _ (line_goes triggers lanes cpu lane there) (map.entries lane.events) (entries_found nat_cmp nat_cmp_total lane.events));
+    own = all_own (map.entries lane.events);
+    apart = lines_apart cpu (map.entries lane.events) (sorted triggers lanes cpu lane there);
+    same = same_there triggers lanes cpu lane there;
+  }
+
+  moved_each : (P : Pos × Traced → Type 0) (es fs : List (Pos × Traced)) → IsPermutation es fs → AllByRecursion P es → AllByRecursion P fs
+  moved_each P es fs moved each = recursion_from_All _ fs (All-permutation P es fs moved (All-from_recursion _ es each))
+
+  module _ (es : List (Pos × Traced)) (moved : HasItsLane lanes cpu es) where
+    its : AreItsEvents (lane_events lanes cpu)
+    its = in_order (map.get lanes cpu) refl
+
+    all_apart : IsDistinct (eq_by_cmp pos_cmp) (keys_of es)
+    all_apart = IsDistinct-IsPermutation (eq_by_cmp pos_cmp) (eq_by_cmp_equiv pos_cmp_total).symm (keys_of (lane_events lanes cpu)) (keys_of es) (IsPermutation-map (λ e. e.0) (lane_events lanes cpu) es moved) its.apart
+
+    -- all are its own
+    pub listed_own : AllByRecursion (λ e. e.0.cpu ≡ cpu) es
+    listed_own = moved_each _ (lane_events lanes cpu) es moved its.own
+
+    -- first all are left, in whatever order
+    pub going_listed : HasSavers triggers → (shelves : Shelves) → AreKept triggers (merged lanes) shelves → AreGoing es shelves
+    going_listed savers = events_all triggers lanes Retract (merged lanes) (merged (others triggers lanes cpu)) savers (merged_held lanes) es
+        (moved_each _ (lane_events lanes cpu) es moved its.each)
+        all_apart
+        (λ at none. acts_alike triggers (merged lanes) (merged (others triggers lanes cpu)) at
+        (its.same at.pos (find-moved pos_cmp_total pos_same at.pos (lane_events lanes cpu) es moved its.apart all_apart ∙ none)))
+
+-- if a base's lane is of plain hits, so is the next of its events
+pub event_plain : (base : Base) {triggers : Triggers} {lanes : Lanes} → triggers ≡ base.triggers → lanes ≡ base.lanes → (cpu : ℕ) {es rest : List (Pos × Traced)} {e : Pos × Traced} {shelves : Shelves}
+    → es ≡ e ∷ rest → AreGoing triggers lanes cpu es shelves → AllByRecursion (λ x. x.0.cpu ≡ cpu) es → IsPlainLane base.triggers base.lanes cpu → memory.AllActPlainly triggers shelves e.1
+event_plain base {triggers} {lanes} own all cpu {e = e} {shelves = shelves} more going its plain id hist attached key hits =
+    let is = next_of more going in
+    let here = subst (λ (held : Triggers × Lanes). IsPlainLane held.0 held.1 cpu) (λ i. (sym own i, sym all i)) plain in
+    let same : e.0.cpu ≡ cpu = (subst (AllByRecursion (λ (x : Pos × Traced). x.0.cpu ≡ cpu)) more its).0 in
+    plain_shelf triggers shelves is.kept.each id hist attached (here e.0.line e.1 (subst (λ (c : ℕ). event_at lanes c e.0.line ≡ Some e.1) same is.changes.0.held.0) id hist attached key hits)
+
 -- if a base's lane is of plain hits, so is its next event
 pub line_plain : (base : Base) {triggers : Triggers} {lanes : Lanes} → triggers ≡ base.triggers → lanes ≡ base.lanes → (cpu : ℕ) {lines rest : List (ℕ × Traced)} {e : ℕ × Traced} {shelves : Shelves}
     → lines ≡ e ∷ rest → IsGoing triggers lanes cpu lines shelves → IsPlainLane base.triggers base.lanes cpu → memory.AllActPlainly triggers shelves e.1
@@ -447,6 +508,20 @@ pub its_lines : (held : Option Lane) (lines : List (ℕ × Traced)) → Some lin
 its_lines None lines is = absurd cc
 its_lines (Some lane) lines is = (lane, (refl, ap (λ (o : Option (List (ℕ × Traced))). unwrap_or o lines) is))
 
+pub no_lines_listed : (lanes : Lanes) (cpu : ℕ) → None ≡ lines_of (map.get lanes cpu) → [] ≡ lane_events lanes cpu
+no_lines_listed lanes cpu is = sym (ap (λ (o : Option Lane). option_map_or (λ (lane : Lane). placed cpu (map.entries lane.events)) o []) (no_lines (map.get lanes cpu) is))
+
+pub lines_listed : (lanes : Lanes) (cpu : ℕ) (lines : List (ℕ × Traced)) → Some lines ≡ lines_of (map.get lanes cpu) → placed cpu lines ≡ lane_events lanes cpu
+lines_listed lanes cpu lines is =
+    let its = its_lines (map.get lanes cpu) lines is in
+    ap (placed cpu) its.1.1 ∙ sym (ap (λ (o : Option Lane). option_map_or (λ (lane : Lane). placed cpu (map.entries lane.events)) o []) its.1.0)
+
+-- one more of them, with its place
+pub listed_more : (cpu : ℕ) (es : List (Pos × Stored)) (line : ℕ) (stored : Stored) (stamp : ℕ) (rest : List (ℕ × Traced)) → stamp ≡ (held stored).stamp
+    → (entries_by held (es ++ (record { stamp = stamp; cpu = cpu; line = line }, stored) ∷ []) ++ placed cpu rest) ≡ (entries_by held es ++ placed cpu ((line, held stored) ∷ rest))
+listed_more cpu [] line stored stamp rest is = ap (λ (s : ℕ). (record { stamp = s; cpu = cpu; line = line }, held stored) ∷ placed cpu rest) is
+listed_more cpu (e ∷ es) line stored stamp rest is = ap (λ (l : List (Pos × Traced)). (e.0, held e.1) ∷ l) (listed_more cpu es line stored stamp rest is)
+
 -- ---- what it costs
 
 -- how many triggers are on the name of each of some events, taken together
@@ -456,6 +531,20 @@ count_events triggers events = sum_by (λ entry. count_on triggers entry.1) even
 -- those of the first are counted with those of the rest
 pub counted : {K : Type 0} (triggers : Triggers) {es rest : List (K × Traced)} {e : K × Traced} → es ≡ e ∷ rest → count_events triggers es ≡ count_on triggers e.1 + count_events triggers rest
 counted {K} triggers {rest = rest} {e = e} more = ap (count_events triggers) more ∙ sum_by-cons (λ (entry : K × Traced). count_on triggers entry.1) e rest
+
+counts_placed : (triggers : Triggers) (cpu : ℕ) (lines : List (ℕ × Traced)) → count_events triggers (placed cpu lines) ≡ count_events triggers lines
+counts_placed triggers cpu [] = refl
+counts_placed triggers cpu (e ∷ lines) =
+    counted triggers {es = placed cpu (e ∷ lines)} {rest = placed cpu lines} {e = (place_of cpu e, e.1)} refl
+    ∙ ap (λ n. count_on triggers e.1 + n) (counts_placed triggers cpu lines)
+    ∙ sym (counted triggers {es = e ∷ lines} {rest = lines} {e = e} refl)
+
+-- those of a lane, in whatever order
+pub lane_counts : (triggers : Triggers) (lanes : Lanes) (cpu : ℕ) (lane : Lane) → map.get lanes cpu ≡ Some lane → (es : List (Pos × Traced)) → HasItsLane lanes cpu es → count_events triggers es ≡ count_on_lane triggers lane
+lane_counts triggers lanes cpu lane there es moved =
+    sum_by-IsPermutation (λ entry. count_on triggers entry.1) (lane_events lanes cpu) es moved
+    ∙ ap (λ (o : Option Lane). count_events triggers (option_map_or (λ (l : Lane). placed cpu (map.entries l.events)) o [])) there
+    ∙ counts_placed triggers cpu (map.entries lane.events)
 
 -- ---- what was held before a load
 

@@ -1,5 +1,6 @@
 -- What holds of tables that a repair left.
-use Rattle.std.proofs.Common.{◌≡◌, false, refl, sym, ap, ◌∙◌, Option, Some, None, subst}
+use Rattle.std.proofs.Common.{◌≡◌, Bool, true, false, refl, sym, ap, ◌∙◌, Option, Some, None, Ok, Err, Result, subst}
+use Rattle.std.specs.declared.alloc.AllocError.{AllocError}
 use Rattle.std.specs.Option.{IfSome, is_none}
 use Rattle.ft_kept.specs.Shelves.{Shelves}
 
@@ -14,3 +15,8 @@ if_there P tables old was = subst (λ (o : Option Shelves). IfSome o P) was
 
 pub there_if : (P : Shelves → Type 0) (tables : Shelves) (old : Option Shelves) → Some tables ≡ old → IfSome old P → P tables
 there_if P tables old was = subst (λ (o : Option Shelves). IfSome o P) (sym was)
+
+-- whether a call went through
+abbrev pub went : Result (Unit {0}) AllocError → Bool
+went (Ok done) = true
+went (Err fault) = false

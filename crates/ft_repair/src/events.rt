@@ -1,18 +1,16 @@
-//! Tables to which held events come, or from which they go: one event, those of new lanes, or those
-//! of a lane. What is kept of the others is repaired.
+//! Tables to which held events come: one event, which may also go, or those of new lanes. What is kept
+//! of the others is repaired.
 
-ghost use Rattle.std.specs.Prelude.{◌≡◌, ◌+◌, ◌≤◌, length, nat_lt, is_some, None, Some, IfOk, IfSome};
+ghost use Rattle.std.specs.Prelude.{◌≡◌, ◌+◌, ◌≤◌, length, nat_lt, is_some, None, IfOk, IfSome};
 ghost use Rattle.std.specs.FinMap as map;
 ghost use Rattle.ft_hist.specs.Steps.{StepsGrow};
 ghost use Rattle.ft_kept.specs.Changes.{HasToldFew, ReadingsTold};
 ghost use Rattle.ft_kept.specs.Repairs.{IsHeldAt};
 ghost use Rattle.ft_kept.specs.Shelves.{FormsStay};
 ghost use Rattle.ft_kept.specs.Views.{triggers_of};
-ghost use Rattle.ft_lanes.specs.Held.{Lane, held_in};
+ghost use Rattle.ft_lanes.specs.Held.{held_in};
 ghost use Rattle.ft_base.specs.Reachable.{HasSavers};
-ghost use Rattle.ft_replay.specs.Costs.{count_on_lane};
-ghost use Rattle.ft_base.specs.PlainHits.{IsPlainHit, IsPlainLane};
-ghost use Rattle.ft_repair.specs.ButOneLane.{AreKeptWithoutLane};
+ghost use Rattle.ft_base.specs.PlainHits.{IsPlainHit};
 ghost use Rattle.ft_repair.specs.KeptShelves.{AreKeptOf};
 ghost use Rattle.ft_repair.specs.OneEvent.{AreKeptBefore, AreKeptAfter, ChangeCosts, EventNeedsNoMemory};
 ghost use Rattle.ft_repair.specs.Repaired.{IfBoth};
@@ -128,53 +126,6 @@ pub fn let_lanes_come(
     for &(pos, stored) in &events {
         let event = &stored.event();
         let delta = Delta { sign, pos, event };
-        if let Err(_) = tables.apply(&scene, &delta, changes, work) {
-            return;
-        }
-    }
-    *kept = Some(tables);
-}
-
-/// The events of a CPU's lane, which is still held, go from the tables, in order of their lines, and
-/// what that changes is recorded. If memory runs out, the tables are given up; events that are hits of
-/// only triggers without a variable take none, and change no reading.
-pub fn let_lane_go(
-    kept: &mut Option<Tables>,
-    content: &Content,
-    cpu: u16,
-    changes: &mut Changes,
-    work: &mut Work,
-)
-    requires { IfSome kept.old (AreKeptOf content.now) }
-    ensures kept { IfSome kept.new (AreKeptWithoutLane content.now cpu) }
-    ensures deferred { kept.old ≡ None → kept.new ≡ None }
-    ensures forms { IfBoth FormsStay kept.old kept.new }
-    ensures reread { IfBoth (ReadingsTold changes.old.readings changes.new.readings)
-        kept.old kept.new }
-    ensures quiet { IsPlainLane content.now.triggers content.now.lanes cpu
-        → changes.new.readings ≡ changes.old.readings }
-    ensures now { IsPlainLane content.now.triggers content.now.lanes cpu
-        → kept.new ≡ None → kept.old ≡ None }
-    ensures evals { (lane : Lane) → map.get content.now.lanes cpu ≡ Some lane
-        → work.new.evals ≤ work.old.evals + count_on_lane content.now.triggers lane }
-    ensures grow { StepsGrow work.old work.new }
-{
-    let Some(mut tables) = kept.take() else {
-        return;
-    };
-    let scene = scene_of(content);
-    let Some(lines) = scene.lanes.lane(cpu) else {
-        *kept = Some(tables);
-        return;
-    };
-    for (line, stored) in lines {
-        let event = stored.event();
-        let stamp = event.stamp;
-        let delta = Delta {
-            sign: Sign::Retract,
-            pos: Pos { stamp, cpu, line },
-            event: &event,
-        };
         if let Err(_) = tables.apply(&scene, &delta, changes, work) {
             return;
         }

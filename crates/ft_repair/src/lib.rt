@@ -33,9 +33,11 @@
 #![tactic(auto)]
 
 mod events;
+mod lane;
 pub mod laws;
 mod triggers;
 
-pub use events::{cpus_before, let_change, let_lane_go, let_lanes_come};
+pub use events::{cpus_before, let_change, let_lanes_come};
+pub use lane::let_lane_go;
 pub use laws::{kept_shelves, others_stay, readers_stay};
 pub use triggers::{join, leave, make_way, rebuilt};
