@@ -1,4 +1,4 @@
-use Rattle.std.proofs.Common.{◌≡◌, ℕ, List, refl, sym, ap, subst, ◌∙◌, Option, Some, None, Ok, Err, Result, unwrap_or, arith, rules, Bool, true, false}
+use Rattle.std.proofs.Common.{◌≡◌, ℕ, List, refl, sym, ap, subst, ◌∙◌, Option, Some, None, unwrap_or, arith, rules, Bool, true, false}
 use Rattle.std.specs.Result.{result_from_control_flow}
 use Rattle.ft_repair.proofs.Repaired.{went}
 use Rattle.std.specs.FinMap as map

@@ -1,19 +1,16 @@
-use Rattle.std.proofs.Common.{◌≡◌, ℕ, List, refl, sym, ap, subst, ◌∙◌, arith, rules, Bool, true, false}
+use Rattle.std.proofs.Common.{◌≡◌, List, refl, sym, ap, subst, ◌∙◌, arith, rules, Bool, true, false}
 use Rattle.std.specs.Result.{result_from_control_flow}
 use Rattle.ft_repair.proofs.Repaired.{went}
 use Rattle.std.specs.List.{AllByRecursion}
 use Rattle.std.specs.FinMap as map
 use Rattle.std.proofs.lemmas.List.{drop_all}
 use Rattle.ft_kept.specs.Views.{triggers_of}
-use Rattle.ft_kept.specs.Shelves.{Shelves}
-use Rattle.ft_kept.specs.Memory as memory
 use Rattle.ft_kept.proofs.Forms.{forms_refl, forms_trans}
 use Rattle.ft_kept.proofs.Told.{readings_same, readings_trans}
 use Rattle.ft_repair.proofs.Changing.{next_of, next_views, next_held, next_before, changing_fewer}
-use Rattle.ft_repair.proofs.EventLists.{AreGoing, going_listed, listed_own, event_plain, events_none, count_events, counted, first_left, lane_counts}
+use Rattle.ft_repair.proofs.EventLists.{going_listed, listed_own, event_plain, events_none, count_events, counted, first_left, lane_counts}
 use Rattle.ft_replay.specs.Costs.{count_on_lane}
 use Rattle.ft_base.specs.Base.{Triggers}
-use Rattle.ft_base.specs.PlainHits.{IsPlainLane}
 use Rattle.ft_base.specs.Reachable.{HasSavers}
 use Rattle.ft_fields.specs.Traced.{Traced}
 use Rattle.ft_fields.specs.declared.pos.Pos.{Pos}
