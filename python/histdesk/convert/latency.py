@@ -2,17 +2,16 @@
 
 from __future__ import annotations
 
-import collections
 import re
 from collections.abc import Iterator
 
 from .text_format import Readable
 
-# An event in a text with stamps of nine digits, up to its CPU; then its stamp, before which its flags go.
-EVENT = re.compile(rb"^([^\n]*?-[0-9]+ +\[([0-9]+)\] )(?= *([0-9]+\.[0-9]{9}): )", re.MULTILINE)
-# The same in the latency layout: its CPU and its flags, which nothing separates, and its stamp.
-LATENCY = re.compile(rb"-[0-9]+ +([0-9]+)([^ :0-9\n][^ :\n]{1,13}) +([0-9]+\.[0-9]{9}): ")
-# How many events of the latency layout are looked at for one of the text.
+# The CPU of an event in a text with stamps of nine digits; then its stamp, before which its flags go. No name has room for it.
+EVENT = re.compile(rb"(\[[0-9]+\] )(?= *([0-9]+\.[0-9]{9}): )")
+# The same in the latency layout: its flags, which follow its CPU directly, with a blank; and its stamp.
+LATENCY = re.compile(rb"-[0-9]+ +[0-9]+([^ :0-9\n][^ :\n]{1,13} ) *([0-9]+\.[0-9]{9}): ")
+# Among how many events of the latency layout one of the text is looked for.
 MOST = 64
 
 
@@ -35,31 +34,39 @@ class Flagged:
     def __init__(self, source: Readable, latency: Readable, size: int) -> None:
         """Take both texts, of which so many bytes are read at once."""
         self._lines, self._latency = whole_lines(source, size), whole_lines(latency, size)
-        # Events of the latency layout that have been read: their CPUs, stamps and flags.
-        self._next: collections.deque[tuple[int, bytes, bytes]] = collections.deque()
+        # The next events of the latency layout: their stamps and flags.
+        self._stamps: list[bytes] = []
+        self._flags: list[bytes] = []
 
     def read(self, size: int) -> bytes:
         """Return the next lines, however many bytes these are; none at the end."""
-        return EVENT.sub(self._with_flags, next(self._lines, b""))
+        # What stands before the CPU of an event, that CPU, and the stamp, in turn.
+        parts = EVENT.split(next(self._lines, b""))
+        stamps = parts[2::3]
+        self._fill(len(stamps))
+        if stamps == self._stamps[: len(stamps)]:
+            parts[2::3] = self._flags[: len(stamps)]
+            del self._stamps[: len(stamps)], self._flags[: len(stamps)]
+        else:
+            parts[2::3] = map(self._flags_of, stamps)
+        return b"".join(parts)
 
-    def _with_flags(self, event: re.Match[bytes]) -> bytes:
-        """Return the front of an event with its flags, or as it is if they aren't found."""
-        cpu, stamp = int(event[2]), event[3]
-        at = 0
-        while at < MOST and self._has(at):
-            if self._next[at][:2] == (cpu, stamp):
-                flags = self._next[at][2]
-                for _ in range(at + 1):
-                    self._next.popleft()
-                return event[1] + flags + b" "
-            at += 1
-        return event[1]
+    def _flags_of(self, stamp: bytes) -> bytes:
+        """Return the flags of the next event with a stamp, with a blank; nothing if it isn't there."""
+        self._fill(MOST)
+        if stamp not in self._stamps[:MOST]:
+            return b""
+        at = self._stamps.index(stamp)
+        flags = self._flags[at]
+        del self._stamps[: at + 1], self._flags[: at + 1]
+        return flags
 
-    def _has(self, at: int) -> bool:
-        """Return whether there is an event at this place among those of the latency layout that come next."""
-        while at >= len(self._next):
+    def _fill(self, count: int) -> None:
+        """Read the latency layout until so many events of it are at hand, or to its end."""
+        while len(self._stamps) < count:
             lines = next(self._latency, None)
             if lines is None:
-                return False
-            self._next.extend((int(cpu), stamp, flags) for cpu, flags, stamp in LATENCY.findall(lines))
-        return True
+                return
+            found = LATENCY.findall(lines)
+            self._flags += [flags for flags, _ in found]
+            self._stamps += [stamp for _, stamp in found]

@@ -22,18 +22,24 @@ def blanks_after(label: bytes) -> bytes:
     return b" " * (LABEL_COLUMNS - len(label) - 1)
 
 
-# The ends of lines in a text, and the fields of one event, which the line breaks of names may have torn.
-_LINES = [
-    (re.compile(b": " + label + b":" + blanks_after(label) + pattern + b"$", re.MULTILINE), b": " + label + b": " + fields)
+def front_of(label: bytes) -> bytes:
+    """Return what stands before the fields of an event in such a text, from the colon before its name on."""
+    return b": " + label + b":" + blanks_after(label)
+
+
+# The ends of lines in a text, by what they begin with; and the fields of one event, which line breaks of names may have torn.
+_LINES = {
+    front_of(label): (re.compile(front_of(label) + pattern + b"$", re.MULTILINE), b": " + label + b": " + fields)
     for label, (pattern, fields) in _LAYOUTS.items()
-]
+}
 _FIELDS = {label: (re.compile(pattern, re.DOTALL), fields) for label, (pattern, fields) in _LAYOUTS.items()}
 
 
 def in_kernel_layout(text: bytes) -> bytes:
     """Return whole lines, with the events that the plugins have printed in the kernel's layout."""
-    for pattern, line in _LINES:
-        text = pattern.sub(line, text)
+    for front, (pattern, line) in _LINES.items():
+        if front in text:
+            text = pattern.sub(line, text)
     return text
 
 
