@@ -497,7 +497,7 @@ def of_desk(desk: Desk, recording: Recording | None = None) -> Scene:
 
 
 class LineContexts:
-    """Finds the contexts of events by the lines of a text, whose stamps are read once if there are more than `SOUGHT` events."""
+    """Finds the contexts of events by the lines of a text, whose stamps are read once if events are more than `SOUGHT`."""
 
     def __init__(self, text: Buffer) -> None:
         """Take a text, which stays as it is."""
@@ -515,7 +515,7 @@ class LineContexts:
         if self._stamps is None:
             self._read()
         assert self._stamps is not None
-        low, high = (int(self._stamps.searchsorted(event.stamp, side)) for side in ("left", "right"))
+        low, high = int(self._stamps.searchsorted(event.stamp)), int(self._stamps.searchsorted(event.stamp, "right"))
         lines = zip(self._begins[low:high].tolist(), self._ends[low:high].tolist())
         return context_of(event, (self._text[begin:end] for begin, end in lines))
 
@@ -567,8 +567,13 @@ def context_of(event: Event, lines: Iterable[bytes]) -> str | None:
         # A task's name may have brackets too.
         for match in map(FLAGS.match, itertools.repeat(line), positions(line, b"[")):
             if match and int(match[1]) == event.cpu and match.group(3, 4) == (stamp, name) and pid in match[5]:
-                return match[2] and next((name for signs, name in CONTEXTS if set(signs.encode()) & set(match[2])), "task")
+                return context_by(match[2]) if match[2] else None
     return None
+
+
+def context_by(flags: bytes) -> str:
+    """Return the context that flags of a line show."""
+    return next((name for signs, name in CONTEXTS if set(signs.encode()) & set(flags)), "task")
 
 
 def positions(text: bytes, sign: bytes) -> Iterator[int]:

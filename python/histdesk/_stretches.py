@@ -143,7 +143,7 @@ class Stretches(Sequence[Stretch]):
     """What ran on a CPU, in order: a sequence, equal to a tuple of the same. A `Stretch` is made when it is asked for."""
 
     def __init__(self, cpu: int, columns: Columns, wakings: Wakings | None = None) -> None:
-        """Take the CPU, and the stretches. If there are wakings, they say when tasks became runnable, once that is asked for."""
+        """Take the CPU, and the stretches. Wakings say when tasks became runnable, which is found once it is asked for."""
         self.cpu, self._columns, self._wakings = cpu, columns, wakings
         self._shares: list[Share] | None = None
 

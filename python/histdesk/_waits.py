@@ -476,7 +476,7 @@ def answer_of(
             raise ValueError(what) from None
         return waits_in_any_order(options.path, text.read(), Choice(), options.lenient)
     except Refused as error:
-        error.path = options.path
+        error.path = path_of(trace) if options.path is None else options.path
         if again:
             show_line(error, again)
         raise

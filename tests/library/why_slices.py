@@ -15,7 +15,7 @@ from unittest import mock
 
 import histdesk
 from histdesk import Share, Stretch, _surroundings, _slices, _text, _explainer
-from histdesk.cli import why
+from histdesk.cli import why as why_tool
 from why_traces import line, switch, trace, waking
 
 TOOL = os.path.join(os.path.dirname(os.path.realpath(__file__)), "..", "..", "tools", "why")
@@ -121,7 +121,7 @@ class Slices(Cut):
             out = io.StringIO()
             with mock.patch.object(_slices.Source, "_read", autospec=True, side_effect=_slices.Source._read) as read:
                 with contextlib.redirect_stdout(out):
-                    self.assertEqual(why.main([path, "--worst", str(count), "--json"]), 0)
+                    self.assertEqual(why_tool.main([path, "--worst", str(count), "--json"]), 0)
         told = [wait["micros"] for wait in json.loads(out.getvalue())["waits"]]
         self.assertEqual((len(told), told), (count, sorted(told, reverse=True)))
         parts = [call.args[2:] for call in read.call_args_list]
