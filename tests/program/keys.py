@@ -19,8 +19,8 @@ TIMES = 3
 TOO_LONG = 8
 TRIGGER = "attach sched_waking hist:keys=pid"
 SAVER = f"{TRIGGER}:ts0=common_timestamp.usecs:size=128"
-MAKER = """attach sched_switch hist:keys=next_pid:lat=common_timestamp.usecs-$ts0:\
-onmatch(sched.sched_waking).wakeup_latency($lat,next_pid,next_prio)"""
+MADE = "onmatch(sched.sched_waking).wakeup_latency($lat,next_pid,next_prio)"
+MAKER = f"attach sched_switch hist:keys=next_pid:lat=common_timestamp.usecs-$ts0:{MADE}"
 
 
 def stamp(micros):
@@ -53,13 +53,14 @@ def of_lanes(keys):
 
 
 def of_strike(keys):
-    """Yield a script with what it prints: a task whose waits have that many lengths, each of which is a key, is the first of 129,
-    of which a table has room for 128. Its first waking is struck. Then it is the last, and none of its wakings is saved."""
+    """Yield a script with what it prints: the waits of a task have `keys` lengths, and one is counted under each. The task is
+    the first of 129, of which a table has room for 128. If its first waking is struck, it is the last: its wakings aren't
+    saved, and no wait of it is measured."""
     counters = ["attach wakeup_latency hist:keys=lat", "attach wakeup_latency hist:keys=lat:size=131072"]
     totals = [f"hits {room} entries {room} dropped {keys - room}\n" for room in (2048, keys)]
     asked, none = ["totals 3", "totals 4"], "hits 0 entries 0 dropped 0\n"
     script = ["load @1", "load @2", SAVER, MAKER, *counters, *asked, "strike 1:1", *asked]
-    printed = ["loaded 1\n", f"loaded {2 * keys + 128}\n", *(f"attached {id}\n" for id in range(1, 5))]
+    printed = ["loaded 1\n", f"loaded {2 * keys + 128}\n", *(f"attached {number}\n" for number in range(1, 5))]
     yield ["\n".join([*script, ""]), "".join([*printed, *totals, "struck 1:1\n", none, none])]
 
 
