@@ -49,8 +49,10 @@
 //!   output; every other answer comes with one flush and no failed write, and with `Ok` the flush
 //!   didn't fail (`CallsWriter`). A failing flush makes `Write` of `Ok`, and changes no other
 //!   answer. Lets through: what the methods `ask`, `consume`, `write` and `flush` of the two types
-//!   do beside their count, which their few lines show. The private `ask` requires that the reader
-//!   has not failed, `write` that no write has, so that neither is called again after that.
+//!   do beside their count, which their few lines show: no contract of a stream says that it was
+//!   called, so `flush` need not flush, and `ask`, `write` and `flush` may make up a failure. The
+//!   private `ask` requires that the reader has not failed, `write` that no write has, so that
+//!   neither is called again after that.
 //! - Trait `Interpreter`, met by `Desk`: what a line prints, whether it is refused and what is held
 //!   then is what commands mean to the interpreter (`means`, a `Meaning` of `specs/Output.antt`); to a
 //!   desk that is `outcome`. Lets through: what `perform` does.
