@@ -12,6 +12,8 @@ TIMES = 3
 SAVER = "attach sched_waking hist:keys=pid:ts0=common_timestamp.usecs"
 READER = "attach sched_switch hist:keys=next_pid:vals=$lat:lat=common_timestamp.usecs-$ts0"
 PAIR = [SAVER, READER]
+MAKER = f"{READER}:onmatch(sched.sched_waking).wakeup_latency($lat,next_pid,next_prio)"
+MADE = "attach wakeup_latency hist:keys=pid"
 
 
 def stamp(micros):
@@ -22,9 +24,9 @@ def waking(micros, pid, comm="w", cpu=0):
     return f" sim-1 [{cpu:03}] d.h.. {stamp(micros)}: sched_waking: comm={comm} pid={pid} prio=120 target_cpu=000"
 
 
-def switch(micros, pid):
+def switch(micros, pid, cpu=0):
     said = "prev_comm=sim prev_pid=1 prev_prio=120 prev_state=S ==> next_comm=w"
-    return f" sim-1 [000] d.h.. {stamp(micros)}: sched_switch: {said} next_pid={pid} next_prio=120"
+    return f" sim-1 [{cpu:03}] d.h.. {stamp(micros)}: sched_switch: {said} next_pid={pid} next_prio=120"
 
 
 # Each of these returns, for a size: a script that is measured, one whose time is subtracted, and the traces of both.
@@ -110,6 +112,33 @@ def edited_among(keys, edits=20000):
     return front + edited(edits, "strike 1:{}", f"insert {waking(0, 0, cpu=1)}", "totals 1"), front, trace
 
 
+def woken_in_turn(wakings):
+    """A full table but for one key, then wakings of two tasks in turn on CPU 0, each before a switch to its task on CPU 1: the
+    first of these wakings decides which of the two tasks is in the table."""
+    trace = [waking(n, n, cpu=1) for n in range(127)]
+    for n in range(wakings):
+        trace += [waking(10**6 + 2 * n, 1000 + n % 2), switch(10**6 + 2 * n + 1, 1000 + n % 2, cpu=1)]
+    return trace
+
+
+def unloaded_in_turn(wakings, *triggers):
+    """The lane of these wakings goes."""
+    front = ["load @1", f"{SAVER}:size=128", *triggers]
+    asked = f"totals {len(front) - 1}"
+    return [*front, asked, "unload 0", asked], [*front, asked], woken_in_turn(wakings)
+
+
+def unloaded_of_busy(events):
+    """More tasks than a saver's table has room for: 120 on CPU 1, and 12 on CPU 0, whose lane goes."""
+    trace = []
+    for n in range(events // 2):
+        for cpu, pid in ((0, 1 + n % 12), (1, 100 + n % 120)):
+            at = 4 * n + 2 * cpu
+            trace += [waking(at, pid, cpu=cpu), switch(at + 1, pid, cpu=cpu)]
+    front = ["load @1", f"{SAVER}:size=128", READER, "totals 2"]
+    return [*front, "unload 0", "totals 2"], front, [*trace, waking(4 * events, 100, cpu=1)]
+
+
 CASES = [
     ("stars of a pattern, then b, against 31 bytes", 1000, lambda n: filtered(f'comm ~ "{"*" * n}b"')),
     ("bytes of a class after a star, against 31 bytes", 1000, lambda n: filtered(f'comm ~ "*[{"x" * n}]"')),
@@ -131,6 +160,10 @@ CASES = [
     ("keys of a lane that is unloaded", 100000, unloaded),
     ("keys of a lane that is loaded", 100000, loaded),
     ("keys among which the first one goes and comes", 100000, edited_among),
+    ("wakings of two keys in turn that are unloaded, full saver", 25000, unloaded_in_turn),
+    ("the same with a reader", 25000, lambda n: unloaded_in_turn(n, READER)),
+    ("the same with a maker, and a table of what it makes", 25000, lambda n: unloaded_in_turn(n, MAKER, MADE)),
+    ("events of twelve tasks that are unloaded, full saver, reader", 50000, unloaded_of_busy),
 ]
 
 

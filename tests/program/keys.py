@@ -1,11 +1,12 @@
 #!/usr/bin/env python3
-"""Checks that what many distinct keys cost stays in proportion to the keys, and what is printed.
+"""Checks that what many distinct keys, or many events of two keys, cost stays in proportion to these, and what is printed.
 
     keys.py PROGRAM
 
 The keys are those of a lane that goes or comes, or those under which made events are counted, all of which go by one strike.
 A table of 80,000 keys takes four times as long as one of 20,000 if each key costs the same. If the cost of
 each key is in proportion to the keys, it takes 16 times as long. Here half of that is too long, since the machine may be busy.
+The same goes for 8,000 and 2,000 events of two keys in turn, of which only one finds room in a table.
 """
 
 import resource
@@ -20,7 +21,10 @@ TOO_LONG = 8
 TRIGGER = "attach sched_waking hist:keys=pid"
 SAVER = f"{TRIGGER}:ts0=common_timestamp.usecs:size=128"
 MADE = "onmatch(sched.sched_waking).wakeup_latency($lat,next_pid,next_prio)"
-MAKER = f"attach sched_switch hist:keys=next_pid:lat=common_timestamp.usecs-$ts0:{MADE}"
+READER = "attach sched_switch hist:keys=next_pid:lat=common_timestamp.usecs-$ts0"
+MAKER = f"{READER}:{MADE}"
+# For how many keys there is one waking of two tasks in turn.
+EACH = 10
 
 
 def stamp(micros):
@@ -31,9 +35,9 @@ def waking(micros, pid, cpu):
     return f" sim-1 [{cpu:03}] d.h.. {stamp(micros)}: sched_waking: comm=w pid={pid} prio=120 target_cpu=000\n"
 
 
-def switch(micros, pid):
+def switch(micros, pid, cpu=0):
     said = "prev_comm=sim prev_pid=1 prev_prio=120 prev_state=S ==> next_comm=w"
-    return f" sim-1 [000] d.h.. {stamp(micros)}: sched_switch: {said} next_pid={pid} next_prio=120\n"
+    return f" sim-1 [{cpu:03}] d.h.. {stamp(micros)}: sched_switch: {said} next_pid={pid} next_prio=120\n"
 
 
 def of_lanes(keys):
@@ -52,6 +56,15 @@ def of_lanes(keys):
         yield [f"load @2\n{TRIGGER}{size}\nload @1\ntotals 1\n", "".join([load[1], "attached 1\n", load[0], both])]
 
 
+def of_turns(keys):
+    """Yield a script with what it prints: the lane of CPU 0, which wakes two tasks in turn, goes."""
+    wakings = keys // EACH
+    script = ["load @1", SAVER, READER, "totals 2", "unload 0", "totals 1", "totals 2"]
+    printed = [f"loaded {127 + 2 * wakings}", "attached 1", "attached 2", f"hits {wakings // 2} entries 1 dropped 0"]
+    printed += [f"unloaded {wakings}", "hits 127 entries 127 dropped 0", "hits 0 entries 0 dropped 0"]
+    yield ["\n".join([*script, ""]), "\n".join([*printed, ""])]
+
+
 def of_strike(keys):
     """Yield a script with what it prints: the waits of a task have `keys` lengths, and one is counted under each. The task is
     the first of 129, of which a table has room for 128. If its first waking is struck, it is the last: its wakings aren't
@@ -68,6 +81,15 @@ def lanes(keys):
     """Yield the lines of two traces, one after the other."""
     yield (waking(n, n, 0) for n in range(keys))
     yield (waking(10**7 + n, keys + n, 1) for n in range(keys + 1))
+
+
+def turns(keys):
+    """Yield the lines of a trace: the wakings of 127 tasks, and then those of two more in turn on CPU 0, each before the switch
+    to its task. A table of 128 keys has room for one of the two: the one that is woken first."""
+    lines = [waking(n, n, 1) for n in range(127)]
+    for n in range(keys // EACH):
+        lines += [waking(10**8 + 2 * n, 1000 + n % 2, 0), switch(10**8 + 2 * n + 1, 1000 + n % 2, 1)]
+    yield lines
 
 
 def waits(keys):
@@ -96,7 +118,7 @@ def run(program, folder, script):
 def measure(program, folder, keys, wrong):
     """Return the time of each script with that many keys. Output that isn't expected is added to `wrong`."""
     times = []
-    for scripts, traces in (of_lanes, lanes), (of_strike, waits):
+    for scripts, traces in (of_lanes, lanes), (of_strike, waits), (of_turns, turns):
         for number, lines in enumerate(traces(keys), 1):
             with open(f"{folder}/trace{number}", "w", encoding="ascii") as file:
                 file.writelines(lines)
