@@ -178,7 +178,8 @@ pub extern "C" fn histdesk_waits_finish(
     }
 }
 
-/// Copies the waits that the last feed or finish told: how many.
+/// Copies the waits that the last feed, finish, join or `histdesk_waits_held` reported, and returns how
+/// many were copied.
 #[unsafe(no_mangle)]
 pub extern "C" fn histdesk_waits_copy(
     alloc: Global,
