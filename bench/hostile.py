@@ -4,6 +4,7 @@
     hostile.py PROGRAM FOLDER
 """
 
+import os
 import resource
 import subprocess
 import sys
@@ -14,6 +15,7 @@ READER = "attach sched_switch hist:keys=next_pid:vals=$lat:lat=common_timestamp.
 PAIR = [SAVER, READER]
 MAKER = f"{READER}:onmatch(sched.sched_waking).wakeup_latency($lat,next_pid,next_prio)"
 MADE = "attach wakeup_latency hist:keys=pid"
+PACKAGE = os.path.join(os.path.dirname(os.path.realpath(__file__)), "..", "python")
 
 
 def stamp(micros):
@@ -139,6 +141,17 @@ def unloaded_of_busy(events):
     return [*front, "unload 0", "totals 2"], front, [*trace, waking(4 * events, 100, cpu=1)]
 
 
+def struck_in_turn(wakings):
+    """The wakings that tasks have in turn are struck by one call of the library, in the order in which it finds them."""
+    front = ["import sys", f"sys.path.insert(0, {PACKAGE!r})", "import histdesk"]
+    front += ["desk = histdesk.Desk()", "desk.load(sys.argv[1])"]
+    for command in (f"{SAVER}:size=128", READER):
+        event, text = command.split()[1:]
+        front.append(f"desk.attach({event!r}, {text!r})")
+    found = 'desk.matching("sched_waking", "pid >= 1000")'
+    return [*front, f"desk.strike_events({found})"], [*front, found], woken_in_turn(wakings)
+
+
 CASES = [
     ("stars of a pattern, then b, against 31 bytes", 1000, lambda n: filtered(f'comm ~ "{"*" * n}b"')),
     ("bytes of a class after a star, against 31 bytes", 1000, lambda n: filtered(f'comm ~ "*[{"x" * n}]"')),
@@ -164,6 +177,10 @@ CASES = [
     ("the same with a reader", 25000, lambda n: unloaded_in_turn(n, READER)),
     ("the same with a maker, and a table of what it makes", 25000, lambda n: unloaded_in_turn(n, MAKER, MADE)),
     ("events of twelve tasks that are unloaded, full saver, reader", 50000, unloaded_of_busy),
+]
+# The same of scripts for the package.
+PACKAGE_CASES = [
+    ("wakings of two keys in turn that one call strikes, the same", 25000, struck_in_turn),
 ]
 
 
@@ -191,11 +208,12 @@ def least(program, folder, script, traces):
 def main():
     program, folder = sys.argv[1:]
     print(f"{'what grows':60} {'at first':>8} {'once':>6} {'twice':>6} {'four times':>10}")
-    for what, first, make in CASES:
+    cases = [(program, *case) for case in CASES] + [(sys.executable, *case) for case in PACKAGE_CASES]
+    for runs, what, first, make in cases:
         times = []
         for size in first, 2 * first, 4 * first:
             script, without, *traces = make(size)
-            times.append(least(program, folder, script, traces) - least(program, folder, without, traces))
+            times.append(least(runs, folder, script, traces) - least(runs, folder, without, traces))
         print(f"{what:60} {first:8} {1:6} {times[1] / times[0]:6.2f} {times[2] / times[0]:10.2f}", flush=True)
 
 

@@ -237,7 +237,6 @@ def strike(desk: Desk, chosen: Sequence[Chosen]) -> list[LeftOut]:
     if places:
         every = np.concatenate(places)
         once = every[np.unique(numbers_of(every["cpu"], every["line"]), return_index=True)[1]]
-        # The last ones come first, so that the keys of tables, which stand in the order of their first hits, move least. Nobody
-        # wants to know what the strikes change, so it isn't asked for.
-        desk._session.strike_events(once[np.argsort(once["stamp"])[::-1]], reports=False)
+        # Nobody wants to know what the strikes change, so it isn't asked for.
+        desk._session.strike_events(once, reports=False)
     return counts

@@ -3,6 +3,7 @@
 import gc
 import gzip
 import io
+import itertools
 import mmap
 import os
 import pathlib
@@ -662,6 +663,14 @@ class Refusals(unittest.TestCase):
         self.assertEqual(list(desk.events()), [OTHER, SWITCH_42, WAKING_7, SWITCH_7])
         self.refused(lambda: desk.strike_events([WAKING_7, WAKING_7]), "refused 6", struck=1)
         self.assertEqual(list(desk.events()), [OTHER, SWITCH_42, SWITCH_7])
+
+    def test_strikes_of_events_in_any_order(self):
+        nothing = Place(0, 0, 9)
+        for places in itertools.permutations([WAKING_42, WAKING_7, SWITCH_7, WAKING_7, nothing]):
+            first = next(n for n, place in enumerate(places) if place == nothing or place in places[:n])
+            desk = desk_of()
+            self.refused(lambda: desk.strike_events(places), "refused 6", struck=first)
+            self.assertEqual(list(desk.events()), [event for event in MERGED if event not in places[:first]])
 
     def test_full(self):
         desk = histdesk.Desk()

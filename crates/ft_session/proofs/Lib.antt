@@ -1,3 +1,5 @@
 mod Numbers
 mod RowSets
 mod Striking
+mod Without
+mod Fronts

@@ -18,7 +18,7 @@ use Rattle.ft_base.specs.declared.refused.Place.{Place}
 use Rattle.ft_base.specs.declared.refused.Refused.{Refused}
 use Rattle.ft_base.specs.declared.refused.Refused.TheVariants.{Memory, NoLane, NoEvent}
 use Rattle.ft_answers.specs.Edits.{lanes_without}
-use Rattle.ft_answers.specs.Held.{Lane}
+use Rattle.ft_answers.specs.Held.{Lane, event_at}
 use Rattle.ft_fields.specs.Traced.{Traced}
 use Rattle.ft_answers.specs.After.{after_strike}
 use Rattle.ft_answers.specs.Edited.{EditGives}
@@ -27,8 +27,9 @@ use Rattle.ft_answers.specs.Shown.{Shown}
 use Rattle.ft_answers.specs.declared.done.Done.{Done}
 use Rattle.ft_answers.specs.declared.edited.Edited.{Edited}
 use Rattle.ft_layout.specs.declared.places.PlaceLayout.{PlaceLayout}
-use Rattle.ft_session.specs.Strikes.{StrikesEnd, struck_then, after_strikes, IsJointReport, ReportsStrikes}
+use Rattle.ft_session.specs.Strikes.{StrikesEnd, struck_then, after_strikes, HasGone, IsJointReport, ReportsStrikes}
 use Rattle.ft_session.specs.declared.joint_report.JointReport.{JointReport}
+use Rattle.ft_session.specs.inner.Fronts.{after_others}
 use Rattle.ft_session.specs.inner.JointReports.{RowTree, row_cmp, names, Adds, Lists, Covers, IsHeld, Joins, NamesNothing}
 use Rattle.ft_session.proofs.RowSets.{listed, listed_once}
 
@@ -64,10 +65,6 @@ struck_refused after why other (inr due) = due
 -- a place, in case one is asked for
 abbrev pub no_place : PlaceLayout
 no_place = record { stamp = 0; cpu = 0; line = 0 }
-
--- what strikes come to after others
-abbrev pub after_others : ℕ → StrikesEnd → StrikesEnd
-after_others count struck = record struck { count = count + struck.count }
 
 no_more : (count : ℕ) → count + 0 ≡ count
 no_more count = omega arith
@@ -171,10 +168,17 @@ is_there : {T : Type 0} (o : Option T) (x : T) → o ≡ Some x → IsSome o
 is_there None x e = absurd cc
 is_there (Some y) x e = search rules
 
+-- what is there after strikes was there before
+was_there : {T : Type 0} (before after : Option T) → (before ≡ None → after ≡ None) → IsSome after → IsSome before
+was_there None after fewer there = absurd (true≢false (sym (subst IsSome (fewer refl) there)))
+was_there (Some x) after fewer there = refl
+
 -- before the first strike
 pub joins_none : (reports : Bool) (desk : Shown) (joint : JointReport) → NamesNothing reports joint.rows → NamesNothing reports joint.made → joint.last ≡ None → Joins reports desk desk 0 joint
 joins_none reports desk joint rows made last = record {
   triggers = refl;
+  fewer = λ cpu line none. none;
+  place = subst (λ (o : Option Place). IfSome o (HasGone desk.base desk.base)) (sym last) tt;
   rows = named_none false row_in reports desk.base joint.rows rows;
   made = named_none true made_row_in reports desk.base joint.made made;
   silent = λ not. (rows.1 not, made.1 not);
@@ -186,11 +190,15 @@ joins_none reports desk joint rows made last = record {
 module _ (reports : Bool) (old mid new : Shown) (count : ℕ) (before : JointReport) (joins : Joins reports old mid count before) where
   -- after one more
   pub joins_more : (after : Result (Base × Place) Refused) (done : Done Edited) (now : JointReport) → (triggers : new.base.triggers ≡ mid.base.triggers)
+      → HasGone mid.base new.base done.value.place × ((cpu line : ℕ) → event_at mid.base.lanes cpu line ≡ None → event_at new.base.lanes cpu line ≡ None)
       → EditGives (λ edited. edited.place) after mid new (Ok done) → Reports mid new (Ok done)
       → Adds before.rows done.value.report now.rows → Adds before.made done.value.made now.made → now.last ≡ Some done.value.place
       → Joins reports old new (count + 1) now
-  joins_more after done now triggers gives told rows made last = record {
+  joins_more after done now triggers goes gives told rows made last = record {
     triggers = triggers ∙ joins.triggers;
+    fewer = λ cpu line none. goes.1 cpu line (joins.fewer cpu line none);
+    place = subst (λ (o : Option Place). IfSome o (HasGone old.base new.base)) (sym last)
+        (was_there (event_at old.base.lanes done.value.place.cpu done.value.place.line) (event_at mid.base.lanes done.value.place.cpu done.value.place.line) (joins.fewer done.value.place.cpu done.value.place.line) goes.0.0, goes.0.1);
     rows = joint_rows false row_in old.base mid.base new.base joins.triggers before.rows done.value.report now.rows rows joins.rows (report_covers mid.base new.base done.value.report told.0.0);
     made = joint_rows true made_row_in old.base mid.base new.base joins.triggers before.made done.value.made now.made made joins.made (made_covers mid.base new.base done.value.made told.1.0);
     silent = λ not. (missing_stays before.rows done.value.report now.rows rows (joins.silent not).0, missing_stays before.made done.value.made now.made made (joins.silent not).1);
@@ -206,6 +214,8 @@ module _ (reports : Bool) (old mid new : Shown) (count : ℕ) (before : JointRep
   pub joins_same : new.base ≡ mid.base → new.deferred ≡ mid.deferred → Joins reports old new count before
   joins_same base deferred = record {
     triggers = ap (λ (b : Base). b.triggers) base ∙ joins.triggers;
+    fewer = λ cpu line none. ap (λ (b : Base). event_at b.lanes cpu line) base ∙ joins.fewer cpu line none;
+    place = subst (λ (b : Base). IfSome before.last (HasGone old.base b)) (sym base) joins.place;
     rows = subst (λ (b : Base). IfSome before.rows (λ rows. Covers false row_in old.base b (names rows))) (sym base) joins.rows;
     made = subst (λ (b : Base). IfSome before.made (λ rows. Covers true made_row_in old.base b (names rows))) (sym base) joins.made;
     silent = joins.silent;
@@ -242,8 +252,9 @@ not_listed None (Some list) lists none = absurd lists
 not_listed (Some rows) (Some list) lists none = absurd cc
 
 module _ (reports : Bool) (old new : Shown) (count : ℕ) (joint : JointReport) (joins : Joins reports old new count joint) where
-  reports_held : (edited : Edited) → 0 < count → Lists joint.rows edited.report → Lists joint.made edited.made → ReportsStrikes reports old new edited
-  reports_held edited some rows made = record {
+  reports_held : (edited : Edited) → HasGone old.base new.base edited.place → 0 < count → Lists joint.rows edited.report → Lists joint.made edited.made → ReportsStrikes reports old new edited
+  reports_held edited place some rows made = record {
+    place = place;
     rows = rows_report old.base new.base joint.rows edited.report rows joins.rows;
     made = made_report old.base new.base joint.made edited.made made joins.made;
     silent = λ not. (not_listed joint.rows edited.report rows (joins.silent not).0, not_listed joint.made edited.made made (joins.silent not).1);
@@ -256,10 +267,10 @@ module _ (reports : Bool) (old new : Shown) (count : ℕ) (joint : JointReport) 
 
   -- and if some were
   pub held_some : (before now : Option Edited) → IsHeld joint before now → 0 < count → IsSomeAnd now (ReportsStrikes reports old new)
-  held_some before now held some = by joint.last (joins.some some).1 now held
+  held_some before now held some = by joint.last (joins.some some).1 joins.place now held
     where
-      by : (last : Option Place) → IsSome last → (now : Option Edited)
+      by : (last : Option Place) → IsSome last → IfSome last (HasGone old.base new.base) → (now : Option Edited)
           → MatchOption last (now ≡ before) (λ place. IsSomeAnd now (λ edited. (edited.place ≡ place) × Lists joint.rows edited.report × Lists joint.made edited.made)) → IsSomeAnd now (ReportsStrikes reports old new)
-      by None there now held = search rules
-      by (Some place) there None held = search rules
-      by (Some place) there (Some edited) held = reports_held edited some held.1 held.2
+      by None there gone now held = search rules
+      by (Some place) there gone None held = search rules
+      by (Some place) there gone (Some edited) held = reports_held edited (subst (HasGone old.base new.base) (sym held.0) gone) some held.1 held.2

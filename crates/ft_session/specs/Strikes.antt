@@ -1,5 +1,5 @@
 -- Striking several events, one after the other. All of it is our own choice.
-use Rattle.std.specs.Prelude.{◌≡◌, ℕ, ◌+◌, false, true, Bool, List, [], ◌∷◌, Option, Some, None, IfSome, Result, Ok, Err}
+use Rattle.std.specs.Prelude.{◌≡◌, ℕ, ◌+◌, false, true, Bool, List, [], ◌∷◌, Option, Some, None, IfSome, IsSome, Result, Ok, Err}
 use Rattle.std.specs.List.{IsDistinct}
 use Rattle.std.specs.FinMap as map
 use Rattle.ft_fields.specs.declared.key.Part.{Part}
@@ -11,6 +11,7 @@ use Rattle.ft_base.specs.Base.{Base}
 use Rattle.ft_base.specs.declared.refused.Place.{Place}
 use Rattle.ft_base.specs.declared.refused.Refused.{Refused}
 use Rattle.ft_answers.specs.After.{after_strike}
+use Rattle.ft_answers.specs.Held.{event_at}
 use Rattle.ft_answers.specs.Reporting.{row_in, IsMadeReport}
 use Rattle.ft_answers.specs.Shown.{Shown}
 use Rattle.ft_answers.specs.declared.edited.Edited.{Edited}
@@ -38,8 +39,13 @@ pub record IsJointReport (old new : Base) (report : List Changed) : Type 0 where
   pub held : (id : ℕ) (key : List Part) → is_reported report id key ≡ true → (hist : Hist) × ((map.get old.triggers id ≡ Some hist) × (counts_made hist ≡ false))
   pub all : (id : ℕ) (hist : Hist) → map.get old.triggers id ≡ Some hist → counts_made hist ≡ false → (key : List Part) → is_reported report id key ≡ false → row_in new id key ≡ row_in old id key
 
--- what strikes report, from the desk before the first of them to the one after the last: rows that may have changed, and those of made events; nothing if that isn't asked for, or if the tables lack an edit
+-- an event was held at a place before, and is gone
+abbrev pub HasGone : Base → Base → Place → Type 0
+HasGone old new place = IsSome (event_at old.lanes place.cpu place.line) × (event_at new.lanes place.cpu place.line ≡ None)
+
+-- what strikes report, from the desk before the first of them to the one after the last: rows that may have changed, and those of made events; nothing if that isn't asked for, or if the tables lack an edit; the place is that of one of the struck events
 pub record ReportsStrikes (reports : Bool) (old new : Shown) (edited : Edited) : Type 0 where
+  pub place : HasGone old.base new.base edited.place
   pub rows : IfSome edited.report (λ rows. IsJointReport old.base new.base rows.items)
   pub made : IfSome edited.made (λ rows. IsMadeReport old.base new.base rows.items)
   pub silent : reports ≡ false → (edited.report ≡ None) × (edited.made ≡ None)

@@ -33,9 +33,10 @@
 //!   whose tables are deferred; memory that is kept of what `forget` and later answers let go.
 //! - `Session::strike_events`: what the strikes of the events at places make of the base, one after the
 //!   other up to the first one that is refused, how many events they take, and why that one is refused;
-//!   exact (`after_strikes` in `specs/Strikes.antt`). If it is asked for, one report has each row that they
-//!   together may have changed, none twice (`ReportsStrikes`). Lets through: no report at any time; naming
-//!   rows that didn't change, any number of them.
+//!   exact (`after_strikes` in `specs/Strikes.antt`), although the events go in another order. If it is
+//!   asked for, one report has each row that they together may have changed, none twice
+//!   (`ReportsStrikes`). Lets through: no report at any time; naming rows that didn't change, any number
+//!   of them; which of the struck events has the report's place; the order in which they go.
 //! - `Session::lines`, `losses`: what `ft_lines` says of a text, of which the desk holds nothing
 //!   (`ReadsLines`, `ReadsLosses` in `specs/Calls.antt`); all else stays. Let through: running out of memory
 //!   at any time.
@@ -43,6 +44,7 @@
 //!   lanes tell which events are there now (`event_in` of `ft_layout`).
 #![tactic(auto)]
 
+mod front;
 mod joint_report;
 mod lines;
 mod outcome;

@@ -50,7 +50,8 @@ pub struct Session {
     pub lines: Vec<TextLine>,
     /// What the lines of a text report lost, as last asked for by `losses`.
     pub losses: LossesRead,
-    /// What the last accepted insert or strike reported, or the strikes of one call together.
+    /// What the last accepted insert or strike reported, or the strikes of one call together: then its
+    /// place is that of one of the struck events.
     pub edited: Option<Edited>,
     /// Why the last call with a code was refused, if it was.
     pub refused: Option<Refused>,

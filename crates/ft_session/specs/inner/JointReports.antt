@@ -21,8 +21,10 @@ use Rattle.ft_hist.specs.Made.{counts_made}
 use Rattle.ft_table.specs.Counted.{Counted}
 use Rattle.ft_base.specs.Base.{Base}
 use Rattle.ft_answers.specs.Reporting.{row_in, made_row_in}
+use Rattle.ft_answers.specs.Held.{event_at}
 use Rattle.ft_answers.specs.Shown.{Shown}
 use Rattle.ft_answers.specs.declared.edited.Edited.{Edited}
+use Rattle.ft_session.specs.Strikes.{HasGone}
 use Rattle.ft_session.specs.declared.joint_report.JointReport.{JointReport}
 use Rattle.ft_session.specs.declared.joint_report.NamedRow.{NamedRow}
 
@@ -85,6 +87,8 @@ IsSilent joint = (joint.rows ≡ None) × (joint.made ≡ None)
 -- so many strikes made this of a desk, and report this
 pub record Joins (reports : Bool) (old new : Shown) (count : ℕ) (joint : JointReport) : Type 0 where
   pub triggers : new.base.triggers ≡ old.base.triggers
+  pub fewer : (cpu line : ℕ) → event_at old.base.lanes cpu line ≡ None → event_at new.base.lanes cpu line ≡ None
+  pub place : IfSome joint.last (HasGone old.base new.base)
   pub rows : IfSome joint.rows (λ rows. Covers false row_in old.base new.base (names rows))
   pub made : IfSome joint.made (λ rows. Covers true made_row_in old.base new.base (names rows))
   pub silent : reports ≡ false → IsSilent joint
