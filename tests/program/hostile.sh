@@ -1,7 +1,6 @@
 #!/usr/bin/env bash
 # hostile.sh [HISTDESK [PLAINDESK [ASKAGAIN [HISTWATCH]]]]: tests a part of the hostile bytes, for which HISTDESK and
-# PLAINDESK print what the plain model does, and lanes of many distinct keys that go and come in HISTDESK. program.sh
-# says more about these arguments.
+# PLAINDESK print what the plain model does, and what many keys cost HISTDESK. program.sh says more about these arguments.
 set -uo pipefail
 
 tests=$(dirname -- "$(dirname -- "$(realpath -- "${BASH_SOURCE[0]}")")")
