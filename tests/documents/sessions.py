@@ -97,7 +97,7 @@ def blocks(text):
 class Place:
     """A folder in which the commands are run, as in the top folder of the repository."""
 
-    def __init__(self, folder, histdesk, histwatch, is_bare):
+    def __init__(self, folder, histdesk, histwatch, is_bare=False):
         self.folder, self.is_bare = folder, is_bare
         for name in ("tools", "examples", "python", "include", "docs"):
             os.symlink(os.path.join(ROOT, name), os.path.join(folder, name))
