@@ -299,7 +299,8 @@ RECORDINGS: Dict[str, List[str]] = {
     "others": ["-a", "-m", "4M", *SCHED, *OTHERS, "bash", "-c", EXEC],
     "few": ["-a", "-m", "4M", SCHED[0], *OTHERS[:2], *pipes(1000)],
     "mixed": ["-a", "-m", "4M", *SCHED, "-esched:sched_stat_runtime", *pipes(10000)],
-    "rare": ["-a", "-m", "4M", SCHED[2], "-esched:sched_stat_runtime", *OTHERS[:2], *pipes(10000)],
+    # Without a switch, nothing tells the task of an event if that has ended, as other tasks of the machine may.
+    "rare": ["-m", "4M", SCHED[2], "-esched:sched_stat_runtime", *OTHERS[:2], *pipes(10000)],
     "names": ["-a", "-m", "4M", *SCHED, sys.executable, "-c", NAMES],
     "exec": ["-a", "-m", "4M", *SCHED, "bash", "-c", EXEC],
 }
