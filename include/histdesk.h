@@ -364,7 +364,7 @@ uint32_t histdesk_strike(histdesk *desk, uint32_t cpu, uint32_t line);
  * that is among them twice, and the code is that refusal's; `struck` is how many events are struck then, and they stay struck.
  * HISTDESK_NO_LANE, HISTDESK_NO_EVENT; never HISTDESK_MEMORY. If `reports`, the report has each row that these strikes together
  * may have changed; otherwise there is no report, which takes less memory. If no event is struck, the last report stays. The
- * order of the places doesn't matter for the time it takes. */
+ * order of the places doesn't matter for the time it takes, if there is memory for a list of them. */
 uint32_t histdesk_strike_events(histdesk *desk, const histdesk_place *places, size_t count, bool reports, uint64_t *struck);
 
 /* Attaches the trigger in the text to the event of that name, HISTDESK_WAKING to HISTDESK_WAKEUP_LATENCY. `id` is its id.
