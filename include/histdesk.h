@@ -105,11 +105,11 @@ enum {
     HISTDESK_PREEMPTED = 3 /* the CPU was taken from it while it could run: sched_switch */
 };
 
-/* How sure a wait is, given the events that were lost during it. */
+/* How sure a wait is. */
 enum {
-    HISTDESK_SURE = 0,    /* no CPU lost events during it */
-    HISTDESK_LIKELY = 1,  /* some CPU did, but not those on which it began and ended */
-    HISTDESK_DOUBTFUL = 2 /* one of these CPUs lost events: the wait may be false */
+    HISTDESK_SURE = 0,    /* no hole overlaps it, and its `slept` is 0 */
+    HISTDESK_LIKELY = 1,  /* a hole overlaps it, but none of the CPUs on which it began and ended; or its `slept` is 1 */
+    HISTDESK_DOUBTFUL = 2 /* a hole of one of these CPUs overlaps it: the wait may be false */
 };
 
 /* Names of events. Triggers are attached to the first five. For any other event, only the task, PID, CPU and stamp are held. */
@@ -248,26 +248,27 @@ typedef struct histdesk_refusal {
 typedef struct histdesk_wait {
     histdesk_place ended;   /* of the switch that runs the task; lines are numbered by CPU, as in a desk */
     histdesk_place began;   /* of the event that the wait began with */
-    histdesk_place awoken;  /* if awoken_cause isn't 0: of the event that woke or created the task; else all zero */
     int32_t pid;            /* not 0 */
     int32_t prio;           /* with which the task runs */
     uint32_t cause;         /* HISTDESK_WOKEN .. */
-    uint32_t awoken_cause;  /* if the cause is HISTDESK_PREEMPTED and the task was also woken or created: how; else 0 */
     uint32_t doubt;         /* HISTDESK_SURE ..; histdesk_waits_copy writes 0, and histdesk_waits_doubt the actual value */
+    uint32_t slept;         /* 1 if the task was left asleep after the wait began, so that what woke it is unknown; else 0 */
     uint32_t zero;          /* 0 */
     histdesk_name name;     /* of the task, as the switch has it */
 } histdesk_wait;
 
-/* A stretch of time in which a CPU lost events, as reported by lines of the text. Members that it doesn't have are 0. */
+/* A stretch of time in which a CPU lost events, as reported by lines of the text or shown by its events. It overlaps a wait if
+ * it begins before the wait ends and ends after the wait began. Members that it doesn't have are 0. */
 typedef struct histdesk_hole {
-    uint64_t line;   /* of the first line that reports it, from 1 */
-    uint64_t after;  /* the stamp of the CPU's last event before it; has_after is false if there is none */
-    uint64_t before; /* the stamp of the CPU's first event after it; has_before is false if there is none */
+    uint64_t line;   /* of the first line that reports it, from 1; 0 if none does */
+    uint64_t after;  /* where it begins: the stamp of the CPU's last event before it; has_after is false if there is none */
+    uint64_t before; /* where it ends: the stamp of the CPU's first event after it; has_before is false if there is none */
     uint64_t count;  /* how many events were lost; has_count is false if no line says */
-    uint32_t cpu;
+    uint32_t cpu;    /* has_cpu is false if it isn't known: then a task ran somewhere, unseen, between the two stamps */
     bool has_after;
     bool has_before;
     bool has_count;
+    bool has_cpu;
 } histdesk_hole;
 
 /* What was read of a text. What isn't there is 0. */
@@ -326,7 +327,8 @@ typedef struct histdesk_task_sum {
 /* The sums of a text for one CPU. Each figure stops at the largest 64-bit number. */
 typedef struct histdesk_cpu_sum {
     uint64_t idle;              /* how long it ran task 0, in microseconds: in runs whose two switches are both known */
-    uint64_t idle_with_waiters; /* for how much of that time some task waited for a processor */
+    uint64_t unknown;           /* for how long it isn't known what it ran: a switch left another task than the last one ran */
+    uint64_t idle_with_waiters; /* for how much of the time of task 0 some task waited for a processor */
     uint64_t longest;           /* the most of idle_with_waiters that one such run has */
     uint64_t longest_from;      /* the stamp at which the first run began that has so much; 0 if longest is 0 */
     uint32_t cpu;               /* the CPU */
@@ -519,11 +521,12 @@ uint32_t histdesk_waits_join(histdesk *desk, histdesk *part, uint64_t *count);
 
 /* Leaves events out of the text: those of a name that pass the filter in a text of `length` bytes, or all of the name if
  * `length` is 0. They wake, create and switch nothing, as if they weren't in the text. But they keep their line numbers, and
- * everything reported about the text itself counts them: lines, events, stamps, holes and missing switches. Each further call
- * leaves out more. HISTDESK_NO_STREAM: no stream takes pieces, or it has already taken one. HISTDESK_BAD_COMMAND: no such
- * event, or HISTDESK_OTHER. HISTDESK_BAD_FILTER. If the text has been refused, the code is that of histdesk_waits_feed. A
- * refusal changes nothing, except what histdesk_waits_refused reports: the stream goes on as before, even after
- * HISTDESK_MEMORY, and a text that has ended keeps its waits, holes, counts and sums. */
+ * everything reported about the text itself counts them: lines, events, stamps, missing switches and holes, except those of
+ * a task that ran unseen, which only the other events show. Each further call leaves out more. HISTDESK_NO_STREAM: no stream
+ * takes pieces, or it has already taken one. HISTDESK_BAD_COMMAND: no such event, or HISTDESK_OTHER. HISTDESK_BAD_FILTER. If
+ * the text has been refused, the code is that of histdesk_waits_feed. A refusal changes nothing, except what
+ * histdesk_waits_refused reports: the stream goes on as before, even after HISTDESK_MEMORY, and a text that has ended keeps
+ * its waits, holes, counts and sums. */
 uint32_t histdesk_waits_without(histdesk *desk, uint32_t event, const uint8_t *filter, size_t length);
 
 /* Also sums up the text by task and by CPU, without the events that are left out. HISTDESK_NO_STREAM: no stream of a whole text
@@ -544,8 +547,8 @@ uint32_t histdesk_waits_finish(histdesk *desk, histdesk_waits_read *read, uint64
 size_t histdesk_waits_copy(histdesk *desk, uint64_t from, histdesk_wait *to, size_t room);
 
 /* Once the stream has ended, copies the holes of the text, in this order: those of CPUs that begin late, by CPU, if only the
- * header says that events were overwritten; those that an event ended, the first one first; and those that last to the end, by
- * CPU. */
+ * header says that events were overwritten; those that an event ended, the first one first; those that last to the end, by
+ * CPU; and then those that no line reports: of CPUs that begin late or end early, and at last of CPUs that aren't known. */
 size_t histdesk_waits_holes(histdesk *desk, uint64_t from, histdesk_hole *to, size_t room);
 
 /* Once the stream has ended, copies how many events were left out: item n is for the n-th histdesk_waits_without, from 0. An
@@ -569,9 +572,9 @@ uint32_t histdesk_waits_last(histdesk *desk, uint64_t *stamp, bool *has);
  * on as before. No refusal except HISTDESK_MEMORY. */
 uint32_t histdesk_waits_held(histdesk *desk, uint64_t *count);
 
-/* Writes how sure waits of this text are, once the stream has ended. A task whose CPU was taken from it may have run unnoticed
- * since then; if that wait isn't sure, and the one since the task was woken or created is, `began` and `cause` become the
- * latter's. A wait whose cause is none of the three stays as it is. HISTDESK_NO_STREAM; never HISTDESK_MEMORY. */
+/* Writes into `doubt` how sure waits of this text are, once the stream has ended: by the holes that overlap them, and by
+ * `slept`, of which any number except 0 counts as 1. Nothing else is written. A wait whose cause is none of the three stays as
+ * it is. HISTDESK_NO_STREAM; never HISTDESK_MEMORY. */
 uint32_t histdesk_waits_doubt(histdesk *desk, histdesk_wait *waits, size_t count);
 
 /* Why the last of histdesk_waits_new, _part, _join, _without, _sum_up, _feed, _finish, _last, _held and _doubt was refused:
@@ -646,16 +649,15 @@ HISTDESK_ASSERT_(sizeof(histdesk_report) == 24);
 HISTDESK_AT_(histdesk_report, has_made, 1);
 HISTDESK_AT_(histdesk_report, rows, 8);
 HISTDESK_AT_(histdesk_report, made, 16);
-HISTDESK_ASSERT_(sizeof(histdesk_wait) == 104);
+HISTDESK_ASSERT_(sizeof(histdesk_wait) == 88);
 HISTDESK_AT_(histdesk_wait, began, 16);
-HISTDESK_AT_(histdesk_wait, awoken, 32);
-HISTDESK_AT_(histdesk_wait, pid, 48);
-HISTDESK_AT_(histdesk_wait, prio, 52);
-HISTDESK_AT_(histdesk_wait, cause, 56);
-HISTDESK_AT_(histdesk_wait, awoken_cause, 60);
-HISTDESK_AT_(histdesk_wait, doubt, 64);
-HISTDESK_AT_(histdesk_wait, zero, 68);
-HISTDESK_AT_(histdesk_wait, name, 72);
+HISTDESK_AT_(histdesk_wait, pid, 32);
+HISTDESK_AT_(histdesk_wait, prio, 36);
+HISTDESK_AT_(histdesk_wait, cause, 40);
+HISTDESK_AT_(histdesk_wait, doubt, 44);
+HISTDESK_AT_(histdesk_wait, slept, 48);
+HISTDESK_AT_(histdesk_wait, zero, 52);
+HISTDESK_AT_(histdesk_wait, name, 56);
 HISTDESK_ASSERT_(sizeof(histdesk_hole) == 40);
 HISTDESK_AT_(histdesk_hole, after, 8);
 HISTDESK_AT_(histdesk_hole, before, 16);
@@ -664,6 +666,7 @@ HISTDESK_AT_(histdesk_hole, cpu, 32);
 HISTDESK_AT_(histdesk_hole, has_after, 36);
 HISTDESK_AT_(histdesk_hole, has_before, 37);
 HISTDESK_AT_(histdesk_hole, has_count, 38);
+HISTDESK_AT_(histdesk_hole, has_cpu, 39);
 HISTDESK_ASSERT_(sizeof(histdesk_waits_read) == 96);
 HISTDESK_AT_(histdesk_waits_read, bad, 8);
 HISTDESK_AT_(histdesk_waits_read, bad_line, 16);
@@ -697,12 +700,13 @@ HISTDESK_AT_(histdesk_task_sum, blocked, 32);
 HISTDESK_AT_(histdesk_task_sum, moved, 40);
 HISTDESK_AT_(histdesk_task_sum, pid, 48);
 HISTDESK_AT_(histdesk_task_sum, zero, 52);
-HISTDESK_ASSERT_(sizeof(histdesk_cpu_sum) == 40);
-HISTDESK_AT_(histdesk_cpu_sum, idle_with_waiters, 8);
-HISTDESK_AT_(histdesk_cpu_sum, longest, 16);
-HISTDESK_AT_(histdesk_cpu_sum, longest_from, 24);
-HISTDESK_AT_(histdesk_cpu_sum, cpu, 32);
-HISTDESK_AT_(histdesk_cpu_sum, zero, 36);
+HISTDESK_ASSERT_(sizeof(histdesk_cpu_sum) == 48);
+HISTDESK_AT_(histdesk_cpu_sum, unknown, 8);
+HISTDESK_AT_(histdesk_cpu_sum, idle_with_waiters, 16);
+HISTDESK_AT_(histdesk_cpu_sum, longest, 24);
+HISTDESK_AT_(histdesk_cpu_sum, longest_from, 32);
+HISTDESK_AT_(histdesk_cpu_sum, cpu, 40);
+HISTDESK_AT_(histdesk_cpu_sum, zero, 44);
 HISTDESK_ASSERT_(sizeof(histdesk_refusal) == 40);
 HISTDESK_AT_(histdesk_refusal, fault, 4);
 HISTDESK_AT_(histdesk_refusal, filter_fault, 8);

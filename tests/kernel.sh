@@ -7,10 +7,13 @@ set -euo pipefail
 
 # shellcheck disable=SC2016 # what stands in backquotes is the text's
 usage='usage: tests/kernel.sh [OPTION].. PROGRAM
+       tests/kernel.sh --judge [OPTION]..
 
 Boots a kernel in qemu, attaches hist triggers to the four events of the scheduler, runs a workload, and compares the
 tables, the totals, the orders of rows and the latencies of the kernel with those that PROGRAM, a built histdesk, gives
-for the text of the same trace. It takes half a minute.
+for the text of the same trace. It takes half a minute. With --judge, it records the guest instead, quiet and loaded, and holds
+the waits that are reported as sure against the account of this kernel, as tests/judge.sh does; the library is that of
+$HISTDESK_LIBRARY, or else the one that is built.
 
   --cpus N             the guest has N processors (1); with several, tables that overflow are left out
   --random SEED COUNT  adds COUNT random triggers to the fixed ones; the workload has the same seed
@@ -33,6 +36,7 @@ vmlinuz=
 package=linux-image-cloud-amd64
 all=
 keep=
+judge=
 # What --all boots.
 packages=(linux-image-cloud-amd64 linux-image-rt-amd64 linux-image-6.12-cloud-amd64 linux-image-6.12-rt-amd64)
 # A boot that takes more seconds of the processors than `limit`, or more of time, on a busy machine, than `patience`, is ended.
@@ -71,18 +75,21 @@ while (($# > 0)); do
         printf -v "${1#--}" %s "$2"
         shift 2
         ;;
-    --all)
-        all=yes
+    --all | --judge)
+        declare "${1#--}=yes"
         shift
         ;;
     -*) stop "no such option: $1; --help says more" ;;
     *) break ;;
     esac
 done
-(($# == 1)) || stop "wants one word, PROGRAM; --help says more"
+(($# == (${#judge} ? 0 : 1))) || stop "wants one word, PROGRAM, and none with --judge; --help says more"
 ((cpus > 0)) || stop "a guest has one processor at least"
-program=$(realpath -- "$1")
-[[ -f $program && -x $program ]] || stop "no program: $1"
+program=
+if [[ -z $judge ]]; then
+    program=$(realpath -- "$1")
+    [[ -f $program && -x $program ]] || stop "no program: $1"
+fi
 
 # needs COMMAND PACKAGE: ends the run if the command is missing.
 needs() {
@@ -126,18 +133,23 @@ debian_kernel() {
     printf '%s\n' "$found"
 }
 
-# The file system of the guest: busybox, its first process, the workload and the cases.
+# The file system of the guest: busybox, its first process, the workload, and the cases or the program that reads the account.
 initrd() {
-    local root=$folder/root
+    local root=$folder/root first=init.sh
+    [[ -z $judge ]] || first=judged.sh
     mkdir -p -- "$root/bin"
     cp -- "$(command -v busybox)" "$root/bin/busybox"
     if ! "$root/bin/busybox" --list | grep -x base64 >/dev/null || ldd "$root/bin/busybox" >/dev/null 2>&1; then
         stop "busybox is not the static one: apt-get install busybox-static"
     fi
-    cp -- "$tests/kernel/init.sh" "$root/init"
+    cp -- "$tests/kernel/$first" "$root/init"
     chmod +x -- "$root/init"
     gcc -O2 -static -o "$root/workload" "$tests/kernel/workload.c" || stop "gcc cannot link the workload statically"
-    cp -- "$folder/cases" "$root/cases"
+    if [[ -n $judge ]]; then
+        gcc -O2 -static -o "$root/readings" "$tests/kernel/readings.c" || stop "gcc cannot link the readings statically"
+    else
+        cp -- "$folder/cases" "$root/cases"
+    fi
     (cd -- "$root" && find . | cpio -o -H newc --quiet) >"$folder/initrd"
 }
 
@@ -147,12 +159,16 @@ boot() {
     # On one processor the clock is that of a trigger that names none; kernel/triggers.py says why not on several.
     local clock=global words tries
     ((cpus == 1)) || clock=mono
+    # The clock of a guest that is judged counts instructions, so that it stands still while qemu waits for a processor. With
+    # several processors, such a guest hardly gets anywhere.
+    local clocked=()
+    [[ -z $judge ]] || ((cpus > 1)) || clocked=(-icount shift=4)
     # Without hardware virtualisation, a kernel may take the interrupts of its serial line for lost ones and turn them off.
     words="console=ttyS0 panic=-1 noirqdebug loglevel=0 hd_seed=$seed hd_clock=$clock"
     for tries in 1 2 3; do
         (
             ulimit -t "$limit"
-            timeout "$patience" qemu-system-x86_64 -accel tcg -smp "$cpus" -m 1024 -nic none -display none -monitor none \
+            timeout "$patience" qemu-system-x86_64 -accel tcg "${clocked[@]}" -smp "$cpus" -m 1024 -nic none -display none -monitor none \
                 -no-reboot -kernel "$1" -initrd "$folder/initrd" -append "$words" \
                 -serial "file:$folder/console" -serial "file:$folder/shown" </dev/null
         ) || stop "the guest did not end; its last words: $(tail -n 3 -- "$folder/console")"
@@ -174,15 +190,16 @@ boot_all() {
     local status=0 options
     for package in "${packages[@]}"; do
         for cpus in 1 2; do
-            options=(--package "$package" --cpus "$cpus" --random "$seed" "$count")
+            options=(${judge:+--judge} --package "$package" --cpus "$cpus" --random "$seed" "$count")
             [[ -z $keep ]] || options+=(--keep "$keep/$package-$cpus")
-            "$tests/kernel.sh" "${options[@]}" "$program" | tee -a -- "$folder/told" || status=$?
+            "$tests/kernel.sh" "${options[@]}" ${program:+"$program"} | tee -a -- "$folder/told" || status=$?
             seed=$((seed + 1))
         done
     done
     echo
     grep -E '^kernel |[0-9] tables \(|^[0-9]+ of [0-9]+ rows ' -- "$folder/told"
-    awk '/^[0-9]+ passed, [0-9]+ failed$/ { boots++; passed += $1; failed += $3 }
+    awk '/^[0-9]+ of [0-9]+ things hold$/ { boots++; passed += $1; failed += $3 - $1 }
+        /^[0-9]+ passed, [0-9]+ failed$/ { boots++; passed += $1; failed += $3 }
         END { printf "%d boots\n%d passed, %d failed\n", boots, passed, failed }' "$folder/told"
     return "$status"
 }
@@ -194,6 +211,17 @@ if [[ -n $all ]]; then
 fi
 [[ -n $vmlinuz ]] || vmlinuz=$(debian_kernel)
 [[ -r $vmlinuz ]] || stop "cannot read the kernel: $vmlinuz"
+if [[ -n $judge ]]; then
+    python=python3
+    "$python" -c 'import numpy' 2>/dev/null || python=/usr/bin/python3
+    PYTHONPATH=$tests/../python "$python" -Bc 'import histdesk; histdesk.Desk()' 2>"$folder/said" ||
+        stop "$(grep -m 1 Error: "$folder/said")"
+    initrd
+    boot "$vmlinuz"
+    printf 'kernel %s, %d CPUs\n' "$(<"$folder/out/version")" "$cpus"
+    "$python" "$tests/judge/judge.py" "$folder"/out/*/
+    exit
+fi
 python3 "$tests/kernel/triggers.py" "$cpus" "$seed" "$count" "$folder"
 initrd
 boot "$vmlinuz"

@@ -263,16 +263,9 @@ class Past:
             number += 1
         return None
 
-    def is_running(self, pid: int, after: Place, before: Place) -> bool:
-        """Return whether a task ran at an event between two places, by what the events say."""
-        for scene in self._scenes:
-            runs = scene.runs_of(pid)
-            low, high = (int(runs.searchsorted(scene.count_before(place))) for place in (after, before))
-            # The event at the first place may be among these.
-            low += low < len(runs) and place_at(scene, int(runs[low])) == after
-            if low < high:
-                return True
-        return False
+    def has_run(self, pid: int, before: Place) -> bool:
+        """Return whether a task ran at an event before a place, of those that were read, by what the events say."""
+        return any(scene.runs_of(pid).searchsorted(scene.count_before(before)) > 0 for scene in self._scenes)
 
     def steady_since(self, pid: int, place: Place, after: Spot | None) -> tuple[int, bool]:
         """Look at the events of a place's CPU up to that place: those after the event `after`, or all that were read if it is
@@ -332,11 +325,6 @@ def scenes_before(source: Source, until: int) -> Iterator[Scene]:
 def place_of(event: Event) -> Place:
     """Return where an event stands."""
     return Place(event.stamp, event.cpu, event.line)
-
-
-def place_at(scene: Scene, at: int) -> Place:
-    """Return where an event of a scene stands."""
-    return Place(int(scene.stamp[at]), int(scene.cpu[at]), int(scene.line[at]))
 
 
 # ---- the waits that the engine has found
@@ -447,9 +435,9 @@ class Follower:
         """Follow the task of an explained wait back to the event that made it runnable. Return why that isn't possible, or
         None."""
         wait = Wait(why.kind, why.pid, place_of(why.begin), place_of(why.end) if why.end else None)
-        if why.holes:
+        if why.doubtful:
             draft.waited, draft.since = why.micros, why.begin.stamp
-            return Stop("lost", _chain_text.lost_in_wait(draft.runner, why.holes[0]))
+            return doubtful_stop(draft.runner, why.holes)
         stop = self._follow(draft, wait)
         if draft.begin and draft.waker and wait.kind != PREEMPTED:
             # The explanation looked for the waker in more of the recording.
@@ -476,9 +464,11 @@ class Follower:
         last = None if wait.kind == FORKED else self._past.last_act(wait.pid, wait.begin, SLEEP_ROOM)
         act = None if last is None else self._past.event(last)
         if act is not None and act.pid != wait.pid and act.prev_state in RUNNABLE:
-            # The wait begins with the waking only because events were lost since the preemption.
+            # A task that was left runnable, and woken later, has run in between, unless it was preempted on its way to sleep.
             holes = self._past.holes(act.stamp, wait.begin.stamp)
-            return Stop("lost", _chain_text.lost_in_wait(draft.runner, holes[0] if holes else None))
+            if holes:
+                return Stop("lost", _chain_text.lost_in_wait(draft.runner, holes[0]))
+            return Stop("missing", _chain_text.woken_in_queue(draft.runner, act.stamp))
         draft.begin, draft.waker = self._past.event(spot), self._past.runner(spot)
         draft.context = "task" if wait.kind == FORKED else self._context(draft.begin)
         return None
@@ -501,15 +491,8 @@ class Follower:
         known = self._waits.ending(runner.pid, switch)
         if known is None:
             return self._no_wait(runner, switch)
-        begin = known.wait.begin
         if known.is_doubtful:
-            holes = self._past.holes(begin.stamp, switch.stamp)
-            return Stop("lost", _chain_text.lost_in_wait(runner, holes[0] if holes else None))
-        spot = self._past.last_act(runner.pid, switch)
-        left = None if spot is None else place_of(self._past.event(spot))
-        # A task that was woken on its way to sleep runs until it is switched out.
-        if self._past.is_running(runner.pid, max(left or begin, begin), switch):
-            return Stop("missing", _chain_text.ran_meanwhile(runner, switch.stamp))
+            return doubtful_stop(runner, self._past.holes(known.wait.begin.stamp, switch.stamp))
         return known.wait
 
     def _no_wait(self, runner: Runner, switch: Place) -> Stop:
@@ -520,7 +503,8 @@ class Follower:
             return Stop("lost", _chain_text.lost_before_run(runner, switch, holes[-1]))
         if spot is None and not self._past.is_whole:
             return Stop("limit", _chain_text.too_many_events(runner, LIMIT))
-        return Stop("missing" if spot else "start", _chain_text.no_waking(runner, switch, spot is not None))
+        has_run = spot is not None or self._past.has_run(runner.pid, switch)
+        return Stop("missing" if has_run else "start", _chain_text.no_waking(runner, switch, has_run))
 
     # ---- what else ends a chain, and sleep
 
@@ -546,6 +530,13 @@ class Follower:
         if act is None or self._past.holes(act.stamp, draft.begin.stamp):
             return None, None
         return (None, 0) if act.pid == draft.runner.pid else (act, draft.begin.stamp - act.stamp)
+
+
+def doubtful_stop(runner: Runner, holes: Sequence[Hole]) -> Stop:
+    """Return why the beginning of a doubtful wait isn't known, by the holes in its time."""
+    if holes:
+        return Stop("lost", _chain_text.lost_in_wait(runner, holes[0]))
+    return Stop("missing", _chain_text.slept_in_wait(runner))
 
 
 def end_at(draft: Draft) -> Stop | None:

@@ -124,23 +124,27 @@ def missing_switch(runner: Runner, cpu: int, since: int) -> str:
     return f"The chain stops here: {name(runner)} ran on CPU {cpu} at {seconds(since)}, and the switch to it was not recorded."
 
 
-def ran_meanwhile(runner: Runner, until: int) -> str:
-    """Return that a task ran while it seemed to wait."""
-    return (
-        f"The chain stops here: {name(runner)} ran while it seemed to wait until {seconds(until)}, "
-        "and the switch to it was not recorded."
-    )
-
-
 def lost_in_run(runner: Runner, hole: Hole) -> str:
     """Return that events were lost while a task ran, or before."""
     return f"The chain stops here: {hole_text(hole)}, so it isn't known since when {name(runner)} ran."
 
 
-def lost_in_wait(runner: Runner, hole: Hole | None) -> str:
+def lost_in_wait(runner: Runner, hole: Hole) -> str:
     """Return that events were lost while a task waited."""
-    where = hole_text(hole) if hole else "events were lost"
-    return f"The chain stops here: {where}, while {name(runner)} waited, so its waking may be another one."
+    return f"The chain stops here: {hole_text(hole)}, while {name(runner)} waited, so its waking may be another one."
+
+
+def slept_in_wait(runner: Runner) -> str:
+    """Return that a task slept once more after its wait seems to have begun."""
+    return f"The chain stops here: {name(runner)} slept once more after its waking, and what woke it then may be missing."
+
+
+def woken_in_queue(runner: Runner, left: int) -> str:
+    """Return that a task was woken although it was left runnable."""
+    return (
+        f"The chain stops here: {name(runner)} could still run when it left its CPU at {seconds(left)}, and was woken after "
+        "that; when it fell asleep isn't known."
+    )
 
 
 def lost_before_run(runner: Runner, switch: Place, hole: Hole) -> str:

@@ -15,7 +15,7 @@ from ._desk import Trace
 from ._parallel import call_at_once
 from ._stream import ReadText
 from ._tally import LastNames, Tally
-from ._wait_records import KINDS, Aside, Besides, Chosen
+from ._wait_records import KINDS, Aside, Chosen
 from ._wait_answer import About, WaitAnswer
 from ._waits import ReadOptions, about_text, answer_of, unknown_of
 from .native import layout
@@ -127,18 +127,18 @@ class Portion:
         self._choice = choice
         self.tally, self.last, self.kinds = Tally(choice.by, choice.doubtful), LastNames(), Kinds(choice)
 
-    def add(self, parts: Iterator[tuple[Structs, Besides]], text: ReadText, numbers: Collection[int]) -> None:
+    def add(self, parts: Iterator[Structs], text: ReadText, numbers: Collection[int]) -> None:
         """Count the waits of a text that was read. `numbers` are those of the chosen names."""
         chosen = self._choice.chosen
-        for records, besides in parts:
+        for records in parts:
             if text.read.losses.holes:
-                text.feed.judge(records, besides)
+                text.feed.judge(records)
             self.kinds.add_all(records)
             if not chosen.is_all():
                 records = records[chosen.mask(records, numbers)]
             self.kinds.add_chosen(records)
             self.tally.add(records)
-            if text.read.losses.holes:
+            if text.read.losses.holes or text.waits.is_doubtful:
                 self.last.add(records)
 
 

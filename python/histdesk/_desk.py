@@ -60,7 +60,7 @@ class Desk:
         self._session = Session()
         # The CPUs whose events are held, or None if there was no memory to find them; and where events of theirs were lost.
         self._held: set[int] | None = set()
-        self._holes: dict[int, list[Hole]] = {}
+        self._holes: dict[int | None, list[Hole]] = {}
 
     def close(self) -> None:
         """Give back its memory. Closing it again does nothing.
@@ -90,7 +90,7 @@ class Desk:
     # ---- edits
 
     def load(self, trace: Trace | Recording) -> Loaded:
-        """Load a trace. If any of its events were lost, a one-line `LossWarning` is issued.
+        """Load a trace. If lines of it report lost events, a one-line `LossWarning` is issued.
 
         Parameters
         ----------
@@ -169,8 +169,10 @@ class Desk:
 
     @property
     def holes(self) -> tuple[Hole, ...]:
-        """Where events of the loaded traces were lost, by CPU. Unloading a CPU takes its holes away."""
-        return tuple(hole for _, holes in sorted(self._holes.items()) for hole in holes)
+        """Where events of the loaded traces are missing, by CPU; those of a CPU that isn't known come last. Unloading a CPU
+        takes its holes away."""
+        cpus = sorted(self._holes, key=lambda cpu: (cpu is None, cpu))
+        return tuple(hole for cpu in cpus for hole in self._holes[cpu])
 
     def unload(self, cpu: int) -> int:
         """Remove all events of a CPU. Its line numbers begin at 1 again.

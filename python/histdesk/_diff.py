@@ -377,7 +377,7 @@ class Difference:
         doubts = [side.doubtful for side in (self.before, self.after)]
         if any(doubts):
             counts = f"{doubts[0]} before and {doubts[1]} after"
-            lines.append(f"doubtful waits are left out, {counts}: events were lost in their time")
+            lines.append(f"doubtful waits are left out, {counts}: events of their time may be missing")
         return list(map(_tables.printable, lines))
 
     def _output(self) -> tuple[list[str], _tables.Table, list[str]]:

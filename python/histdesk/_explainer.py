@@ -13,13 +13,13 @@ from ._desk import Desk, Trace
 from ._losses import seconds
 from ._recording import Choice, Recording, path_of, read_text
 from ._scene import Contexts, Scene, Wait, numbers, of_desk
-from ._schema import SWITCH, WAKEUP
+from ._schema import SWITCH
 from ._slices import Source
 from ._stream import held_waits
 from ._text import is_read_once, text_again
 from ._values import Event, Place
 from ._wait_answer import KINDS
-from ._waits import ReadOptions, Waits, judge, waits_of, waits_of_recording, waits_of_text
+from ._waits import ReadOptions, Waits, waits_of, waits_of_recording, waits_of_text
 from ._why import Why, scene_in, why_in, why_of, whys_in
 
 if TYPE_CHECKING:
@@ -113,7 +113,7 @@ class Explainer:
         raise NotImplementedError
 
     def acts(self, pid: int, start: int, until: int) -> Scene:
-        """Return the events about a task whose stamps are at least `start` and below `until`."""
+        """Return the events that say of a task when it ran or waited, with stamps from `start` on and below `until`."""
         raise NotImplementedError
 
     def lines(self, cpu: int) -> tuple[int, int] | None:
@@ -192,7 +192,7 @@ class Explainer:
     def _running(self, pid: int, event: Event) -> int | None:
         """Return the CPU on which a task ran at an event; None if it didn't."""
         acts = self.acts(pid, self._run_before(pid, event), event.stamp + 1)
-        turns = [acts.event(at) for at in numbers(acts.name == SWITCH)]
+        turns = [acts.event(at) for at in numbers((acts.name == SWITCH) & ((acts.pid == pid) | (acts.prev_pid == pid)))]
         before = [turn for turn in turns if place_of(turn) < place_of(event)]
         return before[-1].cpu if before and before[-1].pid == pid else None
 
@@ -220,7 +220,7 @@ class DeskExplainer(Explainer):
 
     def acts(self, pid: int, start: int, until: int) -> Scene:
         mask = (self._scene.stamp >= start) & (self._scene.stamp < until)
-        mask &= _surroundings.is_about(self._scene.array, pid)
+        mask &= _surroundings.is_act_of(self._scene.array, pid)
         return Scene(*_surroundings.Piece(self._scene.events, self._scene.line).only(mask), self._scene.holes)
 
     def lines(self, cpu: int) -> tuple[int, int] | None:
@@ -344,18 +344,17 @@ def wait_of(row: Any) -> Wait:
 
 def lasting_wait(acts: Scene, pid: int, last: int) -> Wait | None:
     """Return the wait of a task that lasts to the end of a recording: the one that the engine finds if a switch to the task
-    comes last. `acts` has all events about the task since it last ran, and `last` is the last stamp."""
-    events = [acts.event(at) for at in numbers(acts.name != WAKEUP)]
-    turns = [at for at, event in enumerate(events) if event.name == "sched_switch" and event.pid == pid]
-    events = events[turns[-1] if turns else 0 :]
+    comes last. `acts` has all events that say of the task since it last ran when it ran or waited, and `last` is the last
+    stamp."""
+    turns = numbers((acts.name == SWITCH) & (acts.pid == pid))
+    events = [acts.event(at) for at in range(turns[-1] if turns else 0, len(acts.events))]
     cpu = max((event.cpu for event in events), default=0)
-    front = f"x-1 [{cpu}] {seconds(last)}: sched_switch: prev_comm=x prev_pid={pid + 1} prev_prio=0 prev_state=S"
+    other = pid + 1
+    front = f"x-{other} [{cpu}] {seconds(last)}: sched_switch: prev_comm=x prev_pid={other} prev_prio=0 prev_state=S"
     lines = [*map(line_of, events), f"{front} ==> next_comm=x next_pid={pid} next_prio=0"]
     with Desk() as desk:
         desk.load("\n".join(lines).encode())
-        kept = held_waits(desk._session)
-    records = kept.records()
-    judge(records, kept.besides, acts.holes)
+        records = held_waits(desk._session).records()
     count = 1 + sum(event.cpu == cpu for event in events)
     for record in records[(records["end_cpu"] == cpu) & (records["end_line"] == count)]:
         of_cpu = [event for event in events if event.cpu == record["begin_cpu"]]
@@ -365,7 +364,7 @@ def lasting_wait(acts: Scene, pid: int, last: int) -> Wait | None:
 
 def line_of(event: Event) -> str:
     """Return an event as a line of a trace, with as much of it as a wait needs."""
-    front = f"x-1 [{event.cpu}] {seconds(event.stamp)}: {event.name}:"
+    front = f"x-{max(event.common_pid, 0)} [{event.cpu}] {seconds(event.stamp)}: {event.name}:"
     if event.name != "sched_switch":
         return f"{front} comm=x pid={event.pid} prio=0 target_cpu=0"
     left = f"prev_comm=x prev_pid={event.prev_pid} prev_prio=0 prev_state={event.prev_state}"

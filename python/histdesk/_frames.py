@@ -20,7 +20,7 @@ TIMES = frozenset(
     (
         *("stamp", *(f"{end}_stamp" for end in ("begin", "end", "saved", "read")), "micros"),
         *(*FIGURES, *(f"{figure}_{side}" for figure in FIGURES for side in ("before", "after"))),
-        *("run_time", "busy", "idle", "idle_with_waiters", "longest", "longest_from"),
+        *("run_time", "busy", "idle", "idle_with_waiters", "longest", "longest_from", "unknown"),
     )
 )
 

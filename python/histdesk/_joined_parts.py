@@ -7,7 +7,7 @@ from typing import TYPE_CHECKING, Any
 
 import numpy as np
 
-from ._wait_records import RECORD_FIELDS, Besides, Kept, WaitSink, within
+from ._wait_records import RECORD_FIELDS, Kept, WaitSink
 
 if TYPE_CHECKING:
     from numpy.typing import NDArray
@@ -30,32 +30,29 @@ class PartWaits:
     def __len__(self) -> int:
         return len(self._own) + len(self._completions)
 
+    @property
+    def is_doubtful(self) -> bool:
+        """Whether any of them isn't sure, whatever the holes."""
+        return self._own.is_doubtful or self._completions.is_doubtful
+
     def add_names(self, names: Numbers) -> None:
         """Add the names of its tasks to others."""
         names.of(self._own.name_rows)
         names.of(self._completions.name_rows)
 
-    def parts(self, names: Numbers) -> Iterator[tuple[Structs, Besides]]:
-        """Yield arrays of all of them, each with what was besides, by the index in the array. The names of tasks get their
-        numbers among the `names` of the whole text."""
-        more, besides = self._completions.records().copy(), self._completions.besides
+    def parts(self, names: Numbers) -> Iterator[Structs]:
+        """Yield arrays of all of them. The names of tasks get their numbers among the `names` of the whole text."""
+        more = self._completions.records().copy()
         more["name"] = names.of(self._completions.name_rows)[more["name"]]
         start = 0
-        for records, own_besides in rename(self._own, names):
+        for records in rename(self._own, names):
             for end in ("begin", "end"):
                 self._move(records, end)
             end_at = start + int(places_in(more[start:], records[-1:])[0])
-            own_besides = [(at, self._move_waits(waits)) for at, waits in own_besides]
-            yield merge(records, own_besides, more[start:end_at], within(besides, start, end_at - start))
+            yield merge(records, more[start:end_at])
             start = end_at
         if start < len(more):
-            yield more[start:], within(besides, start, len(more) - start)
-
-    def _move_waits(self, waits: Structs) -> Structs:
-        """Return waits of the engine's that were woken or created besides, with the places of the whole text."""
-        waits = waits.copy()
-        self._move(waits, "awoken")
-        return waits
+            yield more[start:]
 
     def _move(self, structs: Structs, end: str) -> None:
         """Count the lines of an end from the beginning of the whole text."""
@@ -73,11 +70,16 @@ class LaterWaits:
     def __len__(self) -> int:
         return len(self._sink)
 
+    @property
+    def is_doubtful(self) -> bool:
+        """Whether any of them isn't sure, whatever the holes."""
+        return self._sink.is_doubtful
+
     def add_names(self, names: Numbers) -> None:
         """Add the names of their tasks to others."""
         names.of(self._sink.name_rows)
 
-    def parts(self, names: Numbers) -> Iterator[tuple[Structs, Besides]]:
+    def parts(self, names: Numbers) -> Iterator[Structs]:
         """Yield all of them, as `PartWaits.parts` does."""
         return rename(self._sink, names)
 
@@ -97,51 +99,53 @@ class JoinedWaits:
     def __len__(self) -> int:
         return len(self._first) + sum(map(len, self._parts))
 
+    @property
+    def is_doubtful(self) -> bool:
+        """Whether any of them isn't sure, whatever the holes."""
+        return self._first.is_doubtful or any(part.is_doubtful for part in self._parts)
+
     def names(self) -> NDArray[np.object_]:
         """Return the names of tasks, as an array of texts."""
         for part in self._parts:
             part.add_names(self._first.numbers)
         return self._first.names()
 
-    def all(self) -> tuple[Structs, Besides]:
-        """Return an array of all records, and what was besides, by the index in the array."""
-        records_of_all, besides, count = np.empty(len(self), RECORD_FIELDS), [], 0
-        for records, part in self.parts():
+    def all(self) -> Structs:
+        """Return an array of all records."""
+        records_of_all, count = np.empty(len(self), RECORD_FIELDS), 0
+        for records in self.parts():
             records_of_all[count : count + len(records)] = records
-            besides += [(at + count, waits) for at, waits in part]
             count += len(records)
-        return records_of_all, besides
+        return records_of_all
 
-    def parts(self) -> Iterator[tuple[Structs, Besides]]:
-        """Yield copies of all records, each array with what was besides, by the index in the array."""
+    def parts(self) -> Iterator[Structs]:
+        """Yield copies of all records, in arrays."""
         for portion in self.portions():
             yield from portion
 
-    def portions(self) -> list[Iterator[tuple[Structs, Besides]]]:
+    def portions(self) -> list[Iterator[Structs]]:
         """Return the same in several portions, in order, which may be gone through at once after `names` was called."""
         return [self._first.parts(), *(part.parts(self._first.numbers) for part in self._parts)]
 
 
-def rename(sink: WaitSink, names: Numbers) -> Iterator[tuple[Structs, Besides]]:
+def rename(sink: WaitSink, names: Numbers) -> Iterator[Structs]:
     """Yield all records of a sink, with the numbers that their names have among `names`."""
     own_names = names.of(sink.name_rows)
-    for records, besides in sink.parts():
+    for records in sink.parts():
         records["name"] = own_names[records["name"]]
-        yield records, besides
+        yield records
 
 
-def merge(records: Structs, besides: Besides, more: Structs, more_besides: Besides) -> tuple[Structs, Besides]:
+def merge(records: Structs, more: Structs) -> Structs:
     """Merge two arrays of records, both in the order in which their waits ended."""
     if not len(more):
-        return records, besides
-    before = places_in(records, more)
-    where = before + np.arange(len(more))
+        return records
+    where = places_in(records, more) + np.arange(len(more))
     result = np.empty(len(records) + len(more), records.dtype)
     is_own = np.ones(len(result), bool)
     is_own[where] = False
     result[where], result[is_own] = more, records
-    shifts = [(at + before.searchsorted(at, side="right"), waits) for at, waits in besides]
-    return result, shifts + [(where[at], waits) for at, waits in more_besides]
+    return result
 
 
 def places_in(records: Structs, others: Structs) -> NDArray[np.intp]:

@@ -1,4 +1,4 @@
-"""Where events of a recording were lost, as its text reports it."""
+"""Where events of a recording are missing: where they were lost, as its text reports it, and what its events show."""
 
 from __future__ import annotations
 
@@ -30,17 +30,17 @@ class Piece(Protocol):
 
 @public
 class LossWarning(UserWarning):
-    """Events of a recording were lost, so that some of its waits may be false."""
+    """Lines of a recording report that events were lost, so that some of its waits may be false."""
 
 
 @public
 class Hole(NamedTuple):
-    """A stretch of time in which events of a CPU were lost.
+    """A stretch of time of which events of a CPU are missing: they were lost, or events show that they aren't there.
 
     Attributes
     ----------
     cpu
-        The CPU.
+        The CPU; None if it isn't known, since only a task is shown that ran between two stamps, unseen.
     after
         The stamp of the CPU's last event before it, in microseconds; None if it begins with the recording.
     before
@@ -48,10 +48,11 @@ class Hole(NamedTuple):
     lost
         How many events were lost; None if the text doesn't say how many.
     line
-        Which line of the text, from 1, reports it first; None in a slice, before which lines aren't counted.
+        Which line of the text, from 1, reports it first; None if no line does, or in a slice, before which lines aren't
+        counted.
     """
 
-    cpu: int
+    cpu: int | None
     after: int | None
     before: int | None
     lost: int | None = None
@@ -60,21 +61,24 @@ class Hole(NamedTuple):
 
 @public
 class Losses(NamedTuple):
-    """What a text reports about lost events.
+    """What is known about the events that a text lacks.
 
     Attributes
     ----------
     holes
-        When events were lost on which CPU.
+        When events of which CPU are missing.
     in_buffer
         How many events the kernel's buffers held; None without the kernel's header.
     written
         How many events the kernel wrote into them; None without the kernel's header.
+    shown
+        How many of the holes, the last ones, no line reports: only events show them.
     """
 
     holes: tuple[Hole, ...] = ()
     in_buffer: int | None = None
     written: int | None = None
+    shown: int = 0
 
     @property
     def overwritten(self) -> int:
@@ -83,11 +87,13 @@ class Losses(NamedTuple):
 
     @property
     def warning(self) -> str | None:
-        """What was lost, in one line; None if nothing was."""
+        """What lines report lost, in one line; None if they report nothing. It says nothing of holes that only events show."""
         parts = [f"{self.overwritten} of {self.written} events were overwritten before it begins"] if self.overwritten else []
         late: dict[int, int] = {}
         torn: dict[int, list[Hole]] = {}
-        for hole in self.holes:
+        for hole in reported(self).holes:
+            if hole.cpu is None:
+                continue
             if hole.after is None and hole.before is not None:
                 late[hole.cpu] = hole.before
             else:
@@ -120,6 +126,11 @@ def loss_on(cpu: int, holes: list[Hole]) -> str:
     return f"CPU {cpu} lost {count} {places}between {since} and {until}"
 
 
+def reported(losses: Losses) -> Losses:
+    """Return what lines of a text report, of what is known to be missing."""
+    return losses._replace(holes=losses.holes[: len(losses.holes) - losses.shown], shown=0)
+
+
 def has_signs(text: Piece) -> bool:
     """Return whether a text may have lines that report losses, besides the header."""
     return any(text.find(sign) >= 0 for sign in SIGNS)
@@ -142,7 +153,7 @@ def losses_of(text: Searchable) -> Losses:
         # Then the header says all.
         head = read_losses(text[:HEADER_ROOM])
         if not head.overwritten:
-            return head._replace(holes=())
+            return head._replace(holes=(), shown=0)
     return read_losses(text)
 
 
@@ -160,10 +171,14 @@ def copy_losses(copy: Call, handle: layout.Handle, read: layout.LossesRead | lay
     """Return what the engine has reported about a text; `copy` is the call that copies the holes."""
     holes = (layout.Hole * read.holes)()
     check_copied(copy(handle, 0, holes, read.holes), read.holes)
-    return Losses(tuple(map(hole_of, holes)), *((read.held, read.written) if read.has_written else (None, None)))
+    # Those that only events show come last.
+    known = sorted(map(hole_of, holes), key=lambda hole: hole.line is None)
+    shown = sum(hole.line is None for hole in known)
+    return Losses(tuple(known), *((read.held, read.written) if read.has_written else (None, None)), shown)
 
 
 def hole_of(hole: layout.Hole) -> Hole:
     """Return a hole from the engine's struct."""
     after, before = (Stamp(getattr(hole, name)) if getattr(hole, f"has_{name}") else None for name in ("after", "before"))
-    return Hole(hole.cpu, after, before, hole.count if hole.has_count else None, hole.line or None)
+    cpu, count = hole.cpu if hole.has_cpu else None, hole.count if hole.has_count else None
+    return Hole(cpu, after, before, count, hole.line or None)

@@ -117,6 +117,8 @@ class Recording:
         self._is_part = False
         # Whether what was lost was reported already.
         self.is_reported = False
+        # Whether it is of a source, whose losses also have what the events of the whole text show.
+        self.is_of_source = False
         # The slice of a text that it is, if it is one.
         self._slice: Slice | None = None
 
@@ -182,7 +184,7 @@ class Recording:
 
     @property
     def warning(self) -> str | None:
-        """What was lost, in one line; None if nothing was."""
+        """What lines report lost, in one line; None if they report nothing."""
         return self.losses.warning
 
     @property
@@ -379,7 +381,7 @@ def read(
     Warns
     -----
     LossWarning
-        If events were lost.
+        If lines report that events were lost.
 
     Raises
     ------

@@ -10,7 +10,7 @@ import numpy as np
 
 from . import _selection
 from ._lines import NONE, Lines, lines_in
-from ._losses import Losses
+from ._losses import Hole, Losses
 from ._public import public
 from ._recording import Choice, Recording, choice_of, read_whole
 from ._stream import Checkpoint
@@ -51,7 +51,7 @@ class Source:
         path
             The name by which it is called.
         losses
-            The losses that its text reports.
+            What is known about the events that it lacks.
         lenient
             Whether lines that can't be read are left out.
         checkpoints
@@ -64,7 +64,7 @@ class Source:
 
     @property
     def losses(self) -> Losses:
-        """The losses that its text reports."""
+        """What is known about the events that it lacks."""
         return self._losses
 
     def pieces(self) -> Iterator[Any]:
@@ -143,7 +143,7 @@ class Source:
         first, last = self._around(start, until, lead)
         part = Recording(self.path, None, self._losses)
         # The waits have reported what was lost.
-        part.is_reported = True
+        part.is_reported = part.is_of_source = True
         lines = self._read(part, first, last)
         if lead:
             start = start_with_lead(lines, start, lead)
@@ -294,6 +294,16 @@ class Slice:
         if self.is_whole:
             return losses_of_text(self.text)
         return losses_near(self.whole, self.bounds, choice.start, choice.until, inside)
+
+    def shown(self, losses: Losses) -> tuple[Hole, ...]:
+        """Return the holes that events of it show, of what its stream says is missing. A CPU that begins late, or ends early,
+        has one only if the text begins or ends there too."""
+        holes = []
+        for hole in losses.holes:
+            is_cut = hole.after is None and self.bounds.at or hole.before is None and self.bounds.end is not None
+            if hole.line is None and not is_cut:
+                holes.append(hole)
+        return tuple(holes)
 
 
 def slice_of(text: Text, lenient: bool) -> Slice:

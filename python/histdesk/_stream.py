@@ -11,13 +11,13 @@ from typing import TYPE_CHECKING, Any, NamedTuple
 import numpy as np
 
 from . import _text
-from ._losses import Losses, copy_losses
+from ._losses import Losses, copy_losses, reported
 from ._refusal import exception_of
 from ._session import Session
 from ._text import Piece, Text, pieces_of
 from ._times import Stamp
 from ._values import Place
-from ._wait_records import Besides, Kept, Nobody, WaitSink, engine_waits, take_over, within
+from ._wait_records import Kept, Nobody, WaitSink, engine_waits
 from .native import layout
 from .native.buffers import bytes_of
 from .native.library import library, unlocked
@@ -57,8 +57,8 @@ class NotJoined(Exception):
 
 class Read(NamedTuple):
     """What was read of a text: how many events each CPU has, the stamps of the first and the last one in microseconds (None if
-    there are none), what was lost, how many lines can't be read and the first of these, and how many switches are missing
-    though no line reports it, and where the first event that shows it stands."""
+    there are none), what is known about lost events, how many lines can't be read and the first of these, and how many switches
+    are missing though no line reports it, and where the first event that shows it stands."""
 
     events: dict[int, int]
     first: Stamp | None
@@ -96,8 +96,6 @@ class StreamWaits(NamedTuple):
         The names of tasks, by their numbers.
     read
         What was read.
-    besides
-        For preempted tasks that were also woken or created: which waits these are, and where and how that was.
     checkpoints
         Checkpoints of the text, from its beginning to its end.
     sums
@@ -107,7 +105,6 @@ class StreamWaits(NamedTuple):
     records: Structs
     names: NDArray[np.object_]
     read: Read
-    besides: Besides
     checkpoints: tuple[Checkpoint, ...] = ()
     sums: Sums | None = None
 
@@ -175,11 +172,11 @@ def read_waits(pieces: Iterator[Piece], lenient: bool = False, judges: bool = Tr
 def end_waits(text: ReadText, judges: bool = True, sums: bool = False) -> StreamWaits:
     """Return the waits of a text that was read, and close its stream; the parameters are those of `read_waits`."""
     with contextlib.closing(text.feed) as feed:
-        records, besides = text.waits.all()
+        records = text.waits.all()
         if text.read.losses.holes and judges:
-            judge_all(feed, records, besides)
+            judge_all(feed, records)
         names = in_order(records, text.waits.names())
-        return StreamWaits(records, names, text.read, besides, text.checkpoints, feed.sums() if sums else None)
+        return StreamWaits(records, names, text.read, text.checkpoints, feed.sums() if sums else None)
 
 
 def in_order(records: Structs, names: NDArray[np.object_]) -> NDArray[np.object_]:
@@ -195,20 +192,19 @@ def in_order(records: Structs, names: NDArray[np.object_]) -> NDArray[np.object_
     return ordered
 
 
-def judge_all(feed: Feed, records: Structs, besides: Besides) -> None:
-    """Find out how sure all waits of a text are, and with what they began."""
+def judge_all(feed: Feed, records: Structs) -> None:
+    """Find out how sure all waits of a text are."""
     for start in range(0, len(records), CHUNK):
-        part = records[start : start + CHUNK]
-        feed.judge(part, within(besides, start, len(part)))
+        feed.judge(records[start : start + CHUNK])
 
 
 def losses_of_pieces(pieces: Iterator[Piece]) -> Losses:
-    """Return what a text in the order of time reports lost; lines that can't be read are skipped. Raises `Backwards` if it is
-    in another order."""
+    """Return what lines of a text in the order of time report lost; those that can't be read are skipped. Raises `Backwards` if
+    it is in another order."""
     with contextlib.closing(Feed(True, Nobody())) as feed:
         for piece in pieces:
             feed.feed(piece)
-        return feed.end().losses
+        return reported(feed.end().losses)
 
 
 class CheckpointNotes:
@@ -313,13 +309,13 @@ class Feed:
         tasks = self._every(library.histdesk_waits_tasks, layout.TaskSum)
         return Sums(tasks, self._every(library.histdesk_waits_cpus, layout.CpuSum))
 
-    def judge(self, records: Structs, besides: Besides) -> None:
-        """Write to the records of waits how sure they are, and with what they began. The text has ended."""
-        waits = engine_waits(records, besides)
+    def judge(self, records: Structs) -> None:
+        """Write to the records of waits how sure they are, by the holes of the text, which has ended."""
+        waits = engine_waits(records)
         # Several threads may judge.
         with self._lock:
             self._call(unlocked.histdesk_waits_doubt, waits.ctypes.data, len(waits))
-        take_over(records, waits)
+        records["doubt"] = waits["doubt"]
 
     def so_far(self) -> tuple[int, dict[int, int]]:
         """Return the stamp of the last event in the lines that have ended, -1 if there is none, and how many events each CPU
@@ -379,7 +375,7 @@ class Stream(Feed):
     def finish(self, judges: bool) -> StreamWaits:
         """Take the end of the text, and return its waits and what was read. With `judges`, find out how sure they are."""
         read = self.end()
-        records, besides = self._kept.all()
+        records = self._kept.all()
         if read.losses.holes and judges:
-            judge_all(self, records, besides)
-        return StreamWaits(records, self._kept.names(), read, besides)
+            judge_all(self, records)
+        return StreamWaits(records, self._kept.names(), read)

@@ -19,7 +19,7 @@ from ._desk import Desk, Trace
 from ._frames import Times, finished
 from ._invocation import tool
 from ._lines import lines_in
-from ._losses import LossWarning
+from ._losses import LossWarning, reported
 from ._public import public
 from ._recording import Choice, Recording, path_of, read_whole
 from ._schema import SUMMARY_GROUPS, SWITCH
@@ -135,7 +135,7 @@ class CpuSummary(NamedTuple):
     cpu
         Its number.
     busy
-        How long it ran tasks: the time from its first switch to its last one in which it wasn't idle.
+        How long it ran tasks: the time from its first switch to its last one, without `idle` and `unknown`.
     idle
         How long it was idle, in runs of task 0 of which both switches were recorded.
     idle_with_waiters
@@ -144,6 +144,8 @@ class CpuSummary(NamedTuple):
         The most of that time within a single idle run.
     longest_from
         When the first idle run with that much of it began; None if `longest` is 0.
+    unknown
+        For how much of the time from its first switch to its last one it isn't known what it ran.
     switches
         How many switches it has.
     waits, total, mean, p99, max
@@ -160,6 +162,7 @@ class CpuSummary(NamedTuple):
     idle_with_waiters: int
     longest: int
     longest_from: Stamp | None
+    unknown: int
     switches: int
     waits: int
     total: int
@@ -178,7 +181,7 @@ Row = TaskSummary | NameSummary | CpuSummary
 ROWS: dict[str, type[Row]] = {"task": TaskSummary, "name": NameSummary, "cpu": CpuSummary}
 assert tuple(ROWS) == SUMMARY_GROUPS
 # The sums of a CPU.
-CPU_SUMS = ("cpu", "idle", "idle_with_waiters", "longest", "longest_from")
+CPU_SUMS = ("cpu", "idle", "idle_with_waiters", "longest", "longest_from", "unknown")
 # The sums of a task that its row has as they are.
 TASK_SUMS = ("run_time", "switches", "preempted", "moved", "slept", "blocked")
 
@@ -339,7 +342,7 @@ class Summary(Answer):
             The remarks; none if nothing has to be known.
         """
         remarks = super().remarks()
-        if self.holes:
+        if reported(self._about.losses).holes:
             remarks.append("run, busy and idle times across lost events may be false, and switches there aren't counted")
         return remarks
 
@@ -426,17 +429,18 @@ def cpu_rows(sums: NDArray[Any], waits: Counts, spans: Spans) -> list[CpuSummary
     rows = rows_by_key(waits)
     found = []
     for sum_of_cpu in sums:
-        cpu, idle, idle_with_waiters, longest, longest_from = (int(sum_of_cpu[field]) for field in CPU_SUMS)
+        cpu, idle, idle_with_waiters, longest, longest_from, unknown = (int(sum_of_cpu[field]) for field in CPU_SUMS)
         row, span = rows.get(cpu), spans.of(cpu)
         wait = row and row.greatest
         found.append(
             CpuSummary(
                 cpu=cpu,
-                busy=max(span.last - span.first - idle, 0),
+                busy=max(span.last - span.first - idle - unknown, 0),
                 idle=idle,
                 idle_with_waiters=idle_with_waiters,
                 longest=longest,
                 longest_from=Stamp(longest_from) if longest else None,
+                unknown=unknown,
                 switches=span.switches,
                 task=wait.name if wait else None,
                 pid=wait.pid if wait else None,
@@ -620,7 +624,7 @@ def summary(trace: Trace | Recording, *, doubtful: bool = False, lenient: bool =
     Warns
     -----
     LossWarning
-        If events were lost.
+        If lines report that events were lost.
 
     Raises
     ------
@@ -708,9 +712,9 @@ def summary_of_text(trace: Trace, options: SummaryOptions) -> Summary:
     def answer(text: ReadText, _: Text | None) -> Summary:
         with contextlib.closing(text.feed):
             names = text.waits.names()
-            for records, besides in text.waits.parts():
+            for records in text.waits.parts():
                 if text.read.losses.holes:
-                    text.feed.judge(records, besides)
+                    text.feed.judge(records)
                 tallies.add(records)
             sums = text.feed.sums()
         tallies.finish(names)

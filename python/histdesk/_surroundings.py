@@ -9,10 +9,10 @@ from typing import TYPE_CHECKING, Any, NamedTuple, TypeVar
 import numpy as np
 
 from ._events import Events
-from ._losses import Hole, seconds
+from ._losses import seconds
 from ._recording import LIMIT, Recording
 from ._scene import FOREVER, NEVER, Bounds, Contexts, Scene, Wait, context_of, lines_with
-from ._schema import WAKEUP_NEW, WAKING
+from ._schema import SWITCH, WAKEUP, WAKEUP_NEW, WAKING
 from ._slices import Source
 from ._stream import Checkpoint
 from ._stretches import Wakings
@@ -27,6 +27,8 @@ if TYPE_CHECKING:
 
 Answer = TypeVar("Answer")
 
+# The events that say which task runs or waits.
+ACTS = (WAKING, WAKEUP, WAKEUP_NEW, SWITCH)
 # How many events before a wait are read at first, and how many microseconds after it if they are wanted; and how many times
 # more are read each time.
 LEAD, WIDTH, GROWTH = 2048, 1000, 8
@@ -139,18 +141,27 @@ def groups_of(source: Source, waits: Sequence[Wait]) -> Iterator[list[int]]:
 
 
 def acts_of(source: Source, pid: int, start: int, until: int) -> Scene:
-    """Return the events about a task with stamps from `start` on and below `until`."""
-    return acts_in(map(piece_of, parts_of(source, start, until)), pid, source._losses.holes)
+    """Return the events that say of a task when it ran or waited, with stamps from `start` on and below `until`."""
+    pieces = map(piece_of, parts_of(source, start, until))
+    return Scene(*join([piece.only(is_act_of(piece.events.array, pid)) for piece in pieces]), source._losses.holes)
 
 
-def acts_in(pieces: Iterable[Piece], pid: int, holes: tuple[Hole, ...] = ()) -> Scene:
-    """Return the events about a task among those of pieces, of a recording with these holes."""
-    return Scene(*join([piece.only(is_about(piece.events.array, pid)) for piece in pieces]), holes)
+def acts_in(pieces: Iterable[Piece], pid: int) -> Scene:
+    """Return the events about a task among those of pieces."""
+    return Scene(*join([piece.only(is_about(piece.events.array, pid)) for piece in pieces]))
 
 
 def is_about(array: np.recarray[Any, Any], pid: int) -> NDArray[np.bool_]:
     """Return which events are about a task, as a mask."""
     mask: NDArray[np.bool_] = (array["pid"] == pid) | (array["prev_pid"] == pid)
+    return mask
+
+
+def is_act_of(array: np.recarray[Any, Any], pid: int) -> NDArray[np.bool_]:
+    """Return which events say of a task when it ran or waited, as a mask: those about it, and those of the scheduler that stand
+    on a line of it."""
+    own: NDArray[np.bool_] = (array["common_pid"] == pid) & np.isin(array["name"], ACTS)
+    mask: NDArray[np.bool_] = is_about(array, pid) | own
     return mask
 
 

@@ -251,7 +251,7 @@ def losses_of_text(text: Text) -> Losses:
     """Return what a text reports lost, with only pieces of it in memory."""
     head = losses_of(text.read(0, HEADER_ROOM))
     is_complete = not head.overwritten and not any(has_signs(piece) for _, piece in overlaps(text.pieces()))
-    return head._replace(holes=()) if is_complete else losses_of_lines(text.pieces)
+    return head._replace(holes=(), shown=0) if is_complete else losses_of_lines(text.pieces)
 
 
 def losses_near(text: Text, bounds: Bounds, start: int | None, until: int | None, inside: Losses | None = None) -> Losses:
@@ -301,7 +301,7 @@ def in_stretch(losses: Losses, start: int | None, until: int | None) -> Losses:
         and (until is None or hole.after is None or hole.after < until)
     ]
     is_late = any(hole.after is None for hole in holes)
-    return Losses(tuple(holes), *((losses.in_buffer, losses.written) if is_late else ()))
+    return Losses(tuple(holes), losses.in_buffer, losses.written) if is_late else Losses(tuple(holes))
 
 
 def overlaps(pieces: Iterator[Piece]) -> Iterator[tuple[int, bytes]]:

@@ -143,9 +143,10 @@ class Wait(NamedTuple):
     micros
         How long it lasted, in microseconds.
     doubtful
-        Whether lost events may have made it false.
+        Whether it may be false, or too long, since events of its time may be missing.
     likely
-        Whether it is doubtful but probably true, since the CPUs on which it began and ended lost no events.
+        Whether it is doubtful but probably true: the missing events are of other CPUs than those on which it began and ended,
+        or only what woke its task last isn't known.
     """
 
     task: str

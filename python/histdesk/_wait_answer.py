@@ -152,12 +152,12 @@ class Answer:
 
     @property
     def holes(self) -> tuple[Hole, ...]:
-        """Where events were lost."""
+        """Where events are missing: where lines report that they were lost, and where only events show it."""
         return self._about.losses.holes
 
     @property
     def warning(self) -> str | None:
-        """What was lost, in one line; None if nothing was."""
+        """What lines report lost, in one line; None if they report nothing."""
         return self._about.losses.warning
 
     @property
@@ -325,17 +325,14 @@ def doubt_remark(count: int, likely: int, are_counted: bool) -> str:
     they, their = ("it", "its") if count == 1 else ("they", "their")
     how = f"counted, though {they}" if are_counted else f"left out: {they}"
     remark = f"{_tables.count_of(count, 'doubtful wait')} {_tables.are(count)} {how}"
-    return f"{remark} may be false, since events were lost in {their} time{likely_remark(count, likely)}"
+    return f"{remark} may be false, since events of {their} time may be missing{likely_remark(count, likely)}"
 
 
 def likely_remark(count: int, likely: int) -> str:
     """Return how many of so many doubtful waits are likely true; empty if none is."""
     if not likely:
         return ""
-    if count == 1:
-        return "; it is likely true, since the CPUs on which it began and ended lost none"
-    remark = f"{likely} of them {_tables.are(likely)} likely true"
-    return f"; {remark}, since the CPUs on which they began and ended lost none"
+    return f"; {'it' if count == 1 else f'{likely} of them'} {_tables.are(likely)} likely true"
 
 
 def orders_of(by: str) -> tuple[str, ...]:

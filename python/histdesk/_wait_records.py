@@ -27,8 +27,8 @@ ROOM, PART, ASIDE = 1 << 16, 1 << 14, 1 << 22
 
 # The kinds of waits, by their numbers.
 KINDS = WAIT_KINDS
-# What is kept of a wait, in 48 bytes: its ends, its task, the number of the task's name, the number of its kind, and how sure
-# it is.
+# What is kept of a wait, in 48 bytes: its ends, its task, the number of the task's name, the number of its kind, how sure it
+# is, and whether its task was left asleep after it began.
 RECORD_FIELDS = [
     *((f"{end}_{name}", kind) for end in ("end", "begin") for name, kind in layout.PLACE_FIELDS),
     ("pid", "=i4"),
@@ -36,7 +36,8 @@ RECORD_FIELDS = [
     ("name", "=u4"),
     ("kind", "u1"),
     ("doubt", "u1"),
-    ("spare", "S2"),
+    ("slept", "u1"),
+    ("spare", "S1"),
 ]
 # What is alike in a wait of the engine's and in what is kept of it, and where that begins in both: the two ends, and the task
 # with its priority.
@@ -81,6 +82,8 @@ class WaitSink:
         # For waits as the engine has them.
         self._room = np.empty(most, WAIT_TYPE)
         self.numbers = Numbers(layout.NAME_WORDS)
+        # Whether any wait isn't sure, whatever the holes.
+        self.is_doubtful = False
 
     @property
     def name_rows(self) -> NDArray[np.uint64]:
@@ -91,15 +94,15 @@ class WaitSink:
         """Return the names of tasks, as an array of texts."""
         return texts_of_names(self.name_rows)
 
-    def all(self) -> tuple[Structs, Besides]:
-        """Return an array of all records, and their `Besides` by the index in it."""
+    def all(self) -> Structs:
+        """Return an array of all records."""
         raise NotImplementedError
 
-    def parts(self) -> Iterator[tuple[Structs, Besides]]:
-        """Yield copies of all records, each array with its `Besides` by the index in it."""
+    def parts(self) -> Iterator[Structs]:
+        """Yield copies of all records, in arrays."""
         raise NotImplementedError
 
-    def portions(self) -> list[Iterator[tuple[Structs, Besides]]]:
+    def portions(self) -> list[Iterator[Structs]]:
         """Return the same in several portions, in order. They may be gone through at once, after `names` was asked for."""
         return [self.parts()]
 
@@ -121,11 +124,13 @@ class WaitSink:
         raise NotImplementedError
 
     def write(self, waits: Structs, records: Structs) -> None:
-        """Write the records of as many waits. It isn't known yet how sure they are."""
+        """Write the records of as many waits. How sure they are isn't known yet, but for those that can't be sure."""
         copy_alike(waits, records)
         records["name"] = self.numbers.of(words_of_names(waits, "name"))
         records["kind"] = waits["cause"] - 1
-        records["doubt"] = layout.SURE
+        records["slept"] = waits["slept"]
+        records["doubt"] = lowest_doubts(records)
+        self.is_doubtful |= bool(waits["slept"].any())
 
 
 class Nobody(WaitSink):
@@ -140,7 +145,7 @@ class Nobody(WaitSink):
     def copy_waits(self, handle: layout.Handle) -> None:
         pass
 
-    def parts(self) -> Iterator[tuple[Structs, Besides]]:
+    def parts(self) -> Iterator[Structs]:
         return iter(())
 
 
@@ -160,8 +165,9 @@ def alike(kind: np.dtype[Any]) -> np.dtype[np.void]:
     return np.dtype({"names": list(ALIKE), "formats": formats, "offsets": offsets, "itemsize": kind.itemsize})
 
 
-# For preempted tasks that were also woken or created: which waits these are, and where and how that was.
-Besides: TypeAlias = "list[tuple[NDArray[np.intp], Structs]]"
+def lowest_doubts(records: Structs) -> NDArray[np.int64]:
+    """Return how sure waits are at most: likely, if their tasks were left asleep after they began."""
+    return np.where(records["slept"] != 0, layout.LIKELY, layout.SURE)
 
 
 class Kept(WaitSink):
@@ -171,7 +177,6 @@ class Kept(WaitSink):
         super().__init__(most)
         self._records = np.zeros(ROOM, RECORD_FIELDS)
         self._count = 0
-        self.besides: Besides = []
 
     def __len__(self) -> int:
         return self._count
@@ -186,16 +191,13 @@ class Kept(WaitSink):
             # In place if it can be: no other array stands on this one's memory yet.
             self._records.resize(max(self._count, len(self._records) * 9 // 8), refcheck=False)
         self.write(waits, self._records[start : self._count])
-        self.besides += besides_of(start, waits)
 
-    def all(self) -> tuple[Structs, Besides]:
-        """Return an array of all records, and their `Besides` by the index in it."""
-        return self.records(), self.besides
+    def all(self) -> Structs:
+        return self.records()
 
-    def parts(self) -> Iterator[tuple[Structs, Besides]]:
+    def parts(self) -> Iterator[Structs]:
         for start in range(0, self._count, PART):
-            records = self._records[start : min(start + PART, self._count)].copy()
-            yield records, within(self.besides, start, len(records))
+            yield self._records[start : min(start + PART, self._count)].copy()
 
 
 class Aside(WaitSink):
@@ -206,7 +208,6 @@ class Aside(WaitSink):
         self._records = np.empty(most, RECORD_FIELDS)
         self._file = tempfile.SpooledTemporaryFile(ASIDE)
         self._count = 0
-        self._besides: Besides = []
 
     def __del__(self) -> None:
         if hasattr(self, "_file"):
@@ -218,49 +219,21 @@ class Aside(WaitSink):
     def take(self, waits: Structs) -> None:
         records = self._records[: len(waits)]
         self.write(waits, records)
-        self._besides += besides_of(self._count, waits)
         self._count += len(waits)
         with in_temporary_folder():
             self._file.write(records.view("u1").data)
 
-    def parts(self) -> Iterator[tuple[Structs, Besides]]:
-        """Yield all records, each array with its `Besides` by the index in it."""
+    def parts(self) -> Iterator[Structs]:
         size = self._records.nbytes
         self._file.seek(0)
-        for start in range(0, self._count, len(self._records)):
-            records = np.frombuffer(bytearray(self._file.read(size)), RECORD_FIELDS)
-            yield records, within(self._besides, start, len(records))
+        for _ in range(0, self._count, len(self._records)):
+            yield np.frombuffer(bytearray(self._file.read(size)), RECORD_FIELDS)
 
 
-def besides_of(start: int, waits: Structs) -> Besides:
-    """Return the `Besides` of some waits of the engine's, the first of which has the index `start`."""
-    places = np.flatnonzero(waits["awoken_cause"])
-    return [(start + places, waits[places])] if len(places) else []
-
-
-def within(besides: Besides, start: int, count: int) -> Besides:
-    """Return the `Besides` of so many waits from an index on, by the index among these."""
-    parts = []
-    for at, waits in besides:
-        # They ascend, and most are of other parts.
-        if at[-1] >= start and at[0] < start + count:
-            first, end = at.searchsorted([start, start + count])
-            parts.append((at[first:end] - start, waits[first:end]))
-    return parts
-
-
-def engine_waits(records: Structs, besides: Besides) -> Structs:
+def engine_waits(records: Structs) -> Structs:
     """Return waits as the engine has them, without names, by their records."""
     waits = np.zeros(len(records), WAIT_TYPE)
     copy_alike(records, waits)
     waits["cause"] = records["kind"] + 1
-    for at, others in besides:
-        for name in ("awoken_stamp", "awoken_cpu", "awoken_line", "awoken_cause"):
-            waits[name][at] = others[name]
+    waits["slept"] = records["slept"]
     return waits
-
-
-def take_over(records: Structs, waits: Structs) -> None:
-    """Write to records what their waits began with, and how sure they are."""
-    copy_alike(waits, records)
-    records["kind"], records["doubt"] = waits["cause"] - 1, waits["doubt"]

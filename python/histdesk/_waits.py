@@ -14,7 +14,7 @@ from ._counts import Counts
 from ._desk import Desk, Trace
 from ._file_kind import check_kind
 from ._frames import Times, finished, from_codes
-from ._losses import Hole, Losses, LossWarning
+from ._losses import Hole, Losses, LossWarning, reported
 from ._public import public
 from ._recording import Choice, Recording, cpu_numbers, path_of, read_whole
 from ._refusal import MOST_SHOWN, Refused, at_later_line
@@ -27,7 +27,7 @@ from ._text import KeptText, Piece, Text, is_read_once, pieces_of, text_again
 from ._times import Stamp
 from ._values import Place, Wait
 from ._wait_answer import KINDS, NAMES, About, Held, WaitAnswer, table_of
-from ._wait_records import Chosen
+from ._wait_records import Chosen, lowest_doubts
 from .native import layout
 from .native.arrays import PLACE_TYPE
 from .native.library import library
@@ -36,7 +36,7 @@ if TYPE_CHECKING:
     from numpy.typing import NDArray
     from pandas import DataFrame  # type: ignore[import]
 
-    from ._wait_records import Besides, Structs
+    from ._wait_records import Structs
 
 SomeAnswer = TypeVar("SomeAnswer")
 
@@ -203,7 +203,7 @@ class Waits(WaitAnswer):
         for start in range(0, len(self), BATCH):
             some = self._records[start : start + BATCH]
             names = self._names[some["name"]].tolist()
-            for name, (*ends, pid, prio, _, kind, doubt, _) in zip(names, some.tolist()):
+            for name, (*ends, pid, prio, _, kind, doubt, _, _) in zip(names, some.tolist()):
                 end, begin = Place(Stamp(ends[0]), *ends[1:3]), Place(Stamp(ends[3]), *ends[4:])
                 is_doubtful, is_likely = doubt != layout.SURE, doubt == layout.LIKELY
                 yield Wait(name, pid, prio, KINDS[kind], begin, end, end.stamp - begin.stamp, is_doubtful, is_likely)
@@ -359,7 +359,7 @@ def waits(trace: Trace | Recording | Desk, *, lenient: bool = False, jobs: int |
     Warns
     -----
     LossWarning
-        If events were lost.
+        If lines report that events were lost.
 
     Raises
     ------
@@ -531,7 +531,7 @@ def waits_of_recording(recording: Recording, lenient: bool = False, watch: Watch
 def stream_slice(
     recording: Recording, part: Slice, lenient: bool = False, watch: Watch | None = None, sums: bool = False
 ) -> StreamWaits:
-    """Return the waits of a recording's slice, judged by what was lost in its time.
+    """Return the waits of a recording's slice, judged by what is missing in its time.
 
     Parameters
     ----------
@@ -553,15 +553,20 @@ def stream_slice(
         error.path = recording.path
         show_line(error, part.text)
         raise at_later_line(error, part.lines_before()) from None
+    inside = reported(stream.read.losses)
     if part.is_whole:
-        recording.losses = stream.read.losses
+        recording.losses = inside
         return stream
     if recording._losses is None:
-        recording.losses = part.losses(recording.choice, stream.read.losses)
-    judge(stream.records, stream.besides, recording.holes)
+        recording.losses = part.losses(recording.choice, inside)
+    losses = recording.losses
+    if not recording.is_of_source:
+        shown = part.shown(stream.read.losses)
+        losses = losses._replace(holes=(*losses.holes, *shown), shown=len(shown))
+    judge(stream.records, losses.holes)
     bad_line = stream.read.first_bad_line
     first_bad_line = None if bad_line is None else bad_line + part.lines_before()
-    return stream._replace(read=stream.read._replace(losses=recording.losses, first_bad_line=first_bad_line))
+    return stream._replace(read=stream.read._replace(losses=losses, first_bad_line=first_bad_line))
 
 
 def waits_of_stream(
@@ -612,7 +617,7 @@ def waits_of(desk: Desk, recording: Recording | None) -> Waits:
     recording."""
     kept = held_waits(desk._session)
     records, losses = kept.records(), Losses(desk.holes) if recording is None else recording.losses
-    judge(records, kept.besides, losses.holes)
+    judge(records, losses.holes)
     if recording is not None:
         for end in ("begin", "end"):
             records[f"{end}_line"] = recording.lines(records[f"{end}_cpu"], records[f"{end}_line"])
@@ -620,28 +625,18 @@ def waits_of(desk: Desk, recording: Recording | None) -> Waits:
     return Waits(records, kept.names(), about)
 
 
-def judge(records: Structs, besides: Besides, holes: Collection[Hole]) -> None:
-    """Write to the records how sure waits are by some holes, and with what they began."""
-    for at, waits in besides:
-        take_surer(records, at, waits, holes)
+def judge(records: Structs, holes: Collection[Hole]) -> None:
+    """Write to the records how sure waits are by some holes."""
     records["doubt"] = doubts_of(records, holes)
 
 
-def take_surer(records: Structs, at: NDArray[np.intp], waits: Structs, holes: Collection[Hole]) -> None:
-    """Begin waits of preempted tasks at their later waking or creation, if events were lost before that and none since."""
-    ends = records["end_stamp"][at]
-    surer = doubts(records["begin_stamp"][at], ends, holes) & ~doubts(waits["awoken_stamp"], ends, holes)
-    records["kind"][at[surer]] = waits["awoken_cause"][surer] - 1
-    for name, _ in layout.PLACE_FIELDS:
-        records[f"begin_{name}"][at[surer]] = waits[f"awoken_{name}"][surer]
-
-
-def doubts_of(columns: Structs, holes: Collection[Hole]) -> NDArray[np.int64]:
-    """Return how sure waits are: whether events were lost in their time, and on the CPUs on which they began and ended."""
-    begins, ends = columns["begin_stamp"], columns["end_stamp"]
-    doubt = np.where(doubts(begins, ends, holes), layout.LIKELY, layout.SURE)
-    for cpu in sorted({hole.cpu for hole in holes}):
-        there = (columns["begin_cpu"] == cpu) | (columns["end_cpu"] == cpu)
+def doubts_of(records: Structs, holes: Collection[Hole]) -> NDArray[np.int64]:
+    """Return how sure waits are: whether their tasks were left asleep after they began, and whether holes overlap them, also of
+    the CPUs on which they began and ended."""
+    begins, ends = records["begin_stamp"], records["end_stamp"]
+    doubt = np.where(doubts(begins, ends, holes), layout.LIKELY, lowest_doubts(records))
+    for cpu in sorted({hole.cpu for hole in holes if hole.cpu is not None}):
+        there = (records["begin_cpu"] == cpu) | (records["end_cpu"] == cpu)
         doubt[there & doubts(begins, ends, [hole for hole in holes if hole.cpu == cpu])] = layout.DOUBTFUL
     return doubt
 

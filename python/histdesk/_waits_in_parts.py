@@ -28,9 +28,9 @@ class InParts(WaitAnswer):
     def parts(self) -> Iterator[Waits]:
         """Yield the waits, in the order in which they ended."""
         names = self._text.waits.names()
-        for records, besides in self._text.waits.parts():
+        for records in self._text.waits.parts():
             if self.holes:
-                self._text.feed.judge(records, besides)
+                self._text.feed.judge(records)
             yield Waits(records, names, self._about)
 
 

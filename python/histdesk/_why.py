@@ -13,7 +13,7 @@ from ._columns import COLUMNS
 from ._losses import Hole, LossWarning
 from ._public import public
 from ._recording import Recording
-from ._scene import FORKED, PREEMPTED, Scene, Steps, Wants, spanned
+from ._scene import FORKED, PREEMPTED, WOKEN, Scene, Steps, Wants, spanned
 from ._scene import Wait as FoundWait
 from ._slices import Source
 from ._stretches import Runner, Share, Stretch, shares_of
@@ -87,7 +87,7 @@ class Why(Fields):
     elsewhere
         The same for the CPU where it was queued, if that is another one.
     holes
-        Where events were lost within the wait, which may then be false.
+        Where events are missing within the wait, which may then be false.
     unknown_cpus
         The CPUs on which the wait has more events than a desk holds, so that it isn't known what ran there.
     """
@@ -147,9 +147,17 @@ class Why(Fields):
         return placed.target_cpu if placed else None
 
     @property
+    def is_before_sleep(self) -> bool:
+        """Whether its task was left asleep after it began, and what woke the task after that may be missing."""
+        if self.slept is None or self.slept.stamp <= self.begin.stamp:
+            return False
+        # The kernel ends the waking of a task that is about to sleep once the task has left its CPU.
+        return not (self.kind == WOKEN and self.queued and self.queued.stamp >= self.slept.stamp)
+
+    @property
     def doubtful(self) -> bool:
-        """Whether events were lost within it, so that it may be false."""
-        return bool(self.holes)
+        """Whether it may be false or too long: events of its time are missing, or it begins before a sleep."""
+        return bool(self.holes) or self.is_before_sleep
 
     @property
     def shares(self) -> list[Share]:

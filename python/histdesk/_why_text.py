@@ -85,16 +85,26 @@ def put_out(why: Why) -> str:
 
 
 def doubts(why: Why) -> list[str]:
-    """Return where events were lost within the wait."""
+    """Return why the wait may be false, or too long: where events of its time are missing, and whether its task slept once
+    more."""
     lines = [f"Doubtful: {hole_text(hole)}; the wait may be false." for hole in why.holes[:HOLES]]
     more = len(why.holes) - HOLES
-    return lines if more <= 0 else [*lines, f"Events were lost in {counted(more, 'place', 'places')} more within it."]
+    if more > 0:
+        lines.append(f"Events are missing in {counted(more, 'place', 'places')} more within it.")
+    if why.slept and why.is_before_sleep:
+        left = f"it {way_out(why.slept.prev_state or '')} at {seconds(why.slept.stamp)}"
+        lines.append(f"Doubtful: {left}, and what woke it after that may be missing; then it waited for less time.")
+    return lines
 
 
 def hole_text(hole: Hole) -> str:
-    """Return where events were lost."""
+    """Return where events are missing; lines of the text report it, or other events show it."""
     since = "the beginning" if hole.after is None else seconds(hole.after)
     until = "the end" if hole.before is None else seconds(hole.before)
+    if hole.cpu is None:
+        return f"between {since} and {until} a task ran unseen, on a CPU that isn't known"
+    if hole.line is None and hole.lost is None:
+        return f"events of CPU {hole.cpu} are missing between {since} and {until}"
     count = "events" if hole.lost is None else f"{hole.lost} events"
     line = f" (line {hole.line} of the text)" if hole.line else ""
     return f"CPU {hole.cpu} lost {count} between {since} and {until}{line}"
@@ -123,17 +133,23 @@ def busy(why: Why, stretches: Sequence[Stretch]) -> list[str]:
 
 
 def always_idle(why: Why, cpu: int) -> str:
-    """Return what is known of a CPU that was idle all the while."""
-    if not why.elsewhere:
-        return f"CPU {cpu} was idle all the while: the time went into waking the CPU, not into a task."
-    return f"CPU {cpu} was idle all the while{', until the task was moved over' if cpu == why.cpu else ''}."
+    """Return what is known of a CPU that was idle all the while, and what may have kept the task from running there."""
+    front = f"CPU {cpu} was idle all the while"
+    if why.elsewhere and cpu == why.cpu:
+        return f"{front}, until it ran the task." if why.end else f"{front}."
+    # A CPU that has just left a task needn't be woken.
+    causes = ["the time went into waking the CPU"] if why.kind != PREEMPTED and not why.elsewhere else []
+    causes.append("a quota held the task back")
+    if why.kind == PREEMPTED or why.elsewhere or why.queue_cpu is None:
+        causes.append("it was queued on another CPU")
+    return f"{front}: {', or '.join(causes)}."
 
 
 def own_run(why: Why, stretches: Sequence[Stretch]) -> str:
     """Return how the task that waits came to run meanwhile: it ran on, or a switch to it is missing, and it didn't wait so
     long."""
     if stretches[0].pid == why.pid:
-        return "still ran: it was woken on its way to sleep"
+        return "still ran" if why.is_before_sleep else "still ran: it was woken on its way to sleep"
     return "ran, though no switch to it was recorded: this wait is too long, or false"
 
 

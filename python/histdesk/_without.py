@@ -215,7 +215,7 @@ def again_without(whole: Waits, pieces: Iterable[Piece], lenient: bool, chosen: 
 def less_of(whole: Waits, stream: Without) -> Less:
     """Return what a stream has found in a text that has ended, whose waits are `whole` if no event is left out."""
     result = stream.finish(False)
-    judge(result.records, result.besides, whole.holes)
+    judge(result.records, whole.holes)
     about = whole._about._replace(unknown=unknown_kinds(result.records))
     return Less(Waits(result.records, result.names, about), stream.left_out())
 

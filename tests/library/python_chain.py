@@ -27,9 +27,10 @@ sys.path[:0] = [PYTHON, os.path.join(HERE, "..", "model")]
 
 import histdesk
 import plain_chains
+import plain_waits
 from histdesk import Runner, _chain, _explainer, _surroundings, _text
 from python_runner import main
-from why_slices import noise
+from why_slices import held_by_desk, noise
 from why_traces import line, switch, trace, waking
 
 # The idle task, as it stands at a line's beginning.
@@ -164,9 +165,11 @@ class ByHand(unittest.TestCase):
             switch(1, 999990, "swapper/1-0", "R", "w-12", task=IDLE),
             line("w-12", 1, 1000000, "sched_waking: comm=w pid=12 prio=120 target_cpu=001", flags=""),
             switch(1, 1000001, "w-12", "S", "x-5"),
+            # It was woken on its way to sleep: its waking ended only then.
+            line("x-5", 1, 1000001, "sched_wakeup: comm=w pid=12 prio=120 target_cpu=001", flags=""),
             switch(1, 1000009, "x-5", "S", "w-12"),
         )
-        chain = chain_of(text, 1, 4)
+        chain = chain_of(text, 1, 5)
         self.assertEqual((figures(chain), chain.end), ([("w", 1, 0, 9, 0, 0)], "interrupt"))
         self.assertIn("w-12 itself still ran on CPU 1, where it was woken, so an interrupt woke it", chain.remark)
 
@@ -246,9 +249,11 @@ class ByHand(unittest.TestCase):
             switch(0, 999950, "swapper/0-0", "R", "w-12", task=IDLE),
             waking(IDLE, 2, 1000000, "p", 11, 1, flags="d.h2."),
             switch(1, 1000002, "p-11", "S", "swapper/1-0"),
+            waking(IDLE, 2, 1000003, "p", 11, 1, flags="d.h2.", event="sched_wakeup"),
             switch(1, 1000010, "swapper/1-0", "R", "p-11", task=IDLE),
             waking("p-11", 1, 1000030, "w", 12, 0),
             switch(0, 1000031, "w-12", "S", "x-5"),
+            waking("p-11", 1, 1000032, "w", 12, 0, event="sched_wakeup"),
             switch(0, 1000045, "x-5", "S", "w-12"),
         )
         chain = chain_of(text, 0, 3)
@@ -329,7 +334,7 @@ class Ends(unittest.TestCase):
         text = trace(
             switch(0, 1000000, "w-12", "S", "swapper/0-0"),
             switch(1, 1000100, "c-13", "S", "b-11"),
-            waking("b-11", 1, 1000110, "z", 9, 1),
+            waking("b-11", 1, 1000110, "y", 8, 1),
             waking("c-13", 1, 1000130, "z", 9, 1),
             waking("c-13", 1, 1000150, "w", 12, 0),
             switch(0, 1000152, "swapper/0-0", "R", "w-12", task=IDLE),
@@ -343,9 +348,12 @@ class Ends(unittest.TestCase):
     def test_missing_switch_elsewhere(self):
         """The last switch to b was on another CPU."""
         text = trace(
+            switch(1, 1000000, "c-13", "S", "swapper/1-0"),
             switch(2, 1000100, "x-5", "S", "b-11"),
             waking("b-11", 1, 1000150, "w", 12, 0),
             switch(0, 1000152, "swapper/0-0", "R", "w-12", task=IDLE),
+            waking("b-11", 2, 1000160, "z", 9, 1),
+            switch(1, 1000170, "b-11", "S", "swapper/1-0"),
         )
         self.assertEqual((chain_of(text, 0, 1).end, len(chain_of(text, 0, 1))), ("missing", 2))
 
@@ -354,7 +362,7 @@ class Ends(unittest.TestCase):
         text = trace(
             waking(IDLE, 2, 1000090, "b", 11, 1, flags="d.h2."),
             switch(1, 1000100, "c-13", "S", "b-11"),
-            waking("d-14", 1, 1000110, "z", 9, 1),
+            waking("d-14", 1, 1000110, "y", 8, 1),
             waking("b-11", 1, 1000140, "z", 9, 1),
             waking("b-11", 1, 1000150, "w", 12, 0),
             switch(0, 1000152, "swapper/0-0", "R", "w-12", task=IDLE),
@@ -363,17 +371,21 @@ class Ends(unittest.TestCase):
         self.assertEqual((chain.end, figures(chain)[1]), ("missing", ("b", 1, None, 0, 10, 0)))
 
     def test_ran_while_it_seemed_to_wait(self):
-        """b was woken and ran, without a switch to it, before the switch that seems to end its wait."""
-        text = trace(
+        """b was woken and ran, without a switch to it, before the switch that seems to end its wait: it ends none."""
+        lines = (
+            switch(1, 1000000, "swapper/1-0", "R", "c-13", task=IDLE),
             waking(IDLE, 2, 1000050, "b", 11, 1, flags="d.h2."),
             waking("b-11", 1, 1000070, "z", 9, 1),
             switch(1, 1000100, "c-13", "S", "b-11"),
             waking("b-11", 1, 1000150, "w", 12, 0),
             switch(0, 1000152, "swapper/0-0", "R", "w-12", task=IDLE),
         )
-        chain = chain_of(text, 0, 1)
+        chain = chain_of(trace(*lines), 0, 1)
         self.assertEqual((chain.end, figures(chain)[1]), ("missing", ("b", 1, None, 0, 50, 0)))
-        self.assertIn("b-11 ran while it seemed to wait until 1.000100", chain.remark)
+        self.assertEqual(chain.remark, "The chain stops here: no event shows what made b-11 runnable before it ran at 1:3.")
+        # An event of another name shows nothing.
+        chain = chain_of(trace(*lines[:2], line("b-11", 1, 1000070, "console: x"), *lines[3:]), 0, 1)
+        self.assertEqual((chain.end, figures(chain)[1]), ("interrupt", ("b", 1, None, 50, 50, 0)))
 
     def test_missing_waking(self):
         """b slept and ran again, and nothing woke it."""
@@ -393,7 +405,7 @@ class Ends(unittest.TestCase):
         lines = (
             waking(IDLE, 2, 1000090, "b", 11, 1, flags="d.h2."),
             switch(1, 1000100, "c-13", "S", "b-11"),
-            waking("b-11", 1, 1000110, "z", 9, 1),
+            waking("b-11", 1, 1000110, "y", 8, 1),
             "CPU:1 [LOST 7 EVENTS]",
             waking("b-11", 1, 1000140, "z", 9, 1),
             waking("b-11", 1, 1000150, "w", 12, 0),
@@ -406,8 +418,8 @@ class Ends(unittest.TestCase):
             "The chain stops here: CPU 1 lost 7 events between 1.000110 and 1.000140 (line 4 of the text), "
             "so it isn't known since when b-11 ran.",
         )
-        other = [*lines[:3], waking("x-5", 3, 1000111, "z", 9, 1), "CPU:3 [LOST 7 EVENTS]", *lines[4:]]
-        other.insert(5, waking("x-5", 3, 1000120, "z", 9, 1))
+        other = [*lines[:3], waking("x-5", 3, 1000111, "v", 6, 1), "CPU:3 [LOST 7 EVENTS]", *lines[4:]]
+        other.insert(5, waking("x-5", 3, 1000120, "u", 7, 1))
         self.assertEqual((chain_of(trace(*other), 0, 1).end, len(chain_of(trace(*other), 0, 1))), ("interrupt", 2))
 
     def test_lost_in_a_wait(self):
@@ -447,7 +459,7 @@ class Ends(unittest.TestCase):
         """b slept, and CPU 2 lost events before b ran again."""
         text = trace(
             switch(1, 1000010, "b-11", "S", "c-13"),
-            waking("x-5", 2, 1000050, "z", 9, 1),
+            waking("x-5", 2, 1000050, "y", 8, 1),
             "CPU:2 [LOST EVENTS]",
             waking("x-5", 2, 1000090, "z", 9, 1),
             switch(1, 1000100, "c-13", "S", "b-11"),
@@ -462,7 +474,7 @@ class Ends(unittest.TestCase):
         """How long a task has slept isn't known if events were lost meanwhile: it may have run."""
         text = trace(
             switch(0, 1000000, "w-12", "S", "swapper/0-0"),
-            waking("x-5", 2, 1000050, "z", 9, 1),
+            waking("x-5", 2, 1000050, "y", 8, 1),
             "CPU:2 [LOST EVENTS]",
             waking("x-5", 2, 1000090, "z", 9, 1),
             waking(IDLE, 1, 1000150, "w", 12, 0, flags="d.h2."),
@@ -552,10 +564,9 @@ class Sources(unittest.TestCase):
         """A chain is the same from slices as from the whole, whatever the events are."""
         ends = {}
         for seed in range(30):
-            text = noise(seed, 200)
-            with warnings.catch_warnings():
-                warnings.simplefilter("ignore", histdesk.LossWarning)
-                whole = _explainer.part_explainer(histdesk.read(text))
+            # What happens by chance shows holes nearly everywhere; what a simulated machine does shows few.
+            text = noise(seed, 200) if seed % 3 else plain_chains.simulated(seed, 60)
+            whole = held_by_desk(text)
             chance = random.Random(seed)
             sizes = {"LEAD": chance.choice([1, 5]), "GROWTH": chance.choice([1, 2]), "CHUNK": chance.choice([4, 30])}
             patches = [mock.patch.object(_chain, name, size) for name, size in sizes.items()]
@@ -583,8 +594,11 @@ class Folded(unittest.TestCase):
 
     def test_simulated(self):
         ends, steps = {}, 0
-        for seed in range(12):
+        for seed in range(16):
             text = plain_chains.simulated(seed, 400)
+            if plain_waits.gaps_of(text):
+                # The machine doesn't know that a CPU seems to begin late or to end early.
+                continue
             for beyond in (False, True):
                 chains = plain_chains.chains_of(text, beyond)
                 waits = _explainer.explainer_of(text)
@@ -602,7 +616,7 @@ class Folded(unittest.TestCase):
         """If a recording has lost events, its chains have no false step: each step is that of the whole recording, except for
         the last one, whose beginning isn't known."""
         ends, steps = {}, 0
-        for seed in range(12):
+        for seed in range(16):
             text = plain_chains.simulated(seed, 400, wakes_preempted=False)
             chains = plain_chains.chains_of(text, True)
             damaged, lines = plain_chains.damaged(text, seed)
@@ -740,9 +754,10 @@ class ManyEvents(unittest.TestCase):
         explainer = _explainer.explainer_of(text)
         self.assertGreater(explainer.waits.held.events, 1_000_000)
         whys = list(explainer.explain_each(explainer.waits[[100_000, 200_000, 300_000]]))
-        start = time.monotonic()
+        # The time of this process, however busy the machine is.
+        start = time.process_time()
         chains = [why.chain(beyond=True) for why in whys]
-        took = time.monotonic() - start
+        took = time.process_time() - start
         self.assertEqual([(len(chain), chain.end) for chain in chains], [(32, "limit")] * 3)
         self.assertLess(took, 3)
 

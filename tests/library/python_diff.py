@@ -16,7 +16,6 @@ import subprocess
 import sys
 import tempfile
 import unittest
-import unittest.mock
 import warnings
 
 # Nothing is written beside the sources.
@@ -65,7 +64,7 @@ def diff(*words, **named):
 
 def seconds_of(text):
     """How long a recording is."""
-    stamps = [event.place.stamp for event in plain_waits.events_of(text)]
+    stamps = [event.place.stamp for event in plain_waits.acts_of(text)]
     return (max(stamps) - min(stamps)) / 1000000
 
 
@@ -75,12 +74,6 @@ def stripped(text, filters):
     lines = text.split(b"\n")
     left = [line for line in lines if not any(pattern.search(line) for pattern in patterns)]
     return b"\n".join(left), [sum(bool(pattern.search(line)) for line in lines) for pattern in patterns]
-
-
-def waits_in(text, gaps):
-    """The waits of a text, of which it is known where events were lost."""
-    with unittest.mock.patch.object(plain_waits, "gaps_of", lambda text: list(gaps)):
-        return plain_waits.waits_of(text)
 
 
 def sides_of(waits, by, length, above):
@@ -209,8 +202,9 @@ class Without(Case):
     def compared(self, text, filters, above=None):
         """Return the difference that some filters make, compared with the plain reckoning over the text without those lines."""
         left, counts = stripped(text, filters)
+        # How sure waits are is by all events of the recording.
         gaps = plain_waits.gaps_of(text)
-        waits = [waits_in(text, gaps), waits_in(left, gaps)]
+        waits = [plain_waits.waits_of(text, gaps=gaps), plain_waits.waits_of(left, gaps=gaps)]
         found = diff(text, without=filters)
         self.assertEqual([one.count for one in found.struck], counts)
         self.holds(found, Reckoned(waits, [seconds_of(text)] * 2), above)
@@ -234,18 +228,37 @@ class Without(Case):
         found = diff(recordings.kinds().text, without="sched_waking if pid == 10")
         self.assertEqual(found.struck, (("sched_waking", "pid == 10", 4, 9),))
         self.assertEqual(
-            [(row.key, row.before.count, row.after.count) for row in found.table()], [(("renamed", 10, "woken"), 2, 0)]
+            [(row.key, row.before.count, row.after.count) for row in found.table()],
+            [(("renamed", 10, "woken"), 3, 0), (("renamed", 10, "preempted"), 0, 1)],
         )
-        self.assertEqual(found.fate, (2, 0, 0))
+        # Its first wait now begins where it was preempted.
+        self.assertEqual(found.fate, (2, 1, 0))
         found = diff(recordings.kinds().text, without=" sched_waking  if  pid == 12 && common_cpu == 0 ")
         self.assertEqual(found.fate, (1, 0, 0))
-        # Without the later one of its two wakings, the wait begins with the earlier one, 10 us before it.
+
+    def test_what_becomes_of_a_wait_after_two_wakings(self):
+        """Without the later one of two wakings, a wait begins with the earlier one, 10 us before it."""
+        lines = [
+            recordings.switch(0, 1000190, "<idle>-0", "c-12", state="R"),
+            # It is woken while it is about to sleep.
+            recordings.waking(1, 1000200, 12, name="c"),
+            recordings.switch(0, 1000201, "c-12", "<idle>-0"),
+            recordings.waking(1, 1000202, 12, name="c", event="sched_wakeup"),
+            recordings.waking(1, 1000210, 12, name="c"),
+            recordings.switch(0, 1000215, "<idle>-0", "c-12", state="R"),
+        ]
+        lines[4] = lines[4].replace("prio=120", "prio=99")
+        found = diff(recordings.text_of(lines), without="sched_waking if prio == 99")
+        (row,) = found.table()
+        self.assertEqual((row.key, row.before.max, row.after.max, found.fate), (("c", 12, "woken"), 5, 15, (0, 1, 0)))
+        # Here both wakings show that it ran unseen between them, so the longer wait is doubtful, even without the later one.
         lines = recordings.kinds().text.split(b"\n")
         second = [at for at, line in enumerate(lines) if b" pid=12 " in line and b"sched_waking" in line][1]
         lines[second] = lines[second].replace(b"prio=120", b"prio=99")
         found = diff(b"\n".join(lines), without="sched_waking if prio == 99")
         (row,) = found.table()
-        self.assertEqual((row.key, row.before.max, row.after.max, found.fate), (("c", 12, "woken"), 5, 15, (0, 1, 0)))
+        self.assertEqual((row.key, row.before.max, row.after.max, found.fate), (("c", 12, "woken"), 5, None, (0, 1, 0)))
+        self.assertEqual((row.before.doubtful, row.after.doubtful), (0, 1))
 
     def test_places_in_a_stretch_of_time(self):
         known = recordings.simulated(14, 200)
@@ -254,7 +267,7 @@ class Without(Case):
         found = diff(histdesk.read(path, start=histdesk.Stamp(half)), without="sched_wakeup_new")
         # Lines are counted from the first event that is taken.
         counts = {}
-        for event in plain_waits.events_of(known.text):
+        for event in plain_waits.acts_of(known.text):
             counts[event.place.cpu] = counts.get(event.place.cpu, 0) + (event.place.stamp < half)
         places = {wait.end._replace(line=wait.end.line - counts[wait.end.cpu]) for wait in known.waits}
         ends = [(int(wait.end_stamp), int(wait.end_cpu), int(wait.end_line)) for wait in found.after.array]
@@ -312,10 +325,12 @@ class Long(Case):
         names = list(FILTERS)[-2:]
         patterns = [re.compile(FILTERS[name]) for name in names]
         found = diff(path, without=names)
-        waits, left = (
-            made.waits(lambda text, some=some: plain_waits.waits_of(text, plain_waits.like(some)), count)
-            for some in ([], patterns)
-        )
+
+        def reckoned(some):
+            """The waits without what some patterns mean; how sure they are is by all events."""
+            return made.waits(lambda text: plain_waits.waits_of(text, plain_waits.like(some), plain_waits.gaps_of(text)), count)
+
+        waits, left = reckoned([]), reckoned(patterns)
         self.assertGreater(found.before.held.events, DESK)
         self.assertEqual([self.told(side) for side in (found.before, found.after)], [self.counts(waits), self.counts(left)])
         ends, other = ({wait.end: wait.begin for wait in side} for side in (waits, left))
@@ -351,20 +366,25 @@ class Tool(Case):
         self.put("k.trace", recordings.kinds().text)
         told, errors = self.run_tool("k.trace", "--without", "sched_waking if pid == 10", "--above", "20")
         self.assertEqual(errors, "")
-        # By hand: in 803 us there are waits of 0, 3, 5, 7, 30, 30, 40 and 40 us, 155 together; without 3 and 30, 122.
+        # By hand: in 813 us there are waits of 0, 3, 5, 7, 25, 30, 40 and 40 us, 150 together. Those of 3 and 30 are gone, and
+        # 25 becomes 30: 122.
         lines = told.split("\n")
-        self.assertEqual(lines[0], "k.trace: 26 events from 1.000000 to 1.000803 (0.000803 s) on CPUs 0-3")
+        self.assertEqual(lines[0], "k.trace: 29 events from 0.999990 to 1.000803 (0.000813 s) on CPUs 0-3")
         self.assertEqual([lines.pop(1)], plain_waits.missing_told(recordings.kinds().text))
         self.assertEqual(lines[1], "without 4 of 9 sched_waking if pid == 10")
-        self.assertEqual(lines[2], "2 waits are gone, 0 begin with another event, and 0 are new")
+        self.assertEqual(lines[2], "2 waits are gone, 1 begin with another event, and 0 are new")
         self.assertEqual(lines[3], "")
         self.assertEqual(lines[4].split(), "task pid kind waits mean p50 p90 p99 max above 20 change of waited/s".split())
-        self.assertEqual(lines[5].split(), "all 8 -> 6 19.4 -> 20.3 7 40 40 40 50.000% -41096 (-21%)".split())
+        self.assertEqual(lines[5].split(), "all 8 -> 6 18.8 -> 20.3 7 40 40 40 50.000% -34440 (-19%)".split())
         self.assertEqual(
             lines[6].split(),
-            "renamed 10 woken 2 -> 0 16.5 -> - 3 -> - 30 -> - 30 -> - 30 -> - 50.000% -> - -41096 (-100%)".split(),
+            "renamed 10 woken 3 -> 0 19.3 -> - 25 -> - 30 -> - 30 -> - 30 -> - 66.667% -> - -71341 (-100%)".split(),
         )
-        self.assertEqual(lines[7:], [""])
+        self.assertEqual(
+            lines[7].split(),
+            "renamed 10 preempted 0 -> 1 - -> 30.0 - -> 30 - -> 30 - -> 30 - -> 30 - -> 100.000% +36900".split(),
+        )
+        self.assertEqual(lines[8:], [""])
 
     def test_stretch_of_time(self):
         self.put("k.trace", recordings.kinds().text)

@@ -56,7 +56,7 @@ class TextHole(ctypes.Structure):
     _fields_ = [
         *((name, ctypes.c_uint64) for name in ["line", "after", "before", "count"]),
         ("cpu", ctypes.c_uint32),
-        *((name, ctypes.c_bool) for name in ["has_after", "has_before", "has_count"]),
+        *((name, ctypes.c_bool) for name in ["has_after", "has_before", "has_count", "has_cpu"]),
     ]
 
 
@@ -147,7 +147,8 @@ class Losses:
                 count = self.overwritten.get(cpu)
                 if count == 0:
                     continue
-            yield (line, after or 0, before or 0, count or 0, cpu, after is not None, before is not None, count is not None)
+            known = (after, before, count)
+            yield (line, *(one or 0 for one in known), cpu, *(one is not None for one in known), True)
 
 
 def wanted_losses(text):
@@ -225,7 +226,7 @@ class Texts(Desk):
         text += "a-1 [001] 1.000100: x: y"
         lines = [(72, 2000100, 1, 0, 0, 0), (73, 0, 0, 253, 0, 0), (93, 0, 0, 253, 0, 0), (101, 0, 0, 254, 1, 0)]
         self.assertEqual(self.lines(text), [*lines, (125, 1000100, 1, 5, 0, 0)])
-        self.assertEqual(self.losses(text), ([(3, 2000100, 1000100, 0, 1, True, True, False)], None))
+        self.assertEqual(self.losses(text), ([(3, 2000100, 1000100, 0, 1, True, True, False, True)], None))
         self.assertEqual(self.lines(""), [])
         self.assertEqual(self.lines("\n"), [(1, 0, 0, 253, 0, 0)])
         self.assertEqual(self.losses("# entries-in-buffer/entries-written: 7/9   #P:2\n"), ([], [7, 9]))

@@ -145,6 +145,32 @@ class Losses(unittest.TestCase):
             answer, _ = quiet(histdesk.Desk().load, make(MIDDLE.encode()))
             self.assertEqual((answer, answer.skipped, len(answer.holes)), (4, 1, 1))
 
+    @unittest.skipUnless(numpy, "without numpy there are no waits")
+    def test_tasks_that_ran_unseen(self):
+        """A task that is woken twice ran in between, on a CPU that isn't known. No line reports it, and so no warning does."""
+        text = "".join(waking(0, stamp, pid) for stamp, pid in [("1.000010", 22), ("1.000020", 21), ("1.000030", 22)])
+        text += SWITCH.format(cpu=0, stamp="1.000040", pid=21)
+        waits, told = quiet(histdesk.waits, text.encode())
+        self.assertEqual((waits.holes, len(waits), waits.doubtful, waits.likely), ((Hole(None, 1000010, 1000030),), 1, 1, 1))
+        self.assertEqual((waits.warning, told), (None, []))
+        recording, told = quiet(histdesk.read, text.encode())
+        self.assertEqual((recording.holes, quiet(histdesk.Desk().load, text.encode())[0].holes, told), ((), (), []))
+        again = text + waking(0, "1.000050", 22) + waking(0, "1.000060", 21)
+        waits, _ = quiet(histdesk.waits, again.encode())
+        self.assertEqual(waits.holes, (Hole(None, 1000010, 1000030), Hole(None, 1000030, 1000050)))
+        # A loss that a line reports is told, and nothing else.
+        waits, told = quiet(histdesk.waits, (again + "CPU:0 [LOST 3 EVENTS]\n").encode())
+        holes = (Hole(None, 1000010, 1000030), Hole(None, 1000030, 1000050))
+        self.assertEqual(waits.holes, (Hole(0, 1000060, None, 3, 7), *holes))
+        warning = "events were lost: CPU 0 lost 3 between 1.000060 and the end; a wait across such a time may be false"
+        self.assertEqual((waits.warning, told), (warning, [warning]))
+        # They belong to no CPU.
+        waits, _ = quiet(histdesk.waits, again.encode())
+        desk = histdesk.Desk()
+        whole = waits.source.between("1.000000", "2.000000")
+        quiet(desk.load, whole)
+        self.assertEqual((desk.holes, desk.unload(0), desk.holes), (waits.holes, 6, waits.holes))
+
     def test_a_desk_knows_its_holes(self):
         desk = histdesk.Desk()
         quiet(desk.load, LATE.encode())

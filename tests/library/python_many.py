@@ -67,11 +67,11 @@ class Truth:
             with open(path, "wb") as file:
                 file.write(gzip.compress(text) if seed % 7 == 0 else text)
             self.paths.append(path)
-            self.add(path, text, known.gaps)
+            self.add(path, text)
 
-    def add(self, path, text, gaps):
-        """Reckon one recording."""
-        if gaps:
+    def add(self, path, text):
+        """Reckon one recording. It is lossy if its lines say so, not if only its events show that some are missing."""
+        if plain_waits.lost_in(text):
             self.lossy.append(path)
         for wait in plain_waits.waits_of(text):
             key = wait.name, wait.kind

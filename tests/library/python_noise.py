@@ -115,7 +115,7 @@ def figures_of(waits, length):
 
 def length_of(text):
     """How many microseconds a recording is long."""
-    stamps = [event.place.stamp for event in plain_waits.events_of(text)]
+    stamps = [event.place.stamp for event in plain_waits.acts_of(text)]
     return max(stamps) - min(stamps)
 
 
@@ -447,7 +447,7 @@ class Parts(Case):
 
     def parts(self, text):
         """The waits of each of eight parts of equal time, by where they end, and the length of a part."""
-        stamps = [event.place.stamp for event in plain_waits.events_of(text)]
+        stamps = [event.place.stamp for event in plain_waits.acts_of(text)]
         first, length = min(stamps), Fraction(max(stamps) - min(stamps), 8)
         waits = plain_waits.waits_of(text)
         bounds = [(first + at * length, first + (at + 1) * length) for at in range(8)]

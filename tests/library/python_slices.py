@@ -92,6 +92,17 @@ def lines_from(text, events):
     return b"\n".join(lines[events[0].number : later[0] if later else len(lines)])
 
 
+def waits_between(text, events, wanted):
+    """The waits of some events of a text that are side by side. A CPU begins late, or ends early, only if the text does so."""
+    part = lines_from(text, wanted)
+    shown = plain_waits.gaps_of(part)[len(plain_waits.lost_in(part)) :]
+    if wanted[0] != events[0]:
+        shown = [gap for gap in shown if gap.after is not None]
+    if wanted[-1] != events[-1]:
+        shown = [gap for gap in shown if gap.before is not None]
+    return plain_waits.waits_of(part, gaps=plain_waits.lost_in(text) + shown)
+
+
 def texts():
     """Texts in the order of time: what machines write down, some with lost events; and lines by chance, with many of one
     stamp."""
@@ -158,33 +169,39 @@ class Stretches(Folder):
                 self.assertEqual(recording.lines_from, None if is_first or start is None else wanted[0].stamp)
 
     def test_waits(self):
-        """Waits are those of the lines, and doubtful if anything was lost in their time, wherever a line reports it."""
+        """Waits are those of the lines, and doubtful if anything was lost in their time, wherever a line reports it, or if the
+        lines show that something is missing."""
         self.small_parts()
         chance, doubtful = random.Random(2), 0
         for text in texts():
-            events, gaps, sources = events_of(text), plain_waits.gaps_of(text), self.sources(text)
+            events, sources = events_of(text), self.sources(text)
             for start, until in stretches(events, chance, 12):
                 wanted = between(events, start, until)
-                want = plain_waits.waits_of(lines_from(text, wanted)) if wanted else []
+                want = waits_between(text, events, wanted) if wanted else []
                 found = quiet(
                     histdesk.waits,
                     quiet(histdesk.read, chance.choice(sources)(), start=at_micros(start), until=at_micros(until)),
                 )
-                known = {(wait.pid, wait.end): wait for wait in want}
-                self.assertEqual(len(found), len(want))
-                for wait in told(found):
-                    spanned = any(recordings.spans(wait, gap) for gap in gaps)
-                    self.assertEqual(wait.doubtful, spanned, (start, until))
-                    doubtful += spanned
-                    same = known[wait.pid, wait.end]
-                    # If a task was preempted and woken, the wait that is surer counts.
-                    if not same.doubtful and not spanned:
-                        self.assertEqual(wait, same)
+                self.assertEqual(told(found), want, (start, until))
+                doubtful += sum(wait.doubtful for wait in want)
         self.assertGreater(doubtful, 50)
+
+    def test_cpus_that_begin_late(self):
+        """A CPU that begins late, by what events show, does so only if the stretch begins with the recording."""
+        lines = [waking(0, 1000, 7), waking(0, 1100, 8), switch(1, 1900, "b-8", "c-9"), switch(0, 2000, "a-6", "p-7")]
+        path = self.file(text_of(lines))
+        hole = histdesk.Hole(1, None, 1900)
+        for start, until, holes in [(None, None, [hole]), (None, 2000, [hole]), (1000, None, [hole]), (1100, None, [])]:
+            recording = quiet(histdesk.read, path, start=at_micros(start), until=at_micros(until))
+            for _ in range(2):
+                found = quiet(histdesk.waits, recording)
+                self.assertEqual((list(recording.holes), list(found.holes)), ([], holes), (start, until))
+        source = quiet(histdesk.waits, path).source
+        self.assertEqual(source.between(at_micros(1100), at_micros(2001)).holes, (hole,))
 
     def test_losses(self):
         """What was lost near a stretch is told with it, and nothing that was lost at another time."""
-        lines = [waking(cpu, 1000 * at, 7) for at in range(40) for cpu in (0, 1)]
+        lines = [waking(cpu, 1000 * at, 100 + 2 * at + cpu) for at in range(40) for cpu in (0, 1)]
         lines[40] += "\nCPU:1 [LOST 3 EVENTS]"
         path = self.file(text_of(lines))
         # CPU 1 has lost events between its event at 19 ms and that at 20 ms.

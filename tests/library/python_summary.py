@@ -67,10 +67,10 @@ TASKS = [
     ("c", 12, 40, 2, 1, 20, 20.0, 20, 20, 1000060, 0, 3, 0, 0, 0, 1, 0),
 ]
 CPUS = [
-    # Number, busy, idle, idle with waiters, the most in one run and when it began, switches; waits, total, mean, p99, max and
-    # where; whose, doubtful.
-    (0, 100, 50, 30, 30, 1000100, 4, 1, 20, 20.0, 20, 20, 1000060, 0, 3, "c", 12, 0),
-    (1, 70, 60, 60, 60, 1000070, 4, 2, 90, 45.0, 70, 70, 1000130, 1, 4, "a", 10, 0),
+    # Number, busy, idle, idle with waiters, the most in one run and when it began, unknown, switches; waits, total, mean, p99,
+    # max and where; whose, doubtful.
+    (0, 100, 50, 30, 30, 1000100, 0, 4, 1, 20, 20.0, 20, 20, 1000060, 0, 3, "c", 12, 0),
+    (1, 70, 60, 60, 60, 1000070, 0, 4, 2, 90, 45.0, 70, 70, 1000130, 1, 4, "a", 10, 0),
 ]
 
 
@@ -198,17 +198,18 @@ class Answers(unittest.TestCase):
             figures_wanted = waits_by(plain_waits.waits_of(text), lambda wait: wait.end.cpu)
             rows = summary_of(text).cpus
             _, sums = plain_sums.sums_of(text)
-            figures_of_idle = [(row.idle, row.idle_with_waiters, row.longest, row.longest_from or 0, row.cpu) for row in rows]
-            self.assertEqual(figures_of_idle, [tuple(one) for one in sums], name)
+            idle = [(row.idle_with_waiters, row.longest, row.longest_from or 0, row.cpu) for row in rows]
+            found = [(row.idle, row.unknown, *of_idle) for row, of_idle in zip(rows, idle)]
+            self.assertEqual(found, [tuple(one) for one in sums], name)
             for row in rows:
                 own = stamps[row.cpu]
-                self.assertEqual((row.busy + row.idle, row.switches), (max(own) - min(own), len(own)), name)
+                self.assertEqual((row.busy + row.idle + row.unknown, row.switches), (max(own) - min(own), len(own)), name)
                 self.assertEqual(figures(row), without_whose(figures_wanted[row.cpu]), name)
                 whose = figures_wanted[row.cpu]
                 self.assertEqual((row.task, row.pid), (whose.get("greatest_name"), whose.get("greatest_pid")))
 
     def test_busy_is_run_time(self):
-        """If no switch is missing, the time in which a CPU is busy is that of the runs on it."""
+        """The time in which a CPU is busy is that of the runs on it."""
         text = recordings.simulated(1).text
         runs = plain_sums.runs_of(sorted(plain_sums.events_of(text)))
         for row in summary_of(text).cpus:
@@ -305,7 +306,7 @@ class Parts(unittest.TestCase):
 
     def test_stretch_of_damaged(self):
         text = recordings.simulated(4, holes=3).text
-        stamps = [event.place.stamp for event in plain_waits.events_of(text)]
+        stamps = [event.place.stamp for event in plain_waits.acts_of(text)]
         start, until = stamps[len(stamps) // 4], stamps[len(stamps) * 3 // 4]
         answer = summary_of(histdesk.read(text, start=at_micros(start), until=at_micros(until)))
         found = histdesk.waits(histdesk.read(text, start=at_micros(start), until=at_micros(until)))
@@ -434,7 +435,7 @@ class Tool(unittest.TestCase):
         self.assertEqual([row.split()[:3] for row in lines[4:7]], [["a", "10", "90"], ["b", "11", "40"], ["c", "12", "40"]])
         self.assertEqual(told_of, "")
         text, _ = self.run_tool(self.path("hand"), "--by", "cpu")
-        self.assertEqual(text.split("\n")[4].split(), "0 100 50 30 30 1.000100 4 1 20 20.0 20 20 1.000060 0:3 c 12".split())
+        self.assertEqual(text.split("\n")[4].split(), "0 100 50 30 30 1.000100 0 4 1 20 20.0 20 20 1.000060 0:3 c 12".split())
 
     def test_csv_and_json(self):
         for by, kind in (("task", histdesk.TaskSummary), ("name", histdesk.NameSummary), ("cpu", histdesk.CpuSummary)):

@@ -193,7 +193,19 @@ class Frames(unittest.TestCase):
         answer = histdesk.summary(recordings.kinds().text)
         columns = ["run_time", "total", "mean", "p99", "max", "end_stamp"]
         self.check(answer.to_pandas(times="timedelta"), answer.to_pandas(), columns)
-        columns = ["busy", "idle", "idle_with_waiters", "longest", "longest_from", "total", "mean", "p99", "max", "end_stamp"]
+        columns = [
+            "busy",
+            "idle",
+            "idle_with_waiters",
+            "longest",
+            "longest_from",
+            "unknown",
+            "total",
+            "mean",
+            "p99",
+            "max",
+            "end_stamp",
+        ]
         self.check(answer.to_pandas("cpu", times="timedelta"), answer.to_pandas("cpu"), columns)
 
     def test_desk(self):
@@ -220,7 +232,7 @@ class Frames(unittest.TestCase):
         waits = histdesk.waits(recordings.kinds().text).to_pandas()
         for column in ("task", "kind", "begin_cpu", "end_cpu"):
             self.assertEqual(str(waits[column].dtype), "category", column)
-        self.assertEqual(waits.groupby("kind", observed=True).micros.sum().to_dict(), {"preempted": 70, "woken": 38, "new": 47})
+        self.assertEqual(waits.groupby("kind", observed=True).micros.sum().to_dict(), {"preempted": 40, "woken": 63, "new": 47})
 
 
 if __name__ == "__main__":

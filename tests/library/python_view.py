@@ -153,11 +153,13 @@ def after(view, answer):
     return left, new
 
 
-def reckoned(text, strikes):
-    """The waits without the events that some filters mean, by the plain reckoning, and how many events each of them means."""
+def reckoned(text, strikes, gaps=None):
+    """The waits without the events that some filters mean, by the plain reckoning, and how many events each of them means.
+    Which of the waits are doubtful is by the gaps that all events show, if no others are given."""
     patterns = [re.compile(FILTERS[one]) for one in strikes]
     lines = text.split(b"\n")
-    return plain_waits.waits_of(text, plain_waits.like(patterns)), [
+    gaps = plain_waits.gaps_of(text) if gaps is None else gaps
+    return plain_waits.waits_of(text, plain_waits.like(patterns), gaps), [
         sum(bool(pattern.search(line)) for line in lines) for pattern in patterns
     ]
 
@@ -299,11 +301,13 @@ class Shown(unittest.TestCase):
         start, until = stamps[len(stamps) // 4], stamps[-20]
         left = b"\n".join(line for line in text.split(b"\n") if b": sched_" in line and start <= stamp_of(line) < until)
         view = model.View([model.Side(waits_quietly(recording_of(text, start=at_micros(start), until=at_micros(until))))])
-        self.assertEqual(waits_in(view), plain_waits.waits_of(left))
+        # No CPU begins late or ends early, since the recording has events before and after.
+        gaps = [gap for gap in plain_waits.gaps_of(left) if None not in (gap.after, gap.before)]
+        self.assertEqual(waits_in(view), plain_waits.waits_of(left, gaps=gaps))
         self.assertIn(f"lines are counted from 1.{start - 1000000:06} on", view.about()["recordings"][0]["remarks"])
         for strikes in ([("sched_waking", "pid < 110")], []):
             answer = view.strike(strikes)
-            waits, counts = reckoned(left, strikes)
+            waits, counts = reckoned(left, strikes, gaps)
             self.assertEqual(sorted(sum(after(view, answer), []), key=lambda wait: wait.end), waits)
             self.assertEqual(answer["struck"], counts)
         first = waits_in(view)[0]
@@ -746,7 +750,8 @@ class Strikes(unittest.TestCase):
         text = recordings.simulated(2).text
         view = view_of(text)
         kept = [("sched_waking", "pid < 110")]
-        self.check(view, text, kept)
+        _, new = after(view, self.check(view, text, kept))
+        self.assertTrue(new)
         answer = view.strike([*kept, ("sched_switch", "next_pid ==> 3")])
         wanted = {"refused": "the filter can't be read: unexpected token", "at": 11, "hint": "", "strike": 1}
         self.assertEqual(answer, wanted)
@@ -765,7 +770,8 @@ class Strikes(unittest.TestCase):
                     ValueError, "waits begin and end with sched_waking, sched_wakeup_new, sched_switch"
                 ):
                     ask()
-        self.assertEqual(view.filter(0, "sched_waking", "pid < 110", kept)["new"], "")
+        chosen = view.filter(0, "sched_waking", "pid < 110", kept)["new"]
+        self.assertEqual(bits_of(chosen, len(new)), [False] * len(new))
         self.check(view, text, kept)
 
     def test_no_memory(self):

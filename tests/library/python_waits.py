@@ -142,7 +142,7 @@ class Waits(unittest.TestCase):
         all_of_them = told(found)
         self.assertEqual(told(found.only(kinds=["new"])), [wait for wait in all_of_them if wait.kind == "new"])
         self.assertEqual(told(found.only(cpus=[2])), [wait for wait in all_of_them if wait.end.cpu == 2])
-        self.assertEqual(told(found.only(kinds=["woken", "new"], cpus=[0, 3])), [all_of_them[at] for at in (3, 4, 5, 7)])
+        self.assertEqual(told(found.only(kinds=["woken", "new"], cpus=[0, 3])), [all_of_them[at] for at in (0, 3, 4, 5, 7)])
         self.assertEqual(told(found[found.array.micros > 29]), [wait for wait in all_of_them if wait.micros > 29])
         self.assertEqual((told(found[2:4]), found.name(7), len(found.only(kinds=[]))), (all_of_them[2:4], "renamed", 0))
         self.assertEqual(told(found.only(kinds="woken", cpus=2)), told(found.only(kinds=["woken"], cpus=[2])))
@@ -210,21 +210,23 @@ class Parts(unittest.TestCase):
         with mock.patch.object(_selection, "LIMIT", 20), mock.patch.object(_recording, "LIMIT", 20):
             found = waits_of(known.text)
         # A trace is read as a whole, however many events it has.
-        self.assertEqual((found.held.events, told(found)), (26, list(known.waits)))
+        self.assertEqual((found.held.events, told(found)), (29, list(known.waits)))
         with mock.patch.object(_selection, "LIMIT", 20), mock.patch.object(_recording, "LIMIT", 20):
             recording = histdesk.read(known.text, spare=_waits.SPARE)
             found = waits_of(recording)
         # And so is a recording of which a desk holds a part.
-        self.assertEqual((recording.taken.events, found.held.events), (20, 26))
+        self.assertEqual((recording.taken.events, found.held.events), (20, 29))
         self.assertEqual(found.remarks(), plain_waits.missing_told(known.text))
         self.assertEqual(told(found), list(known.waits))
         names = ["sched_waking", "sched_wakeup_new", "sched_switch"]
         found = waits_of(histdesk.read(known.text, events=names))
-        # The one sched_wakeup is left out, and its line is still counted.
-        self.assertEqual((found.held.events, found.remarks(), told(found)), (25, [], list(known.waits)))
+        # Each sched_wakeup is left out, and its line is still counted. One of them showed that a task was woken in a race with
+        # its sleep; without it, that wait begins before the sleep.
+        waits = [wait._replace(doubtful=wait.begin.stamp == 1000100) for wait in known.waits]
+        self.assertEqual((found.held.events, found.remarks(), told(found)), (25, [], waits))
         with mock.patch.object(_selection, "LIMIT", 20), mock.patch.object(_recording, "LIMIT", 20):
             found = waits_of(histdesk.read(known.text, events=names))
-        self.assertEqual((found.held.events, told(found)), (20, list(known.waits[:7])))
+        self.assertEqual((found.held.events, told(found)), (20, waits[:7]))
         self.assertEqual(found.remarks(), ["this is a part of the recording; the next one begins at 1.000600"])
 
     def test_no_wakings(self):
@@ -364,8 +366,10 @@ class Streams(unittest.TestCase):
                 lines[cpu].append(edit.line)
             text = b"".join(desk.list(cpu).encode("utf-8", "surrogateescape") for cpu in sorted(desk.cpus()))
             waits = [wait._replace(begin=wait.begin[:2], end=wait.end[:2]) for wait in plain_waits.waits_of(text)]
-            found = [wait._replace(begin=wait.begin[:2], end=wait.end[:2], doubtful=False) for wait in told(waits_of(desk))]
-            self.assertEqual(found, waits)
+            found = [wait._replace(begin=wait.begin[:2], end=wait.end[:2]) for wait in told(waits_of(desk))]
+            self.assertEqual(*([wait._replace(doubtful=False) for wait in one] for one in (found, waits)))
+            # A desk knows of no holes that only events show.
+            self.assertTrue(all(wait.doubtful >= one.doubtful for wait, one in zip(waits, found)))
             self.assertEqual(desk.triggers(), [])
 
 
@@ -514,7 +518,8 @@ class Counted(unittest.TestCase):
 
     def test_equal_waits(self):
         """The first of equally long waits counts as the greatest; of several recordings, that of the first one by name does."""
-        lines = [waking(0, 100, 7), switch(0, 110, "a-1", "w-7"), waking(0, 200, 7), switch(1, 210, "a-1", "w-7")]
+        lines = [waking(0, 100, 7), switch(0, 110, "a-1", "w-7"), switch(0, 120, "w-7", "a-1")]
+        lines += [waking(0, 200, 7), switch(0, 210, "a-1", "w-7")]
         one, other = self.counts(text_of(lines), source="b"), self.counts(text_of(lines[:2]), source="a")
         self.assertEqual((one.whole().greatest.stamp, one.whole().greatest.source), (110, "b"))
         self.assertEqual(one.merge(other).whole().greatest, other.merge(one).whole().greatest)
@@ -538,7 +543,7 @@ class Counted(unittest.TestCase):
     def test_long_waits(self):
         """Sums beyond 64 bits, and stamps of the greatest size."""
         most, lines = 4294967295999999, []
-        for pid in range(1, 3000):
+        for pid in range(2, 3001):
             lines += [waking(0, 0, pid), switch(0, most, "a-1", f"w-{pid}")]
         whole = self.counts(text_of(lines)).whole()
         self.assertEqual((whole.count, whole.total, whole.p50), (2999, 2999 * most, most))
@@ -578,7 +583,7 @@ class OnADesk(unittest.TestCase):
     def test_asked(self):
         found = histdesk.waits(self.desk)
         self.assertEqual(told(found), list(recordings.kinds().waits))
-        self.assertEqual((found.path, found.held.events), (None, 26))
+        self.assertEqual((found.path, found.held.events), (None, 29))
         self.unchanged()
 
     def test_struck(self):
@@ -625,8 +630,8 @@ class Shown(unittest.TestCase):
         one = found[found.array.doubtful][:1]
         for is_counted, how in enumerate(("left out: it", "counted, though it")):
             lines = one.lines(doubtful=bool(is_counted))
-            told = f"1 doubtful wait is {how} may be false, since events were lost in its time"
-            self.assertEqual(lines[2], f"{told}; it is likely true, since the CPUs on which it began and ended lost none")
+            told = f"1 doubtful wait is {how} may be false, since events of its time may be missing"
+            self.assertEqual(lines[2], f"{told}; it is likely true")
         self.assertTrue(lines[1].startswith("1 wait: "))
 
     def test_text(self):
@@ -651,9 +656,9 @@ class Shown(unittest.TestCase):
         self.assertIn("&quot;q&quot;,", found._repr_html_())
 
     def test_long_table(self):
-        lines = [line for pid in range(1, 31) for line in (waking(0, pid * 100, pid), switch(0, pid * 101, "a-1", f"w-{pid}"))]
+        lines = [line for pid in range(2, 32) for line in (waking(0, pid * 100, pid), switch(0, pid * 101, "a-1", f"w-{pid}"))]
         text = repr(waits_of(text_of(lines))).split("\n")
-        self.assertEqual((len(text), text[-2].split()[1], text[-1].split()[0]), (3 + 1 + 20 + 1, "11", ".."))
+        self.assertEqual((len(text), text[-2].split()[1], text[-1].split()[0]), (3 + 1 + 20 + 1, "12", ".."))
 
     def test_cpus(self):
         self.assertEqual(_wait_answer.ranges((0, 1, 2, 3, 6, 8, 9)), "0-3,6,8-9")
@@ -723,7 +728,9 @@ class Tool(unittest.TestCase):
             self.assertEqual((answer["waits"], answer["doubtful"]), (len(waits), sum(wait.doubtful for wait in waits)))
             gaps = [tuple(hole[field] for field in ("cpu", "after", "before", "lost")) for hole in answer["holes"]]
             self.assertEqual(sorted(gaps, key=str), sorted(map(tuple, plain_waits.gaps_of(self.known[name].text)), key=str))
-            self.assertEqual(told_of, f"waits: {self.path(name)}: {answer['warning']}\n" if gaps else "")
+            # It tells of what lines report, not of what only events show.
+            is_reported = any(hole["line"] for hole in answer["holes"])
+            self.assertEqual(told_of, f"waits: {self.path(name)}: {answer['warning']}\n" if is_reported else "")
 
     def test_histogram(self):
         text, _ = self.run_tool(self.path("damaged_1"), "--histogram", "--csv")
@@ -820,7 +827,7 @@ class Tool(unittest.TestCase):
         waits = plain_waits.waits_of(self.known["simulated_0"].text)
         self.assertEqual((len(rows), sum(totals)), (len({wait.pid for wait in waits}), sum(wait.micros for wait in waits)))
         text, _ = self.run_tool(self.path("kinds"), "--kind", "all", "--by", "kind")
-        self.assertEqual(text.split("\n")[-2].split()[:3], ["all", "8", "155"])
+        self.assertEqual(text.split("\n")[-2].split()[:3], ["all", "8", "150"])
         text, _ = self.run_tool(self.path("kinds"), "--kind", "all", "--by", "task", "--histogram", "--csv")
         self.assertEqual(text.split("\n")[0], "task,pid,low,high,count")
 
@@ -835,8 +842,8 @@ class Tool(unittest.TestCase):
             ([path, "--cpu", "3", "--kind", "woken"], "no wait of kind woken ended on CPU 3"),
             ([path, "--task", "nobody", "--kind", "new"], "no wait of kind new of task nobody ended in it"),
             ([path, "--task", "no", "--task", "9"], "no wait of task no or 9 ended in it"),
-            ([path, "--from", "9999"], "no event is from 9999.000000; its events are from 1.000000 to 1.000803"),
-            ([path, "--until", "1"], "no event is before 1.000000; its events are from 1.000000 to 1.000803"),
+            ([path, "--from", "9999"], "no event is from 9999.000000; its events are from 0.999990 to 1.000803"),
+            ([path, "--until", "0.5"], "no event is before 0.500000; its events are from 0.999990 to 1.000803"),
             ([path, "--from", "1.0008", "--until", "1.000801"], "no wait ended in it"),
             ([empty], "it has no events"),
         ]
@@ -852,10 +859,10 @@ class Tool(unittest.TestCase):
     def test_standard_input_and_lenient(self):
         text = self.known["kinds"].text + b"a torn li\n"
         _, told_of = self.run_tool("-", input=text, status=2)
-        self.assertIn("line 39", told_of)
+        self.assertIn("line 42", told_of)
         shown, told_of = self.run_tool("-", "--lenient", input=text)
         self.assertIn("8 waits", shown)
-        self.assertIn("1 line can't be read and is left out: 39", told_of)
+        self.assertIn("1 line can't be read and is left out: 42", told_of)
 
     def test_what_goes_wrong_is_a_line(self):
         wrong = [["--by", "comm"], ["--kind", "old"], ["--top", "0"], ["--csv", "--json"], ["--no-such"], []]

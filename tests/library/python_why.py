@@ -149,7 +149,7 @@ class Kinds(unittest.TestCase):
                 "w-42 (prio 120) waited 40 us for CPU 1, from 1.000010 to 1.000050, "
                 "after it was switched out, still runnable (R).",
                 "b-6 ran on CPU 0 all the while.",
-                "CPU 1 was idle all the while, until the task was moved over.",
+                "CPU 1 was idle all the while, until it ran the task.",
                 "",
                 "  1.000010  0:2  it was switched out, still runnable (R), on CPU 0, where b-6 (prio 120) ran then",
                 "  1.000050  1:1  it ran on CPU 1, moved over from CPU 0, which was idle",
@@ -207,32 +207,89 @@ class Kinds(unittest.TestCase):
         """The waker is faster than the task, which still runs on CPU 1; it then runs on CPU 0."""
         text = trace(
             switch(0, 1000000, "swapper/0-0", "R", "a-10", task="<idle>-0"),
+            switch(1, 1000000, "swapper/1-0", "R", "w-42", task="<idle>-0"),
             waking("a-10", 0, 1000010, "w", 42, 1),
             switch(1, 1000012, "w-42", "S", "swapper/1-0"),
             waking("a-10", 0, 1000013, "w", 42, 0, event="sched_wakeup"),
             switch(0, 1000030, "a-10", "S", "w-42"),
         )
         why = told(text, 0, 4)
-        self.assertEqual((why.slept[:3], why.queued[:3]), ((1000012, 1, 1), (1000013, 0, 3)))
+        self.assertEqual((why.slept[:3], why.queued[:3]), ((1000012, 1, 2), (1000013, 0, 3)))
         self.assertEqual((why.cpu, why.micros, why.shares), (0, 20, [Share("a", 10, 120, 20, 1)]))
-        self.assertIn("  1.000012  1:1  it slept (S) on CPU 1, having been woken before that", lines_of(why))
+        # Its waking ended once it had left CPU 1.
+        self.assertEqual((why.is_before_sleep, why.doubtful), (False, False))
+        self.assertIn("  1.000012  1:2  it slept (S) on CPU 1, having been woken before that", lines_of(why))
 
     def test_woken_before_it_slept_there(self):
         why = told(
             trace(
+                switch(1, 1000000, "swapper/1-0", "R", "w-42", task="<idle>-0"),
                 waking("<idle>-0", 0, 1000010, "w", 42, 1),
                 switch(1, 1000012, "w-42", "S", "b-11"),
                 switch(1, 1000020, "b-11", "S", "swapper/1-0"),
                 switch(1, 1000025, "swapper/1-0", "R", "w-42", task="<idle>-0"),
             ),
             1,
-            3,
+            4,
         )
         self.assertEqual([(stretch.pid, stretch.micros) for stretch in why.stretches], [(42, 2), (11, 8), (0, 5)])
+        self.assertEqual((why.is_before_sleep, why.doubtful, why.holes), (True, True, ()))
+        self.assertEqual(
+            lines_of(why)[1:3],
+            [
+                "Doubtful: it slept (S) at 1.000012, and what woke it after that may be missing; then it waited for less time.",
+                "b-11 ran on CPU 1 for 8 us (53 %), in 1 stretch. It was idle for 5 us (33 %). "
+                "For 2 us (13 %) the task itself still ran.",
+            ],
+        )
+
+    def test_woken_on_its_way_to_sleep(self):
+        why = told(
+            trace(
+                switch(1, 1000000, "swapper/1-0", "R", "w-42", task="<idle>-0"),
+                waking("a-10", 0, 1000010, "w", 42, 1),
+                switch(1, 1000012, "w-42", "S", "b-11"),
+                waking("a-10", 0, 1000013, "w", 42, 1, event="sched_wakeup"),
+                switch(1, 1000020, "b-11", "S", "w-42"),
+            ),
+            1,
+            3,
+        )
+        self.assertEqual((why.is_before_sleep, why.doubtful), (False, False))
         self.assertEqual(
             lines_of(why)[1],
-            "b-11 ran on CPU 1 for 8 us (53 %), in 1 stretch. It was idle for 5 us (33 %). "
-            "For 2 us (13 %) the task itself still ran: it was woken on its way to sleep.",
+            "b-11 ran on CPU 1 for 8 us (80 %), in 1 stretch. "
+            "For 2 us (20 %) the task itself still ran: it was woken on its way to sleep.",
+        )
+
+    def idle(self, *lines, cpu=1, line=2):
+        """What is told of CPUs that were idle all the while."""
+        told_of = [text.split(".") for text in lines_of(told(trace(*lines), cpu, line)) if " was idle all the while" in text]
+        return [f"{text.strip()}." for texts in told_of for text in texts if text]
+
+    def test_idle_after_it_was_left(self):
+        """A CPU that goes idle although it leaves a task that can run: no event says why."""
+        left = switch(1, 1000010, "w-42", "R+", "swapper/1-0")
+        there = switch(1, 1000090, "swapper/1-0", "R", "w-42", task="<idle>-0")
+        causes = "a quota held the task back, or it was queued on another CPU."
+        self.assertEqual(self.idle(left, there), [f"CPU 1 was idle all the while: {causes}"])
+        elsewhere = switch(2, 1000090, "swapper/2-0", "R", "w-42", task="<idle>-0")
+        before = switch(2, 1000000, "b-5", "S", "swapper/2-0")
+        self.assertEqual(
+            self.idle(before, left, elsewhere, cpu=2),
+            [f"CPU 1 was idle all the while: {causes}", "CPU 2 was idle all the while, until it ran the task."],
+        )
+
+    def test_idle_after_a_waking(self):
+        before = switch(1, 1000000, "b-5", "S", "swapper/1-0")
+        woken = waking("a-10", 0, 1000010, "w", 42, 1)
+        queued = waking("a-10", 0, 1000011, "w", 42, 1, event="sched_wakeup")
+        there = switch(1, 1000090, "swapper/1-0", "R", "w-42", task="<idle>-0")
+        causes = "the time went into waking the CPU, or a quota held the task back"
+        self.assertEqual(self.idle(before, woken, queued, there), [f"CPU 1 was idle all the while: {causes}."])
+        # It isn't known where it was queued.
+        self.assertEqual(
+            self.idle(before, woken, there), [f"CPU 1 was idle all the while: {causes}, or it was queued on another CPU."]
         )
 
     def test_ran_unseen(self):
@@ -249,9 +306,11 @@ class Kinds(unittest.TestCase):
             5,
         )
         self.assertEqual([(stretch.pid, stretch.micros) for stretch in why.stretches], [(None, 20), (10, 10), (5, 20)])
+        self.assertEqual((why.is_before_sleep, why.doubtful, why.holes), (True, True, ()))
         self.assertEqual(
-            lines_of(why)[1:3],
+            lines_of(why)[1:4],
             [
+                "Doubtful: it slept (S) at 1.000040, and what woke it after that may be missing; then it waited for less time.",
                 "x-5 ran on CPU 0 for 20 us (40 %), in 1 stretch. For 10 us (20 %) the task itself ran, though no switch to it "
                 "was recorded: this wait is too long, or false.",
                 "What ran on CPU 0 for 20 us (40 %) isn't known: a switch there was not recorded.",
@@ -397,14 +456,14 @@ class Lost(unittest.TestCase):
         """Five holes are within one wait; three are told."""
         lines = [waking("bash-7", 0, 1000000, "w", 42, 1)]
         for number in range(1, 7):
-            lines += [*["CPU:1 [LOST 2 EVENTS]"] * (number > 1), waking("a-10", 1, 1000000 + 100 * number, "z", 9, 1)]
+            lines += [*["CPU:1 [LOST 2 EVENTS]"] * (number > 1), waking("a-10", 1, 1000000 + 100 * number, "z", 50 + number, 1)]
         why = told(trace(*lines, switch(1, 1000700, "a-10", "S", "w-42")), 1, 7)
         self.assertEqual(len(why.holes), 5)
         self.assertEqual([text.partition(" ")[0] for text in lines_of(why)[1:4]], ["Doubtful:"] * 3)
         self.assertEqual(
             lines_of(why)[4:7],
             [
-                "Events were lost in 2 places more within it.",
+                "Events are missing in 2 places more within it.",
                 "a-10 ran on CPU 1 for 200 us (29 %), in 2 stretches.",
                 "What ran on CPU 1 for 500 us (71 %) isn't known: events of it were lost.",
             ],
@@ -589,13 +648,15 @@ class Nothing(unittest.TestCase):
         self.assertEqual(self.reason(text, 0, 1), "the sched_waking at 0:1 begins no wait: w-42 is woken again before it runs")
 
     def test_waking_within_a_wait(self):
-        """If the task was preempted, a waking begins nothing: the wait is the one since the preemption."""
+        """If the task was preempted, it was on its way to sleep: it has waited since the waking, and not since it was left."""
         text = trace(
             switch(1, 1000000, "w-42", "R+", "a-10"),
             waking("bash-7", 0, 1000100, "w", 42, 1),
             switch(1, 1000300, "a-10", "S", "w-42"),
         )
-        self.assertEqual((told(text, 0, 1).begin[:3], told(text, 0, 1).micros), ((1000000, 1, 1), 300))
+        why = told(text, 0, 1)
+        self.assertEqual((why.kind, why.begin[:3], why.micros, why.doubtful), ("woken", (1000100, 0, 1), 200, False))
+        self.assertIn("what made a-10 runnable", self.reason(text, 1, 1))
 
 
 class Shown(unittest.TestCase):

@@ -31,7 +31,7 @@ from python_runner import main
 from recordings import Place, Wait
 
 ROOM = 64
-WAIT = struct.Struct("=" + 3 * layout.PLACE_CODE + "2i4I" + layout.NAME_CODE)
+WAIT = struct.Struct("=" + 2 * layout.PLACE_CODE + "2i4I" + layout.NAME_CODE)
 KINDS = {1: "woken", 2: "new", 3: "preempted"}
 BAD_FILTER = 9
 
@@ -85,7 +85,7 @@ class Stream:
         found = []
         for at in range(len(self.waits)):
             values = WAIT.unpack_from(room, at * WAIT.size)
-            pid, prio, cause, _, doubt, _, name, length = values[9:]
+            pid, prio, cause, doubt, _, _, name, length = values[6:]
             ends = [Place(*values[3 * end : 3 * end + 3]) for end in range(2)]
             found.append(Wait(KINDS[cause], pid, name[:length].decode(), prio, ends[1], ends[0], doubt != 0))
         return found
@@ -156,13 +156,14 @@ class Without(unittest.TestCase):
         self.assertEqual(waits, wanted, seed)
         named = [sum(1 for found in map(event_of, lines) if found and found["name"] == event) for event, _ in filters]
         self.assertEqual(counts, [(all_, sum(map(passes, lines))) for all_, (_, passes) in zip(named, filters)], seed)
-        return len(wanted), sum(count for _, count in counts)
+        return len(wanted), sum(wait.doubtful for wait in wanted), sum(count for _, count in counts)
 
     def test_by_chance(self):
         told = [self.hold(seed) for seed in range(400)]
-        # The recordings have waits, and the filters leave events out.
-        self.assertGreater(sum(waits > 5 for waits, _ in told), 100)
-        self.assertGreater(sum(out > 0 for _, out in told), 100)
+        # The recordings have waits, of which some are sure and some aren't, and the filters leave events out.
+        self.assertGreater(sum(waits > 5 for waits, _, _ in told), 100)
+        self.assertGreater(sum(0 < doubtful < waits for waits, doubtful, _ in told), 100)
+        self.assertGreater(sum(out > 0 for _, _, out in told), 100)
 
     def test_of_a_simulated_scheduler(self):
         """Without the wakings of one task, its waits that a waking began are gone, and no other task's waits are."""

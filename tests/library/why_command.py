@@ -146,17 +146,15 @@ class Chosen(Command):
     def test_worst(self):
         text = all_known()["kinds"].text
         self.assertEqual(self.heads(text), ["b-11 40"])
-        self.assertEqual(self.heads(text, "--worst", "4"), ["b-11 40", "d-13 40", "a-10 30", "a-10 30"])
+        self.assertEqual(self.heads(text, "--worst", "4"), ["b-11 40", "d-13 40", "a-10 30", "a-10 25"])
         self.assertEqual(len(self.heads(text, "--worst", "99")), 8)
 
     def test_choices(self):
         text = all_known()["kinds"].text
-        self.assertEqual(self.heads(text, "--kind", "woken", "--worst", "2"), ["a-10 30", "c-12 5"])
-        self.assertEqual(
-            self.heads(text, "--kind", "new,preempted", "--worst", "9"), ["b-11 40", "d-13 40", "a-10 30", "e-13 7"]
-        )
+        self.assertEqual(self.heads(text, "--kind", "woken", "--worst", "3"), ["a-10 30", "a-10 25", "c-12 5"])
+        self.assertEqual(self.heads(text, "--kind", "new,preempted", "--worst", "9"), ["b-11 40", "d-13 40", "e-13 7"])
         self.assertEqual(self.heads(text, "--cpu", "2-3", "--worst", "9"), ["d-13 40", "a-10 30", "e-13 7", "f-14 0"])
-        self.assertEqual(self.heads(text, "--task", "10", "--worst", "9"), ["a-10 30", "a-10 30", "renamed-10 3"])
+        self.assertEqual(self.heads(text, "--task", "10", "--worst", "9"), ["a-10 30", "a-10 25", "renamed-10 3"])
         self.assertEqual(self.heads(text, "--task", "renamed"), ["renamed-10 3"])
         several = self.heads(text, "--task", "renamed", "--task", "13", "--task", "c-12", "--worst", "9")
         self.assertEqual(several, ["d-13 40", "e-13 7", "c-12 5", "renamed-10 3"])
@@ -164,9 +162,9 @@ class Chosen(Command):
     def test_moment(self):
         """All waits that last at that moment: from the stamp at which they begin to that at which they end, both included."""
         text = all_known()["kinds"].text
-        self.assertEqual(self.heads(text, "--at", "1.00002"), ["a-10 30"])
-        self.assertEqual(self.heads(text, "--at", "1.000049"), ["a-10 30"])
-        self.assertEqual(self.heads(text, "--at", "1.00005"), ["b-11 40", "a-10 30"])
+        self.assertEqual(self.heads(text, "--at", "1.000025"), ["a-10 25"])
+        self.assertEqual(self.heads(text, "--at", "1.000049"), ["a-10 25"])
+        self.assertEqual(self.heads(text, "--at", "1.00005"), ["b-11 40", "a-10 25"])
         text = trace(
             waking("<idle>-0", 0, 1000000, "a", 10, 1),
             waking("<idle>-0", 0, 1000010, "b", 11, 1),

@@ -61,6 +61,15 @@ def cut(**sizes):
     return [*patches, *(mock.patch.object(_surroundings, name, size) for name, size in sizes.items())]
 
 
+def held_by_desk(text):
+    """Return what explains the waits of a text of which a desk holds all events; what these show is missing is known too."""
+    with warnings.catch_warnings():
+        warnings.simplefilter("ignore", histdesk.LossWarning)
+        recording = histdesk.read(text)
+        recording.losses = histdesk.waits(text).source.losses
+        return _explainer.part_explainer(recording)
+
+
 class Cut(unittest.TestCase):
     """Tests over small slices."""
 
@@ -75,15 +84,13 @@ class Cut(unittest.TestCase):
 
     def whole(self, text):
         """Return what explains the waits of a text that a desk holds."""
-        with warnings.catch_warnings():
-            warnings.simplefilter("ignore", histdesk.LossWarning)
-            return _explainer.part_explainer(histdesk.read(text))
+        return held_by_desk(text)
 
 
 class Slices(Cut):
     def test_by_chance(self):
         waits = places = 0
-        for seed in range(12):
+        for seed in range(14):
             text, chance = noise(seed), random.Random(seed)
             sizes = {
                 "PIECE": chance.choice([200, 1000, 1 << 22]),
@@ -130,14 +137,14 @@ class Slices(Cut):
     def test_what_ran_long_before(self):
         """CPU 1 switched to b long before the wait, and nothing is heard of it until it runs w; CPU 3, where w was queued, is
         heard of again long after."""
-        between = [waking("x-5", 0, 1000100 + 10 * at, "z", 9, 0) for at in range(100)]
+        between = [waking("x-5", 0, 1000100 + 10 * at, "z", 100 + at, 0) for at in range(100)]
         text = trace(
             switch(1, 1000000, "a-10", "S", "b-11", next_prio=7),
             *between,
-            waking("x-5", 2, 1002000, "w", 42, 1),
-            waking("x-5", 2, 1002001, "w", 42, 3, event="sched_wakeup"),
+            waking("y-6", 2, 1002000, "w", 42, 1),
+            waking("y-6", 2, 1002001, "w", 42, 3, event="sched_wakeup"),
             switch(1, 1002050, "b-11", "R", "w-42", prio=7),
-            *(waking("x-5", 0, 1002100 + 10 * at, "z", 9, 0) for at in range(100)),
+            *(waking("x-5", 0, 1002100 + 10 * at, "z", 200 + at, 0) for at in range(100)),
             waking("c-12", 3, 1004000, "z", 9, 0),
         )
         why = self.slices(text).explain_at(1, 2)
@@ -178,18 +185,21 @@ class Slices(Cut):
             self.assertEqual(self.slices(text, LEAD=lead).explain_at(1, 2).shares, [Share("b", 11, 120, 50, 1)])
 
     def test_still_waits(self):
-        """A task that doesn't run any more waits to the end, from its preemption on; a waking meanwhile begins no wait."""
-        text = trace(
+        """A task that doesn't run any more waits to the end, from its preemption on, or from a waking after that."""
+        lines = (
             switch(1, 1000000, "swapper/1-0", "R", "w-42", task="<idle>-0"),
-            switch(1, 1000010, "w-42", "R", "a-10"),
-            *(waking("<idle>-0", 0, 1000100 + 10 * at, "z", 9, 0) for at in range(50)),
+            switch(1, 1000010, "w-42", "R+", "a-10"),
+            *(waking("<idle>-0", 0, 1000100 + 10 * at, "z", 100 + at, 0) for at in range(50)),
             waking("x-5", 2, 1002000, "w", 42, 1),
-            *(waking("<idle>-0", 0, 1002100 + 10 * at, "z", 9, 0) for at in range(50)),
+            *(waking("<idle>-0", 0, 1002100 + 10 * at, "z", 200 + at, 0) for at in range(50)),
         )
-        for place in ((1, 2), (2, 1)):
-            why = self.slices(text).explain_at(*place)
-            self.assertEqual((why.kind, why.begin[:3], why.end, why.until), ("preempted", (1000010, 1, 2), None, 1002590))
-            self.assertEqual(why.stretches, (Stretch(1, 1000010, 1002590, "a", 10, 120),))
+        # The waking is left out at first.
+        why = self.slices(trace(*lines[:52], *lines[53:])).explain_at(1, 2)
+        self.assertEqual((why.kind, why.begin[:3], why.end, why.until), ("preempted", (1000010, 1, 2), None, 1002590))
+        self.assertEqual(why.stretches, (Stretch(1, 1000010, 1002590, "a", 10, 120),))
+        why = self.slices(trace(*lines)).explain_at(2, 1)
+        self.assertEqual((why.kind, why.begin[:3], why.end, why.until), ("woken", (1002000, 2, 1), None, 1002590))
+        self.assertEqual(why.stretches, (Stretch(1, 1002000, 1002590, "a", 10, 120),))
 
 
 class Long(Cut):
@@ -223,7 +233,7 @@ class Long(Cut):
     def test_by_chance(self):
         """Any wait is told as from the whole recording, except for what ran on CPUs of which that isn't told."""
         waits = untold = 0
-        for seed in range(6):
+        for seed in range(16):
             text = noise(seed, 200)
             whole = self.whole(text)
             with mock.patch.object(_surroundings, "LIMIT", 3 + 5 * (seed % 3)):
@@ -257,7 +267,8 @@ class MoreThanADesk(unittest.TestCase):
         cls.folder = tempfile.TemporaryDirectory()
         cls.path = os.path.join(cls.folder.name, "long.trace")
         # A second of two CPUs on which nothing of interest happens.
-        second = b"".join(b"a-1 [%d] @.%06d: x: y\n" % (at % 2, 9 * at + 100) for at in range(100000))
+        tasks = b"d-9", b"a-1"
+        second = b"".join(b"%s [%d] @.%06d: x: y\n" % (tasks[at % 2], at % 2, 9 * at + 100) for at in range(100000))
         with open(cls.path, "wb") as file:
             file.write(trace(switch(3, 100, "b-2", "S", "c-3"), waking("x-5", 2, 200, "w", 42, 3, flags="d.h2.")))
             file.write(trace(waking("x-5", 2, 201, "w", 42, 3, event="sched_wakeup")))

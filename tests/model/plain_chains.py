@@ -9,7 +9,8 @@ import re
 from typing import NamedTuple
 
 import recordings
-from plain_waits import LINE, SWITCH, WAKE, lines_of
+from plain_waits import LINE, SWITCH, WAKE, Lives, acts_of, lines_of
+from recordings import Place
 
 # A chain has at most so many steps.
 STEPS = 32
@@ -59,10 +60,9 @@ class Task:
     """What is known of a task at a moment."""
 
     def __init__(self) -> None:
-        # Since it last ran: the last waking, the last creation, and when it was left and whether it could run on.
+        # Since it last ran: the last waking, and the last creation.
         self.waking: Begin | None = None
         self.creation: Begin | None = None
-        self.left: tuple[int, bool] | None = None
         # Its last switch: whether it was one to it, and when.
         self.act: tuple[bool, int] | None = None
         # Since when it runs, if it does.
@@ -85,8 +85,12 @@ class Machine:
     """Goes through the events of a trace."""
 
     def __init__(self) -> None:
+        # What waits begin with.
+        self.lives = Lives()
         self.tasks: dict[int, Task] = {}
         self.running: dict[int, int] = {}
+        # The tasks that have run at some event.
+        self.seen: set[int] = set()
         # The waits that have ended, by the places of the switches.
         self.links: dict[tuple[int, int, int], Link] = {}
 
@@ -99,6 +103,7 @@ class Machine:
             self.task(pid).starts(now, "start", None)
             self.task(pid).runs_since = now
         self.running[cpu] = pid
+        self.seen.add(pid)
 
     def wakes(self, cpu: int, waker: int, pid: int, now: int, is_new: bool, has_interrupt: bool) -> None:
         task = self.task(pid)
@@ -114,53 +119,61 @@ class Machine:
         slept = None if task.act is None else 0 if task.act[0] else now - task.act[1]
         task.waking = Begin(now, cause, slept)
 
-    def leaves(self, pid: int, now: int, is_runnable: bool) -> None:
+    def leaves(self, pid: int, now: int) -> None:
         """A CPU is taken from a task."""
         task = self.task(pid)
         if task.runs_since is not None:
             task.ran += now - task.runs_since
-        task.runs_since, task.left, task.act = None, (now, is_runnable), (False, now)
+        task.runs_since, task.act = None, (False, now)
 
     def runs(self, cpu: int, pid: int, now: int, line: int) -> None:
         """A CPU goes to a task."""
-        task = self.task(pid)
-        creation, waking = task.creation, task.waking
-        if task.left and task.left[1] and not (creation and creation.stamp > task.left[0]):
-            task.waited += now - task.left[0]
+        task, life = self.task(pid), self.lives.of(pid)
+        kind, begin = life.begins() or ("", None)
+        is_sure = begin is not None and not life.slept_after(kind, begin)
+        if begin is None:
+            task.starts(now, "missing" if task.act or pid in self.seen else "start", None)
+        elif kind == "preempted":
+            task.waited += now - begin.stamp
             task.preemptions += 1
-        elif creation and not (waking and waking.stamp > creation.stamp):
-            task.starts(creation.stamp, creation.cause, None, True)
-            task.waited = now - creation.stamp
-        elif waking:
-            task.starts(waking.stamp, waking.cause, waking.slept)
-            task.waited = now - waking.stamp
         else:
-            task.starts(now, "missing" if task.act else "start", None)
-            task.waited = -1
-        if task.waited >= 0:
+            begun = task.creation if kind == "new" else task.waking
+            assert begun and begun.stamp == begin.stamp
+            if kind == "new" or is_sure and (life.left is None or life.is_left_asleep()):
+                task.starts(begun.stamp, begun.cause, begun.slept, kind == "new")
+            else:
+                # When it fell asleep before that, or what woke it last, isn't known.
+                task.starts(begun.stamp, "missing", None)
+            task.waited = now - begun.stamp
+        if begin is not None:
             self.links[now, cpu, line] = task.link(pid, cpu, now)
-        task.waited = max(task.waited, 0)
-        task.waking = task.creation = task.left = None
+            if not is_sure:
+                task.starts(now, "missing", None)
+        task.waking = task.creation = None
         task.runs_since, task.act = now, (True, now)
 
 
 def machine_of(text: bytes) -> Machine:
     """The machine after all events of a text, which are in the order of time."""
     machine, counts = Machine(), {}
+    acts = {act.place: act for act in acts_of(text)}
     for found in filter(None, map(LINE.fullmatch, lines_of(text))):
         cpu, pid, now = int(found["cpu"]), int(found["runs"]), int(found["s"]) * 1000000 + int(found["us"])
         counts[cpu] = counts.get(cpu, 0) + 1
         machine.at_event(cpu, pid, now)
-        wake, switch = WAKE.fullmatch(found["rest"]), SWITCH.fullmatch(found["rest"])
-        if found["event"] in ("sched_waking", "sched_wakeup_new") and wake:
-            is_new = found["event"] == "sched_wakeup_new"
-            machine.wakes(cpu, pid, int(wake[2]), now, is_new, bool(INTERRUPT.search(found[0])))
-        elif found["event"] == "sched_switch" and switch:
-            if int(switch[1]):
-                machine.leaves(int(switch[1]), now, switch[2] in ("R", "R+"))
-            if int(switch[4]):
-                machine.runs(cpu, int(switch[4]), now, counts[cpu])
-            machine.running[cpu] = int(switch[4])
+        act = acts.get(Place(now, cpu, counts[cpu]))
+        if act is None:
+            continue
+        if act.event in ("sched_waking", "sched_wakeup_new"):
+            is_new = act.event == "sched_wakeup_new"
+            machine.wakes(cpu, pid, act.pid, now, is_new, bool(INTERRUPT.search(found[0])))
+        elif act.event == "sched_switch":
+            if act.before:
+                machine.leaves(act.before, now)
+            if act.pid:
+                machine.runs(cpu, act.pid, now, counts[cpu])
+            machine.running[cpu] = act.pid
+        machine.lives.take(act)
     return machine
 
 

@@ -23,6 +23,7 @@ class Cpu(NamedTuple):
     """What a trace sums up to for a CPU, by its number."""
 
     idle: int
+    unknown: int
     idle_with_waiters: int
     longest: int
     longest_from: int
@@ -49,6 +50,13 @@ def runs_of(events: List[Event]) -> List[Run]:
                 found.append(Run(begun.pid, event.place.cpu, begun.place.stamp, event.place.stamp))
             last[event.place.cpu] = event
     return found
+
+
+def unknown_on(cpu: int, events: List[Event]) -> int:
+    """How long it isn't known what a CPU ran: between two switches of it of which the second leaves another task than the first
+    one went to."""
+    own = [event for event in events if event.event == "sched_switch" and event.place.cpu == cpu]
+    return sum(later.place.stamp - event.place.stamp for event, later in zip(own, own[1:]) if later.before != event.pid)
 
 
 def spans_with_waiters(events: List[Event]) -> List[Tuple[int, int]]:
@@ -104,6 +112,6 @@ def sums_of(text: bytes, without: Callable[[str], bool] = lambda line: False) ->
     cpus = []
     for cpu in sorted({event.place.cpu for event in switches}):
         own = [(run, waited) for run, waited in idle if run.cpu == cpu]
-        sums = sum(run.end - run.begin for run, _ in own), sum(waited for _, waited in own)
-        cpus.append(Cpu(*sums, *longest_of(own), cpu))
+        idle_time, waited = sum(run.end - run.begin for run, _ in own), sum(waited for _, waited in own)
+        cpus.append(Cpu(idle_time, unknown_on(cpu, events), waited, *longest_of(own), cpu))
     return tasks, cpus

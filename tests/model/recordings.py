@@ -50,9 +50,10 @@ class Wait(NamedTuple):
 
 
 class Gap(NamedTuple):
-    """A stretch of time in which events of a CPU were lost, as the package's `Hole` tells it, without the line."""
+    """A stretch of time of which events of a CPU are missing, as the package's `Hole` tells it, without the line. The CPU may
+    be unknown."""
 
-    cpu: int
+    cpu: Optional[int]
     after: Optional[int]
     before: Optional[int]
     lost: Optional[int]
@@ -190,22 +191,28 @@ def odd_names() -> Known:
 def kinds() -> Known:
     """What begins a wait, and what doesn't: see the comment at each line."""
     lines = [
+        # Each CPU is there from the beginning on.
+        line("<idle>-0", 2, 999990, "sched_stat: y"),
+        line("<idle>-0", 3, 999990, "sched_stat: y"),
         # Task 0 is switched out runnable, and waits for nothing.
         switch(0, 1000000, "<idle>-0", "a-10", state="R"),
         # A waking of a task that runs, and goes on running, is no wait.
         waking(1, 1000010, 10, name="a"),
-        # It is preempted: that is where its wait begins.
-        switch(0, 1000020, "a-10", "b-11", state="R"),
-        # This is a waking of a task that is queued already.
+        # It is preempted, on its way to sleep.
+        switch(0, 1000020, "a-10", "b-11", state="R+"),
+        # And woken after that: its wait begins here.
         waking(1, 1000025, 10, name="a"),
+        # This one is preempted: that is where its wait begins.
         switch(0, 1000050, "b-11", "a-10", state="R+"),
-        # The last preemption of b is from 1000050 on; it runs on another CPU.
+        # It runs on another CPU.
         switch(1, 1000090, "<idle>-0", "b-11", state="R"),
-        # A task is woken while it runs and is about to sleep, which is a race in the kernel. It waits from the waking on.
+        # A task is woken while it runs and is about to sleep, which is a race in the kernel. It waits from the waking on, which
+        # ends after it has left its CPU.
         waking(2, 1000100, 10, name="a"),
         switch(0, 1000101, "a-10", "<idle>-0", state="S"),
+        waking(2, 1000102, 10, name="a", event="sched_wakeup"),
         switch(2, 1000130, "<idle>-0", "a-10", state="R"),
-        # Two wakings: the later one counts.
+        # Two wakings: the later one counts, and the task has run unseen in between.
         waking(0, 1000200, 12, name="c"),
         waking(0, 1000210, 12, name="c"),
         switch(0, 1000215, "<idle>-0", "c-12", state="R"),
@@ -231,16 +238,16 @@ def kinds() -> Known:
         switch(0, 1000803, "c-12", "renamed-10", prio=98),
     ]
     waits = [
-        Wait("preempted", 10, "a", 120, Place(1000020, 0, 2), Place(1000050, 0, 3)),
+        Wait("woken", 10, "a", 120, Place(1000025, 1, 2), Place(1000050, 0, 3)),
         Wait("preempted", 11, "b", 120, Place(1000050, 0, 3), Place(1000090, 1, 3)),
-        Wait("woken", 10, "a", 120, Place(1000100, 2, 1), Place(1000130, 2, 2)),
+        Wait("woken", 10, "a", 120, Place(1000100, 2, 2), Place(1000130, 2, 4)),
         Wait("woken", 12, "c", 120, Place(1000210, 0, 6), Place(1000215, 0, 7)),
-        Wait("new", 13, "d", 120, Place(1000300, 0, 8), Place(1000340, 3, 1)),
-        Wait("new", 13, "e", 120, Place(1000400, 0, 11), Place(1000407, 3, 3)),
-        Wait("woken", 14, "f", 120, Place(1000500, 0, 12), Place(1000500, 2, 3)),
+        Wait("new", 13, "d", 120, Place(1000300, 0, 8), Place(1000340, 3, 2)),
+        Wait("new", 13, "e", 120, Place(1000400, 0, 11), Place(1000407, 3, 4)),
+        Wait("woken", 14, "f", 120, Place(1000500, 0, 12), Place(1000500, 2, 5)),
         Wait("woken", 10, "renamed", 98, Place(1000800, 0, 13), Place(1000803, 0, 14)),
     ]
-    return Known(text_of(lines), tuple(waits))
+    return Known(text_of(lines), tuple(waits), (Gap(None, 1000200, 1000210, None),))
 
 
 def many_waits(count: int = 1000) -> Known:
@@ -269,6 +276,9 @@ class Task:
         self.cpu: Optional[int] = None
         # Where its wait began, and of which kind it is, while it waits.
         self.waits: Optional[Tuple[str, Place]] = None
+        # Whether it was woken since it last ran, or was run, and in which state it was left.
+        self.is_woken = False
+        self.state = ""
 
     def __str__(self) -> str:
         return f"{self.name}-{self.pid}"
@@ -299,6 +309,7 @@ class Machine:
 
     def wake(self, task: Task, event: str = "sched_waking") -> Place:
         """Write that a task is woken by some CPU."""
+        task.is_woken = True
         cpu = self.chance.randrange(len(self.running))
         return self.write(cpu, lambda cpu, now: waking(cpu, now, task.pid, name=task.name, event=event))
 
@@ -317,6 +328,10 @@ class Machine:
         before, after, prio = str(old or "<idle>-0"), str(new or "<idle>-0"), new.prio if new else 120
         place = self.write(cpu, lambda cpu, now: switch(cpu, now, before, after, state=state if old else "R", prio=prio))
         self.running[cpu] = new
+        if old:
+            old.state = state
+        if new:
+            new.is_woken = False
         if new and new.waits:
             self.waits.append(Wait(new.waits[0], new.pid, new.name, new.prio, new.waits[1], place))
             new.waits = None
@@ -337,16 +352,17 @@ class Machine:
             self.wake_queued()
         elif task is None:
             self.switch(cpu, "R")
-        elif what < 0.5:
+        elif what < 0.5 and not task.is_woken:
             # It is woken while it runs, before it sleeps, and goes on.
             self.wake(task)
         elif what < 0.65:
             place = self.switch(cpu, self.chance.choice(["R", "R+"]))
             self.queue(task, "preempted", place)
-        elif what < 0.7:
-            # The waking comes first, and the switch after it still says that it sleeps.
+        elif what < 0.7 and not task.is_woken:
+            # The waking comes first, and the switch after it still says that it sleeps; then the waking ends.
             place = self.wake(task)
             self.switch(cpu, "S")
+            self.wake(task, "sched_wakeup")
             self.queue(task, "woken", place)
         elif what < 0.75:
             self.switch(cpu, "X")
@@ -355,16 +371,17 @@ class Machine:
             self.asleep.append(task)
 
     def wake_queued(self) -> None:
-        """Write a waking of a task that was preempted, which changes nothing."""
-        preempted = [task for task in self.queued if task.waits and task.waits[0] == "preempted"]
+        """Write a waking of a task that was preempted on its way to sleep: it waits since then."""
+        preempted = [task for task in self.queued if task.waits and task.waits[0] == "preempted" and task.state == "R+"]
         if preempted:
-            self.wake(self.chance.choice(preempted))
+            task = self.chance.choice(preempted)
+            task.waits = "woken", self.wake(task)
 
 
 def simulated(seed: int, steps: int = 400, *, holes: int = 0) -> Known:
     """What a machine that runs tasks by chance writes down, and the waits that its tasks had, even if the trace has lost events
-    of some CPUs. `doubtful` is set for the waits that span a gap; a wait whose events are lost is among them, and has the lines
-    that it had before."""
+    of some CPUs. `doubtful` is set for the waits that span a gap, also one that no line reports; a wait whose events are lost
+    is among them, and has the lines that it had before."""
     machine = Machine(seed)
     for _ in range(steps):
         machine.step()
@@ -373,8 +390,17 @@ def simulated(seed: int, steps: int = 400, *, holes: int = 0) -> Known:
     for _ in range(holes):
         gap = damaged(machine.chance, events, lines)
         gaps += [gap] if gap else []
+    text = text_of([text for text in lines if text])
+    gaps += gaps_shown(text)
     waits = [wait._replace(doubtful=any(spans(wait, gap) for gap in gaps)) for wait in machine.waits]
-    return Known(text_of([text for text in lines if text]), tuple(waits), tuple(gaps))
+    return Known(text, tuple(waits), tuple(gaps))
+
+
+def gaps_shown(text: bytes) -> List[Gap]:
+    """The gaps that no line reports, by the plain reckoning: the machine doesn't know of them, since it lost nothing there."""
+    from plain_waits import gaps_of, lost_in
+
+    return gaps_of(text)[len(lost_in(text)) :]
 
 
 def damaged(chance: random.Random, events: List[Tuple[Place, str]], lines: List[str]) -> Optional[Gap]:

@@ -7,3 +7,5 @@ mod Firsts
 mod Placed
 mod Others
 mod Held
+mod FirstWakings
+mod Unsaid

@@ -1,11 +1,13 @@
 -- Acts that were read apart from the acts before them: what is known, and the dispatches, behind those. Acts and dispatches stand newest first, if nothing else is said.
-use Rattle.std.specs.Prelude.{◌≡◌, ℕ, ℤ, ◌+◌, min, Bool, List, [], ◌∷◌, ◌++◌, reverse, slice_index, map as list_map, option_map, if◌then◌else◌}
-use Rattle.std.specs.List.{list_any}
-use Rattle.std.specs.Option.{option_or}
+use Rattle.std.specs.Prelude.{◌≡◌, ◌≤◌, ◌<◌, ℕ, ℤ, ◌+◌, min, Bool, Option, List, [], ◌∷◌, ◌++◌, reverse, slice_index, map as list_map, option_map, if◌then◌else◌}
+use Rattle.std.specs.List.{AllByRecursion, list_any}
+use Rattle.std.specs.Option.{option_or, is_some}
 use Rattle.std.specs.Ordering.{int_eq}
+use Rattle.ft_fields.specs.Places.{pos_cmp}
 use Rattle.ft_fields.specs.declared.pos.Pos.{Pos}
 use Rattle.ft_dispatch.specs.Acts.{Act}
 use Rattle.ft_dispatch.specs.Dispatches.{runs, runnable_since}
+use Rattle.ft_dispatch.specs.Showings.{is_unsaid, ready_since}
 use Rattle.ft_dispatch.specs.Telling.{unknown, Tells}
 use Rattle.ft_dispatch.specs.declared.dispatch.Dispatch.{Dispatch}
 use Rattle.ft_dispatch.specs.declared.dispatch.Left.{Left}
@@ -23,10 +25,10 @@ abbrev pub act_behind : (Pos → Pos) → Pos × Act → Pos × Act
 act_behind move entry = (move entry.0, entry.1)
 
 abbrev pub left_behind : (Pos → Pos) → Left → Left
-left_behind move left = record { place = move left.place; runnable = left.runnable }
+left_behind move left = record { place = move left.place; runnable = left.runnable; queued = left.queued }
 
 abbrev pub since_behind : (Pos → Pos) → Since → Since
-since_behind move since = record { woken = option_map move since.woken; created = option_map move since.created; left = option_map (left_behind move) since.left }
+since_behind move since = record { woken = option_map move since.woken; created = option_map move since.created; left = option_map (left_behind move) since.left; seen = option_map move since.seen; roused = option_map move since.roused }
 
 abbrev pub dispatch_behind : (Pos → Pos) → Dispatch → Dispatch
 dispatch_behind move one = record { pid = one.pid; prio = one.prio; name = one.name; place = move one.place; since = since_behind move one.since }
@@ -37,12 +39,14 @@ dispatch_behind move one = record { pid = one.pid; prio = one.prio; name = one.n
 abbrev pub ran : ℤ → List (Pos × Act) → Bool
 ran pid part = list_any (λ entry. runs pid entry.1) part
 
--- each place from what a part says, if it says one, else from what was known before
+-- each place from what a part says, if it says one, else from what was known before; the first end of the last waking is the part's, if the waking is
 abbrev pub over : Since → Since → Since
 over part before = record {
   woken = option_or part.woken before.woken;
   created = option_or part.created before.created;
   left = option_or part.left before.left;
+  seen = option_or part.seen before.seen;
+  roused = if is_some part.woken then part.roused else option_or before.roused part.roused;
 }
 
 -- what is known of a task behind a part, by whether the part ran it: a task that ran has only what the part says since then
@@ -101,6 +105,24 @@ AreOfTasks told ones = (pid : ℤ) → has_one pid ones ≡ has_one pid told
 -- what is left of what was known of a task, behind dispatches, the oldest first: nothing, if it ran
 abbrev pub left_over : (ℤ → Since) → List Dispatch → ℤ → Since
 left_over known told pid = if has_one pid (reverse told) then unknown else known pid
+
+-- ---- showings
+
+-- where a task became runnable, if it was not seen to run since: what a part says of it; what was known before only if the part says nothing
+abbrev pub ready_behind : Since → Since → Option Pos
+ready_behind part before = if is_unsaid part then ready_since before else ready_since part
+
+-- places that are moved keep their stamps and their order
+pub record KeepsOrder (move : Pos → Pos) : Type 0 where
+  pub stamps : (place : Pos) → (move place).stamp ≡ place.stamp
+  pub order : (first second : Pos) → pos_cmp (move first) (move second) ≡ pos_cmp first second
+
+-- acts up to a stamp, and acts after it
+abbrev pub AreUpTo : ℕ → List (Pos × Act) → Type 0
+AreUpTo stamp acts = AllByRecursion (λ entry. entry.0.stamp ≤ stamp) acts
+
+abbrev pub AreAfter : ℕ → List (Pos × Act) → Type 0
+AreAfter stamp acts = AllByRecursion (λ entry. stamp < entry.0.stamp) acts
 
 -- ---- tasks
 

@@ -9,6 +9,8 @@ pub struct Left {
     pub place: Pos,
     /// Whether the task could still run then.
     pub runnable: bool,
+    /// Whether it could, and can't be woken before it has run again: it was left in `R`, not in `R+`.
+    pub queued: bool,
 }
 
 /// Where a task became runnable, by the events since it last ran.
@@ -22,6 +24,11 @@ pub struct Since {
     /// the CPU from the task and gives it back, it is this very switch, and the task waited for
     /// nothing.
     pub left: Option<Left>,
+    /// The last event that shows the task running: the switch that ran it last, or later a waking,
+    /// creation, wakeup or switch on a line of its own, except for a switch that leaves it.
+    pub seen: Option<Pos>,
+    /// The first `sched_wakeup` of the task since its last waking, which it ends.
+    pub roused: Option<Pos>,
 }
 
 /// A switch to a task.

@@ -1,17 +1,19 @@
 //! One act after the other.
 
-ghost use Rattle.std.specs.Prelude.{◌≡◌, ℤ, [], ◌++◌, OnOk};
+ghost use Rattle.std.specs.Prelude.{◌≡◌, ◌||◌, ℤ, [], ◌++◌, OnOk, if◌then◌else◌};
+ghost use Rattle.std.specs.Ordering.{int_eq};
 ghost use Rattle.ft_dispatch.specs.Dispatches.{ended_by, dispatch_at, dispatch_of};
-ghost use Rattle.ft_dispatch.specs.Telling.{known, handover_of, act_from, entries_of, Tells, TakesAll};
-ghost use Rattle.ft_dispatch.specs.inner.Changes.{after, leaving};
+ghost use Rattle.ft_dispatch.specs.Telling.{known, handover_of, act_from, entries_of, Tells, TakesAll, ShowsAll};
+ghost use Rattle.ft_dispatch.specs.inner.Changes.{after, changed, leaving, seen_if};
 
 use crate::act::{Kind, PlacedAct};
 use crate::dispatch::{Dispatch, Left, Since};
-use crate::tasks::{Change, Task, Tasks, forget, set};
+use crate::showing::{Shown, show};
+use crate::tasks::{Change, Task, Tasks, run, set};
 use std::alloc::{AllocError, Global};
 use std::collections::BTreeMap;
 
-/// Where a switch leaves a task, and whether that can still run.
+/// Where a switch leaves a task, and how.
 #[inline(always)]
 fn leaving(turn: &PlacedAct) -> Left
     ensures { result ≡ leaving (handover_of turn.now) turn.now.place }
@@ -19,6 +21,7 @@ fn leaving(turn: &PlacedAct) -> Left
     Left {
         place: turn.place,
         runnable: turn.prev_state.can_run(),
+        queued: turn.prev_state.is_queued(),
     }
 }
 
@@ -34,7 +37,10 @@ fn ended_by(turn: &PlacedAct, since: Since) -> Since
             left: Some(Left {
                 place: turn.place,
                 runnable: false,
+                queued: false,
             }),
+            seen: since.seen,
+            roused: since.roused,
         }
     } else {
         since
@@ -59,6 +65,47 @@ fn dispatch(turn: &PlacedAct, since: Since, out: &mut Vec<Dispatch>) -> Result<(
     Ok(())
 }
 
+/// Takes an act on a task's line: the task runs.
+#[inline(always)]
+fn see(tasks: &mut BTreeMap<Task, Since>, act: &PlacedAct) -> Result<(), AllocError>
+    ensures { OnOk result ((pid : ℤ) → known tasks.new pid
+        ≡ seen_if (int_eq act.now.by pid) act.now.place (known tasks.old pid)) }
+{
+    set(tasks, act.by, Change::Seen(act.place))
+}
+
+/// Takes an act that a task's line says of another task.
+#[inline(always)]
+fn change(
+    tasks: &mut BTreeMap<Task, Since>,
+    act: &PlacedAct,
+    change: Change,
+) -> Result<(), AllocError>
+    ensures { OnOk result ((pid : ℤ) → known tasks.new pid
+        ≡ if int_eq act.now.pid pid then changed change (seen_if (int_eq act.now.by pid) act.now.place (known tasks.old pid))
+        else seen_if (int_eq act.now.by pid) act.now.place (known tasks.old pid)) }
+{
+    see(tasks, act)?;
+    set(tasks, act.pid, change)
+}
+
+/// Takes a switch on the line of a task that it neither leaves nor runs: that task runs.
+#[inline(always)]
+fn see_another(tasks: &mut BTreeMap<Task, Since>, turn: &PlacedAct) -> Result<(), AllocError>
+    ensures { OnOk result ((pid : ℤ) → known tasks.new pid
+        ≡ if int_eq turn.now.pid pid || int_eq turn.now.prev_pid pid then known tasks.old pid
+        else seen_if (int_eq turn.now.by pid) turn.now.place (known tasks.old pid)) }
+{
+    // A switch stands on the line of the task that it leaves.
+    if turn.by == turn.prev_pid {
+        return Ok(());
+    }
+    if turn.by == turn.pid {
+        return Ok(());
+    }
+    see(tasks, turn)
+}
+
 /// Takes a switch, and adds its dispatch.
 #[inline(always)]
 fn switch(
@@ -72,7 +119,8 @@ fn switch(
         ++ dispatch_at turn.now.place (handover_of turn.now) (known tasks.old turn.now.pid)) }
 {
     set(tasks, turn.prev_pid, Change::Left(leaving(turn)))?;
-    let since = forget(tasks, turn.pid);
+    let since = run(tasks, turn.pid, turn.place)?;
+    see_another(tasks, turn)?;
     dispatch(turn, since, out)
 }
 
@@ -90,8 +138,9 @@ fn take(
 {
     match act.kind {
         Kind::Switch => switch(tasks, act, out),
-        Kind::Waking => set(tasks, act.pid, Change::Woken(act.place)),
-        Kind::Creation => set(tasks, act.pid, Change::Created(act.place)),
+        Kind::Waking => change(tasks, act, Change::Woken(act.place)),
+        Kind::Creation => change(tasks, act, Change::Created(act.place)),
+        Kind::Wakeup => change(tasks, act, Change::Roused(act.place)),
     }
 }
 
@@ -105,16 +154,19 @@ impl Tasks {
         }
     }
 
-    /// Takes acts that follow in order, and adds their dispatches. Fails only for memory.
+    /// Takes acts that follow in order, and adds their dispatches, and what they show. Fails only for memory.
     #[inline(always)]
     pub fn take_all(
         &mut self,
         acts: &[PlacedAct],
         out: &mut Vec<Dispatch>,
+        shown: &mut Shown,
     ) -> Result<(), AllocError>
-        ensures { OnOk result (TakesAll (entries_of acts.now) self.old out.old.items self.new out.new.items) }
+        ensures takes { OnOk result (TakesAll (entries_of acts.now) self.old out.old.items self.new out.new.items) }
+        ensures shows { OnOk result (ShowsAll (entries_of acts.now) self.old out.old.items shown.old shown.new) }
     {
         for one in acts {
+            show(&self.since, one, shown)?;
             take(&mut self.since, one, out)?;
         }
         Ok(())

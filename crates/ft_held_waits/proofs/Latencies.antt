@@ -41,7 +41,7 @@ use Rattle.ft_dispatch.specs.Acts.{Act, Waking, Switch, handover}
 use Rattle.ft_dispatch.specs.Dispatches.{last_since_run, dispatches}
 use Rattle.ft_held_waits.specs.Held.{acts_of_events}
 use Rattle.ft_held_waits.specs.Latencies.{saver_of_wakings, reader_of_switches, AreLatencyTriggers, dropped_by, task_pairs, woken_pairs}
-use Rattle.ft_held_waits.proofs.Matching.{for_task, with_act, acts-from, at_task, Follows, woken, switched, created}
+use Rattle.ft_held_waits.proofs.Matching.{for_task, with_act, acts-from, at_task, Follows, woken, switched, created, roused}
 
 abbrev is_saved : Option Var → Bool
 is_saved (Some (vars.Saves label)) = true
@@ -224,31 +224,31 @@ module _ (triggers : Triggers) (events : Events) (saver reader : ℕ) (two : Are
     quiet : (body : Body) → hit saving_hist (told_event body) ≡ None → hit reading_hist (told_event body) ≡ None → (state : State) → Holds state before → Holds (after_event body state) before
     quiet body no_saving no_reading = all-keep place (told_event body) before (map.entries triggers) (none-acts place (told_event body) no_saving no_reading (map.entries triggers) each-attached)
 
-    saves-waking : (pid : ℤ) (growth : RowGrowth) (state : State) → Holds state before → Holds (act saving_hist.size Saves growth state (record { pos = place; trigger = saver }) (waking_key pid)) ((place, Waking pid) ∷ before)
+    saves-waking : (pid : ℤ) (growth : RowGrowth) (state : State) → Holds state before → Holds (act saving_hist.size Saves growth state (record { pos = place; trigger = saver }) (waking_key pid)) ((place, Waking event.pid pid) ∷ before)
     unfolding act
-    saves-waking pid growth state f = subst (λ o. Holds (option_map_or (act_as saving_hist.size growth Saves state (record { pos = place; trigger = saver }) (waking_key pid)) o state) ((place, Waking pid) ∷ before)) (sym f.counts)
-        (woken events saver reader apart place pid saving_hist.size growth state before f)
+    saves-waking pid growth state f = subst (λ o. Holds (option_map_or (act_as saving_hist.size growth Saves state (record { pos = place; trigger = saver }) (waking_key pid)) o state) ((place, Waking event.pid pid) ∷ before)) (sym f.counts)
+        (woken events saver reader apart place event.pid pid saving_hist.size growth state before f)
 
     reads-switch : (turn : Turn) → map.get events place ≡ Some (told_event (bodies.Switch turn)) → (role : Role) → role ≡ Reads saver → (growth : RowGrowth) (state : State) → Holds state before
-        → Holds (act reading_hist.size role growth state (record { pos = place; trigger = reader }) (waking_key turn.next_pid)) ((place, Switch (handover turn)) ∷ before)
+        → Holds (act reading_hist.size role growth state (record { pos = place; trigger = reader }) (waking_key turn.next_pid)) ((place, Switch (handover event.pid turn)) ∷ before)
     unfolding act
-    reads-switch turn there role is growth state f = subst (λ r. Holds (act reading_hist.size r growth state (record { pos = place; trigger = reader }) (waking_key turn.next_pid)) ((place, Switch (handover turn)) ∷ before)) (sym is)
-        (subst (λ o. Holds (option_map_or (act_as reading_hist.size growth (Reads saver) state (record { pos = place; trigger = reader }) (waking_key turn.next_pid)) o state) ((place, Switch (handover turn)) ∷ before)) (sym f.reads)
-        (switched events saver reader apart place (handover turn) reading_hist.size growth state before f
+    reads-switch turn there role is growth state f = subst (λ r. Holds (act reading_hist.size r growth state (record { pos = place; trigger = reader }) (waking_key turn.next_pid)) ((place, Switch (handover event.pid turn)) ∷ before)) (sym is)
+        (subst (λ o. Holds (option_map_or (act_as reading_hist.size growth (Reads saver) state (record { pos = place; trigger = reader }) (waking_key turn.next_pid)) o state) ((place, Switch (handover event.pid turn)) ∷ before)) (sym f.reads)
+        (switched events saver reader apart place (handover event.pid turn) reading_hist.size growth state before f
         (ap (λ o. option_map_or (λ (e : Traced). option_map_or (λ (t : Turn). not (int_eq t.next_pid (pos 0))) (turn_of e.body) false) o false) there)))
 
     event-follows : (body : Body) → map.get events place ≡ Some (told_event body) → (state : State) → Holds state before → Holds (after_event body state) (with_act before (place, told_event body))
     unfolding act_at
-    event-follows (bodies.Waking wake) there = one-acts place (told_event (bodies.Waking wake)) saver saving_hist before ((place, Waking wake.pid) ∷ before)
+    event-follows (bodies.Waking wake) there = one-acts place (told_event (bodies.Waking wake)) saver saving_hist before ((place, Waking event.pid wake.pid) ∷ before)
         (λ id h attached other. keeps place (told_event (bodies.Waking wake)) id h attached (λ same. absurd (other same)) (λ _. refl))
         (saves-waking wake.pid (growth_by saving_hist place (told_event (bodies.Waking wake)) (waking_key wake.pid)))
         (map.entries triggers) each-attached (entries_apart nat_cmp triggers) (sym (get-entries triggers saver) ∙ two.saves)
-    event-follows (bodies.Switch turn) there = one-acts place (told_event (bodies.Switch turn)) reader reading_hist before ((place, Switch (handover turn)) ∷ before)
+    event-follows (bodies.Switch turn) there = one-acts place (told_event (bodies.Switch turn)) reader reading_hist before ((place, Switch (handover event.pid turn)) ∷ before)
         (λ id h attached other. keeps place (told_event (bodies.Switch turn)) id h attached (λ _. refl) (λ same. absurd (other same)))
         (reads-switch turn there (role_of triggers reading_hist.variable) reading-role (growth_by reading_hist place (told_event (bodies.Switch turn)) (waking_key turn.next_pid)))
         (map.entries triggers) each-attached (entries_apart nat_cmp triggers) (sym (get-entries triggers reader) ∙ two.reads)
-    event-follows (bodies.WakeupNew wake) there = λ state f. created events saver reader apart place wake.pid (after_event (bodies.WakeupNew wake) state) before (quiet (bodies.WakeupNew wake) refl refl state f)
-    event-follows (bodies.Wakeup wake) there = quiet (bodies.Wakeup wake) refl refl
+    event-follows (bodies.WakeupNew wake) there = λ state f. created events saver reader apart place event.pid wake.pid (after_event (bodies.WakeupNew wake) state) before (quiet (bodies.WakeupNew wake) refl refl state f)
+    event-follows (bodies.Wakeup wake) there = λ state f. roused events saver reader apart place event.pid wake.pid (after_event (bodies.Wakeup wake) state) before (quiet (bodies.Wakeup wake) refl refl state f)
     event-follows (bodies.WakeupLatency matched) there = quiet (bodies.WakeupLatency matched) refl refl
     event-follows bodies.Other there = quiet bodies.Other refl refl
 

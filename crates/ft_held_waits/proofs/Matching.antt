@@ -23,7 +23,7 @@ use Rattle.ft_replay.specs.Merged.{Events}
 use Rattle.ft_replay.specs.Replay.{State, act_as}
 use Rattle.ft_replay.specs.Tally.{Tally, RowGrowth, count, has_place, tell}
 use Rattle.ft_replay.specs.declared.pair.Pair.{Pair}
-use Rattle.ft_dispatch.specs.Acts.{Act, Waking, Creation, Switch, Handover}
+use Rattle.ft_dispatch.specs.Acts.{Act, Waking, Creation, Wakeup, Switch, Handover}
 use Rattle.ft_dispatch.specs.Dispatches.{wakes, last_since_run, place_of, runnable_since, ended_by, blocked_at, dispatch_at, dispatches}
 use Rattle.ft_dispatch.specs.declared.dispatch.Since.{Since}
 use Rattle.ft_held_waits.specs.Held.{placed_act, acts_of_entries}
@@ -113,7 +113,7 @@ module _ (events : Events) (saver reader : ℕ) (apart : saver ≡ reader → �
 
   -- ---- a waking
 
-  module _ (place : Pos) (pid : ℤ) (size : ℕ) (growth : RowGrowth) (state : State) (before : List (Pos × Act)) (f : Follows state before) where
+  module _ (place : Pos) (by pid : ℤ) (size : ℕ) (growth : RowGrowth) (state : State) (before : List (Pos × Act)) (f : Follows state before) where
     abbrev waking_at : At
     waking_at = record { pos = place; trigger = saver }
 
@@ -131,7 +131,7 @@ module _ (events : Events) (saver reader : ℕ) (apart : saver ≡ reader → �
       variables = cond room (map.insert state.variables (for_task saver pid) place) state.variables;
     }
 
-    woken-by : (room : Bool) → Follows (saved_by room) ((place, Waking pid) ∷ before)
+    woken-by : (room : Bool) → Follows (saved_by room) ((place, Waking by pid) ∷ before)
     unfolding last_since_run dispatches
     woken-by true = record {
       saving = told_by true;
@@ -142,7 +142,7 @@ module _ (events : Events) (saver reader : ℕ) (apart : saver ≡ reader → �
           get-insert variable_cmp_total state.variables (for_task saver pid) place (for_task saver q)
           ∙ ap (λ b. cond b (Some place) (map.get state.variables (for_task saver q))) (same_task saver q pid)
           ∙ ap (cond (int_eq pid q) (Some place)) (f.saved none q)
-          ∙ found-place (int_eq pid q) (place, Waking pid) (last_since_run (wakes q) q before);
+          ∙ found-place (int_eq pid q) (place, Waking by pid) (last_since_run (wakes q) q before);
       pairs = λ none. f.pairs none ∙ ap (filter_map woken_pair) (sym (append-nil (dispatches before)));
     }
     woken-by false = record {
@@ -154,7 +154,7 @@ module _ (events : Events) (saver reader : ℕ) (apart : saver ≡ reader → �
       pairs = λ none. absurd (omega (arith, none));
     }
 
-    pub woken : Follows (act_as size growth Saves state waking_at waking_key f.saving) ((place, Waking pid) ∷ before)
+    pub woken : Follows (act_as size growth Saves state waking_at waking_key f.saving) ((place, Waking by pid) ∷ before)
     unfolding count
     woken = woken-by (has_place size f.saving.table waking_key)
 
@@ -252,9 +252,22 @@ module _ (events : Events) (saver reader : ℕ) (apart : saver ≡ reader → �
 
   -- ---- a creation
 
-  pub created : (place : Pos) (pid : ℤ) (state : State) (before : List (Pos × Act)) → Follows state before → Follows state ((place, Creation pid) ∷ before)
+  pub created : (place : Pos) (by pid : ℤ) (state : State) (before : List (Pos × Act)) → Follows state before → Follows state ((place, Creation by pid) ∷ before)
   unfolding last_since_run dispatches
-  created place pid state before f = record {
+  created place by pid state before f = record {
+    saving = f.saving;
+    counts = f.counts;
+    reading = f.reading;
+    reads = f.reads;
+    saved = f.saved;
+    pairs = λ none. f.pairs none ∙ ap (filter_map woken_pair) (sym (append-nil (dispatches before)));
+  }
+
+  -- ---- the end of a waking
+
+  pub roused : (place : Pos) (by pid : ℤ) (state : State) (before : List (Pos × Act)) → Follows state before → Follows state ((place, Wakeup by pid) ∷ before)
+  unfolding last_since_run dispatches
+  roused place by pid state before f = record {
     saving = f.saving;
     counts = f.counts;
     reading = f.reading;

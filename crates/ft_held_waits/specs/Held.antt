@@ -11,7 +11,7 @@ use Rattle.ft_dispatch.specs.declared.dispatch.Dispatch.{Dispatch}
 
 -- what an event says of who runs, at the event's place, if it says anything
 abbrev pub placed_act : Pos × Traced → Option (Pos × Act)
-placed_act entry = option_map (λ act. (entry.0, act)) (act_of entry.1.body)
+placed_act entry = option_map (λ act. (entry.0, act)) (act_of entry.1.pid entry.1.body)
 
 -- the acts of events that follow in order, newest first
 abbrev pub acts_of_entries : List (Pos × Traced) → List (Pos × Act)

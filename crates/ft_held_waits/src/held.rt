@@ -7,7 +7,7 @@ ghost use Rattle.ft_dispatch.specs.Dispatches.{dispatches};
 ghost use Rattle.ft_dispatch.specs.Telling.{TakesAll};
 ghost use Rattle.ft_held_waits.specs.Held.{placed_act, acts_of_entries, dispatches_held};
 
-use ft_dispatch::{Dispatch, PlacedAct, Tasks};
+use ft_dispatch::{Dispatch, PlacedAct, Shown, Tasks};
 use ft_fields::Pos;
 use ft_lanes::Lanes;
 use ft_replay::{Names, events_with};
@@ -30,14 +30,15 @@ fn dispatches_of(alloc: Global, events: &[(Pos, Stored<'_>)]) -> Result<Vec<Disp
     let mut tasks = Tasks::new(alloc);
     let mut told = Vec::new(alloc);
     for event in events {
-        take_event(&mut tasks, event, &mut told)?;
+        take_event(alloc, &mut tasks, event, &mut told)?;
     }
     Ok(told)
 }
 
-/// Takes what an event says of who runs, and adds its dispatch, if it is a switch to a task. Fails
-/// only for memory.
+/// Takes what an event says of who runs, and adds its dispatch, if it is a switch to a task. What it
+/// shows of runs that no event says is let go. Fails only for memory.
 fn take_event(
+    alloc: Global,
     tasks: &mut Tasks,
     event: &(Pos, Stored<'_>),
     out: &mut Vec<Dispatch>,
@@ -46,8 +47,10 @@ fn take_event(
         tasks.old out.old.items tasks.new out.new.items) }
 {
     let whole = event.1.event();
-    match PlacedAct::of(&whole.borrowed().body, event.0) {
-        Some(act) => tasks.take_all(&[act], out),
+    let told = whole.borrowed();
+    let mut shown = Shown::new(alloc);
+    match PlacedAct::of(told.pid, &told.body, event.0) {
+        Some(act) => tasks.take_all(&[act], out, &mut shown),
         None => Ok(()),
     }
 }

@@ -6,6 +6,7 @@ use Rattle.std.proofs.Math.Bool.{or-false}
 use Rattle.std.proofs.lemmas.List.Folds.{list_any-append}
 use Rattle.ft_fields.specs.Traced.{last_cpu}
 use Rattle.ft_losses.specs.Holes.{cpus_below, is_earlier, any_earlier, late_hole, all_late, late_by}
+use Rattle.ft_losses.specs.Telling.{IsCpu}
 use Rattle.ft_losses.specs.declared.hole.Header.{Header}
 use Rattle.ft_losses.specs.declared.hole.Hole.{Hole}
 use Rattle.ft_losses.proofs.Lasting.{same-below, below-within}
@@ -42,18 +43,18 @@ module _ (f g : ℕ → Option ℕ) (same : (cpu : ℕ) → cpu ≤ last_cpu →
   late-same marked (Some header) = ap (λ (hs : List Hole). if nat_lt header.buffers.held header.buffers.written && not marked then hs else []) (all-late-same header.line)
 
 -- each is on a CPU that there can be
-one-late : (earlier : ℕ → Bool) (line cpu : ℕ) (first : Option ℕ) → cpu ≤ last_cpu → AllByRecursion (λ (hole : Hole). hole.cpu ≤ last_cpu) (late_hole earlier line cpu first)
+one-late : (earlier : ℕ → Bool) (line cpu : ℕ) (first : Option ℕ) → cpu ≤ last_cpu → AllByRecursion (λ (hole : Hole). IsCpu hole.cpu) (late_hole earlier line cpu first)
 one-late earlier line cpu None fits = tt
 one-late earlier line cpu (Some first) fits = by_test (earlier first)
   where
-    by_test : (b : Bool) → AllByRecursion (λ (hole : Hole). hole.cpu ≤ last_cpu) (if b then (record { cpu = cpu; line = line; after = None; before = Some first; count = None } ∷ []) else [])
+    by_test : (b : Bool) → AllByRecursion (λ (hole : Hole). IsCpu hole.cpu) (if b then (record { cpu = Some cpu; line = line; after = None; before = Some first; count = None } ∷ []) else [])
     by_test true = (fits, tt)
     by_test false = tt
 
-pub late-within : (f : ℕ → Option ℕ) (marked : Bool) (header : Option Header) → AllByRecursion (λ (hole : Hole). hole.cpu ≤ last_cpu) (late_by f marked header)
+pub late-within : (f : ℕ → Option ℕ) (marked : Bool) (header : Option Header) → AllByRecursion (λ (hole : Hole). IsCpu hole.cpu) (late_by f marked header)
 late-within f marked None = tt
 late-within f marked (Some header) = by_test (nat_lt header.buffers.held header.buffers.written && not marked)
   where
-    by_test : (b : Bool) → AllByRecursion (λ (hole : Hole). hole.cpu ≤ last_cpu) (if b then all_late f header.line else [])
+    by_test : (b : Bool) → AllByRecursion (λ (hole : Hole). IsCpu hole.cpu) (if b then all_late f header.line else [])
     by_test true = below-within (λ cpu. late_hole (any_earlier f) header.line cpu (f cpu)) (λ cpu fits. one-late (any_earlier f) header.line cpu (f cpu) fits) 8192 (omega arith)
     by_test false = tt

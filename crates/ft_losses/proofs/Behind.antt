@@ -133,7 +133,7 @@ hole-as : (cpu : ℕ) (after last own_before : Option ℕ) (own : Option Loss) (
     → hole_of cpu (option_or after last) own_before (option_map (loss_behind lines) own) ≡ list_map (hole_behind lines stamps) (hole_of cpu after own_before own)
 hole-as cpu after last own_before None lines stamps is = refl
 hole-as cpu after last own_before (Some loss) lines stamps is =
-    ap (λ (o : Option ℕ). record { cpu = cpu; line = number_behind lines loss.line; after = option_or after o; before = own_before; count = loss.count } ∷ []) is
+    ap (λ (o : Option ℕ). record { cpu = Some cpu; line = number_behind lines loss.line; after = option_or after o; before = own_before; count = loss.count } ∷ []) is
 
 nothing-lost : (cpu n : ℕ) (before : List Note) → cpu < n → list_any (λ c. is_some (lost_since c before)) (cpus_below n) ≡ false → lost_since cpu before ≡ None
 unfolding cpus_below

@@ -1,12 +1,14 @@
 -- The holes of CPUs below a number.
-use Rattle.std.specs.Prelude.{◌≡◌, ◌≤◌, ◌<◌, ◌+◌, ℕ, zero, suc, List, [], ◌∷◌, ◌++◌, Option, None}
+use Rattle.std.specs.Prelude.{◌≡◌, ◌≤◌, ◌<◌, ◌+◌, ℕ, zero, suc, List, [], ◌∷◌, ◌++◌, Option, Some, None}
 use Rattle.std.specs.List.{AllByRecursion, flat_map}
+use Rattle.std.specs.Option.{option_and_then}
 use Rattle.std.proofs.Common.{refl, sym, ap, subst, ◌∙◌, append_assoc, arith, add-one}
 use Rattle.std.proofs.lemmas.List.{append-nil}
 use Rattle.std.proofs.lemmas.Grind.{flat_map-append}
 use Rattle.std.proofs.lemmas.List.Concat.{flat_map-cons}
 use Rattle.ft_fields.specs.Traced.{last_cpu}
 use Rattle.ft_losses.specs.Holes.{cpus_below, hole_of, counted_by}
+use Rattle.ft_losses.specs.Telling.{IsCpu}
 use Rattle.ft_losses.specs.declared.hole.Hole.{Hole}
 use Rattle.ft_losses.specs.declared.lanes.Lane.{Lane}
 use Rattle.ft_losses.specs.inner.Lanes.{lane_in}
@@ -34,18 +36,23 @@ same-below f g (suc n) same =
     ∙ sym (flat_map-append g (cpus_below n) (n ∷ []))
 
 -- each of these holes is on a CPU that there can be
-pub below-within : (f : ℕ → List Hole) → ((cpu : ℕ) → cpu ≤ last_cpu → AllByRecursion (λ (hole : Hole). hole.cpu ≤ last_cpu) (f cpu)) → (n : ℕ) → n ≤ suc last_cpu → AllByRecursion (λ (hole : Hole). hole.cpu ≤ last_cpu) (flat_map f (cpus_below n))
+pub below-within : (f : ℕ → List Hole) → ((cpu : ℕ) → cpu ≤ last_cpu → AllByRecursion (λ (hole : Hole). IsCpu hole.cpu) (f cpu)) → (n : ℕ) → n ≤ suc last_cpu → AllByRecursion (λ (hole : Hole). IsCpu hole.cpu) (flat_map f (cpus_below n))
 unfolding cpus_below
 below-within f each zero fits = tt
-below-within f each (suc n) fits = subst (AllByRecursion (λ (hole : Hole). hole.cpu ≤ last_cpu)) (sym (flat_map-append f (cpus_below n) (n ∷ []) ∙ ap (λ (hs : List Hole). flat_map f (cpus_below n) ++ hs) (flat_map-cons f n [] ∙ append-nil (f n))))
+below-within f each (suc n) fits = subst (AllByRecursion (λ (hole : Hole). IsCpu hole.cpu)) (sym (flat_map-append f (cpus_below n) (n ∷ []) ∙ ap (λ (hs : List Hole). flat_map f (cpus_below n) ++ hs) (flat_map-cons f n [] ∙ append-nil (f n))))
     (all-more (flat_map f (cpus_below n)) (f n) (below-within f each n (omega (arith, fits))) (each n (omega (arith, fits))))
 
+-- the same of a CPU that there can be
+pub same-at : (f g : ℕ → Option ℕ) (cpu : Option ℕ) → ((c : ℕ) → c ≤ last_cpu → f c ≡ g c) → IsCpu cpu → option_and_then f cpu ≡ option_and_then g cpu
+same-at f g None same fits = refl
+same-at f g (Some c) same fits = same c fits
+
 -- holes are counted alike, if the counts are the same of their CPUs
-pub same-counts : (f g : ℕ → Option ℕ) (hs : List Hole) → ((cpu : ℕ) → cpu ≤ last_cpu → f cpu ≡ g cpu) → AllByRecursion (λ (hole : Hole). hole.cpu ≤ last_cpu) hs
-    → flat_map (λ (hole : Hole). counted_by (f hole.cpu) hole) hs ≡ flat_map (λ (hole : Hole). counted_by (g hole.cpu) hole) hs
+pub same-counts : (f g : ℕ → Option ℕ) (hs : List Hole) → ((cpu : ℕ) → cpu ≤ last_cpu → f cpu ≡ g cpu) → AllByRecursion (λ (hole : Hole). IsCpu hole.cpu) hs
+    → flat_map (λ (hole : Hole). counted_by (option_and_then f hole.cpu) hole) hs ≡ flat_map (λ (hole : Hole). counted_by (option_and_then g hole.cpu) hole) hs
 same-counts f g [] same within = refl
 same-counts f g (h ∷ hs) same within =
-    flat_map-cons (λ (hole : Hole). counted_by (f hole.cpu) hole) h hs
-    ∙ ap (λ (c : Option ℕ). counted_by c h ++ flat_map (λ (hole : Hole). counted_by (f hole.cpu) hole) hs) (same h.cpu within.0)
-    ∙ ap (λ (rest : List Hole). counted_by (g h.cpu) h ++ rest) (same-counts f g hs same within.1)
-    ∙ sym (flat_map-cons (λ (hole : Hole). counted_by (g hole.cpu) hole) h hs)
+    flat_map-cons (λ (hole : Hole). counted_by (option_and_then f hole.cpu) hole) h hs
+    ∙ ap (λ (c : Option ℕ). counted_by c h ++ flat_map (λ (hole : Hole). counted_by (option_and_then f hole.cpu) hole) hs) (same-at f g h.cpu same within.0)
+    ∙ ap (λ (rest : List Hole). counted_by (option_and_then g h.cpu) h ++ rest) (same-counts f g hs same within.1)
+    ∙ sym (flat_map-cons (λ (hole : Hole). counted_by (option_and_then g hole.cpu) hole) h hs)

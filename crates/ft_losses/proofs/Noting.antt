@@ -8,7 +8,7 @@ use Rattle.ft_event.specs.declared.mark.Mark.TheVariants as marks
 use Rattle.ft_fields.specs.Traced.{Traced, last_cpu}
 use Rattle.ft_losses.specs.Holes.{first_stamp, last_stamp, lost_since, overwritten, ended_holes, beginning, reported, hole_of}
 use Rattle.ft_losses.specs.Notes.{Note, Passed, Marked, Silent}
-use Rattle.ft_losses.specs.Telling.{IsKept}
+use Rattle.ft_losses.specs.Telling.{IsCpu, IsKept}
 use Rattle.ft_losses.specs.declared.hole.Beginning.{Beginning}
 use Rattle.ft_losses.specs.declared.hole.Hole.{Hole}
 use Rattle.ft_losses.specs.declared.hole.Loss.{Loss}
@@ -44,7 +44,7 @@ module _ (old new : List Lane) (holes holes_now : List Hole) (begins begins_now 
     lost = lost-at count at;
     overwritten = kept-part overwritten_of old new cpu (with_loss line count) (λ k. overwritten k notes) at (λ l. refl) keeps.overwritten;
     ended = ended ∙ keeps.ended ∙ sym (append-nil (ended_holes notes));
-    within = subst (AllByRecursion (λ (hole : Hole). hole.cpu ≤ last_cpu)) (sym ended) keeps.within;
+    within = subst (AllByRecursion (λ (hole : Hole). IsCpu hole.cpu)) (sym ended) keeps.within;
     begun = same ∙ keeps.begun;
     cpus = (tt, keeps.cpus);
   }
@@ -57,7 +57,7 @@ module _ (old new : List Lane) (holes holes_now : List Hole) (begins begins_now 
     lost = lost-at None at;
     overwritten = kept-part overwritten_of old new cpu (with_loss line None) (λ k. overwritten k notes) at (λ l. refl) keeps.overwritten;
     ended = ended ∙ keeps.ended ∙ sym (append-nil (ended_holes notes));
-    within = subst (AllByRecursion (λ (hole : Hole). hole.cpu ≤ last_cpu)) (sym ended) keeps.within;
+    within = subst (AllByRecursion (λ (hole : Hole). IsCpu hole.cpu)) (sym ended) keeps.within;
     begun = same ∙ ap (λ (known : Beginning). record { header = known.header; is_marked = true }) keeps.begun;
     cpus = (tt, keeps.cpus);
   }
@@ -72,7 +72,7 @@ overwritten-more old new holes holes_now begins begins_now cpu count notes ended
   lost = kept-part lost_of old new cpu (with_overwritten count) (λ k. lost_since k notes) at (λ l. refl) keeps.lost;
   overwritten = changed-part overwritten_of old new cpu (with_overwritten count) (λ before. Some count) (λ k. overwritten k notes) at (λ l. refl) keeps.overwritten;
   ended = ended ∙ keeps.ended ∙ sym (append-nil (ended_holes notes));
-  within = subst (AllByRecursion (λ (hole : Hole). hole.cpu ≤ last_cpu)) (sym ended) keeps.within;
+  within = subst (AllByRecursion (λ (hole : Hole). IsCpu hole.cpu)) (sym ended) keeps.within;
   begun = same ∙ keeps.begun;
   cpus = (tt, keeps.cpus);
 }
@@ -91,17 +91,17 @@ written-more old new holes holes_now begins begins_now line held written notes n
   lost = λ cpu fits. ap (λ (ls : List Lane). (lane_in ls cpu).lost) lanes ∙ keeps.lost cpu fits;
   overwritten = λ cpu fits. ap (λ (ls : List Lane). (lane_in ls cpu).overwritten) lanes ∙ keeps.overwritten cpu fits;
   ended = ended ∙ keeps.ended ∙ sym (append-nil (ended_holes notes));
-  within = subst (AllByRecursion (λ (hole : Hole). hole.cpu ≤ last_cpu)) (sym ended) keeps.within;
+  within = subst (AllByRecursion (λ (hole : Hole). IsCpu hole.cpu)) (sym ended) keeps.within;
   begun = counts ∙ ap (λ (n : ℕ). with_header n held written begins) number ∙ ap (with_header (suc (length notes)) held written) keeps.begun;
   cpus = (tt, keeps.cpus);
 }
 
 -- one hole more
-pub all-more : (xs ys : List Hole) → AllByRecursion (λ (hole : Hole). hole.cpu ≤ last_cpu) xs → AllByRecursion (λ (hole : Hole). hole.cpu ≤ last_cpu) ys → AllByRecursion (λ (hole : Hole). hole.cpu ≤ last_cpu) (xs ++ ys)
+pub all-more : (xs ys : List Hole) → AllByRecursion (λ (hole : Hole). IsCpu hole.cpu) xs → AllByRecursion (λ (hole : Hole). IsCpu hole.cpu) ys → AllByRecursion (λ (hole : Hole). IsCpu hole.cpu) (xs ++ ys)
 all-more [] ys p q = q
 all-more (x ∷ xs) ys p q = (p.0, all-more xs ys p.1 q)
 
-pub hole-within : (cpu : ℕ) (after before : Option ℕ) (lost : Option Loss) → cpu ≤ last_cpu → AllByRecursion (λ (hole : Hole). hole.cpu ≤ last_cpu) (hole_of cpu after before lost)
+pub hole-within : (cpu : ℕ) (after before : Option ℕ) (lost : Option Loss) → cpu ≤ last_cpu → AllByRecursion (λ (hole : Hole). IsCpu hole.cpu) (hole_of cpu after before lost)
 hole-within cpu after before None fits = tt
 hole-within cpu after before (Some loss) fits = (fits, tt)
 
@@ -120,7 +120,7 @@ passed-more old new holes holes_now begins begins_now event notes fits same at e
       ∙ ap (λ (hs : List Hole). hs ++ hole_of event.cpu (lane_in old event.cpu).last (Some event.stamp) (lane_in old event.cpu).lost) keeps.ended
       ∙ ap (λ (last : Option ℕ). ended_holes notes ++ hole_of event.cpu last (Some event.stamp) (lane_in old event.cpu).lost) (keeps.last event.cpu fits)
       ∙ ap (λ (lost : Option Loss). ended_holes notes ++ hole_of event.cpu (last_stamp event.cpu notes) (Some event.stamp) lost) (keeps.lost event.cpu fits);
-  within = subst (AllByRecursion (λ (hole : Hole). hole.cpu ≤ last_cpu)) (sym ended)
+  within = subst (AllByRecursion (λ (hole : Hole). IsCpu hole.cpu)) (sym ended)
       (all-more holes (hole_of event.cpu (lane_in old event.cpu).last (Some event.stamp) (lane_in old event.cpu).lost) keeps.within
       (hole-within event.cpu (lane_in old event.cpu).last (Some event.stamp) (lane_in old event.cpu).lost fits));
   begun = same ∙ keeps.begun;

@@ -7,25 +7,26 @@ use Rattle.ft_event.specs.Marks.{last_count}
 use Rattle.ft_fields.specs.Traced.{last_cpu}
 use Rattle.ft_losses.specs.Joining.{any_lost, loss_behind, hole_behind}
 use Rattle.ft_losses.specs.Notes.{Note}
-use Rattle.ft_losses.specs.Telling.{IsKept}
+use Rattle.ft_losses.specs.Telling.{IsCpu, IsKept}
 use Rattle.ft_losses.specs.declared.hole.Beginning.{Beginning}
 use Rattle.ft_losses.specs.declared.hole.Hole.{Hole}
 use Rattle.ft_losses.specs.declared.lanes.Lane.{Lane}
 use Rattle.ft_losses.specs.inner.Lanes.{lane_in}
 use Rattle.ft_losses.specs.inner.Joined.{lane_behind}
 use Rattle.ft_losses.proofs.Behind.{first-behind, last-behind, overwritten-behind, lost-behind, ended-behind, begun-behind, begun_behind, lasts, none-lost, all-cpus}
+use Rattle.ft_losses.proofs.Lasting.{same-at}
 use Rattle.ft_losses.proofs.Noting.{all-more}
 
 -- holes by the last stamps of their CPUs
-same-behind : (lines : ℕ) (f g : ℕ → Option ℕ) (hs : List Hole) → ((cpu : ℕ) → cpu ≤ last_cpu → f cpu ≡ g cpu) → AllByRecursion (λ (hole : Hole). hole.cpu ≤ last_cpu) hs
+same-behind : (lines : ℕ) (f g : ℕ → Option ℕ) (hs : List Hole) → ((cpu : ℕ) → cpu ≤ last_cpu → f cpu ≡ g cpu) → AllByRecursion (λ (hole : Hole). IsCpu hole.cpu) hs
     → list_map (hole_behind lines f) hs ≡ list_map (hole_behind lines g) hs
 same-behind lines f g [] same within = refl
 same-behind lines f g (h ∷ hs) same within =
-    ap (λ (o : Option ℕ). record { cpu = h.cpu; line = (hole_behind lines f h).line; after = option_or h.after o; before = h.before; count = h.count } ∷ list_map (hole_behind lines f) hs) (same h.cpu within.0)
+    ap (λ (o : Option ℕ). record { cpu = h.cpu; line = (hole_behind lines f h).line; after = option_or h.after o; before = h.before; count = h.count } ∷ list_map (hole_behind lines f) hs) (same-at f g h.cpu same within.0)
     ∙ ap (λ (rest : List Hole). hole_behind lines g h ∷ rest) (same-behind lines f g hs same within.1)
 
 -- they are on the same CPUs
-within-behind : (lines : ℕ) (f : ℕ → Option ℕ) (hs : List Hole) → AllByRecursion (λ (hole : Hole). hole.cpu ≤ last_cpu) hs → AllByRecursion (λ (hole : Hole). hole.cpu ≤ last_cpu) (list_map (hole_behind lines f) hs)
+within-behind : (lines : ℕ) (f : ℕ → Option ℕ) (hs : List Hole) → AllByRecursion (λ (hole : Hole). IsCpu hole.cpu) hs → AllByRecursion (λ (hole : Hole). IsCpu hole.cpu) (list_map (hole_behind lines f) hs)
 within-behind lines f [] within = tt
 within-behind lines f (h ∷ hs) within = (within.0, within-behind lines f hs within.1)
 
@@ -46,7 +47,7 @@ module _ (lanes own new : List Lane) (ended own_ended : List Hole) (begins own_b
     ended = is ∙ ap (λ (hs : List Hole). ended ++ hs) (same-behind (length before) (λ cpu. (lane_in lanes cpu).last) (lasts before) own_ended keeps.last keeps_own.within)
         ∙ (λ i. keeps.ended i ++ list_map (hole_behind (length before) (lasts before)) (keeps_own.ended i))
         ∙ sym (ended-behind notes before fits none keeps_own.cpus);
-    within = subst (AllByRecursion (λ (hole : Hole). hole.cpu ≤ last_cpu)) (sym is)
+    within = subst (AllByRecursion (λ (hole : Hole). IsCpu hole.cpu)) (sym is)
         (all-more ended (list_map (hole_behind (length before) (λ cpu. (lane_in lanes cpu).last)) own_ended) keeps.within (within-behind (length before) (λ cpu. (lane_in lanes cpu).last) own_ended keeps_own.within));
     begun = begun ∙ (λ i. begun_behind (length before) (keeps.begun i) (keeps_own.begun i)) ∙ sym (begun-behind notes before fits);
     cpus = all-cpus notes before keeps_own.cpus keeps.cpus;

@@ -1,7 +1,8 @@
 -- How sure a wait is, by the holes in its time.
-use Rattle.std.specs.Prelude.{ℕ, ◌==◌, ◌&&◌, ◌||◌, Bool, true, false, List, Option, Some, None, nat_lt, if◌then◌else◌}
+use Rattle.std.specs.Prelude.{ℕ, ◌==◌, ◌&&◌, ◌||◌, Bool, true, false, List, Option, Some, None, option_map, nat_lt, if◌then◌else◌}
 use Rattle.std.specs.List.{list_any}
-use Rattle.ft_dispatch.specs.Began.{awoken, waiting_since}
+use Rattle.std.specs.Option.{option_eq}
+use Rattle.ft_dispatch.specs.Began.{waiting_since, is_before_sleep}
 use Rattle.ft_dispatch.specs.declared.began.Began.{Began}
 use Rattle.ft_dispatch.specs.declared.dispatch.Dispatch.{Dispatch}
 use Rattle.ft_fields.specs.declared.pos.Pos.{Pos}
@@ -24,12 +25,16 @@ ends_after (Some before) began = nat_lt began before
 abbrev pub spans : ℕ → ℕ → Hole → Bool
 spans began ended hole = begins_before hole.after ended && ends_after hole.before began
 
+-- whether a hole is on a CPU: if its own CPU isn't known, it is on none
+abbrev pub is_of : ℕ → Hole → Bool
+is_of cpu hole = option_eq ◌==◌ hole.cpu (Some cpu)
+
 -- whether any hole, and whether any hole of a CPU, is in a wait's time
 abbrev pub any_spans : List Hole → ℕ → ℕ → Bool
 any_spans holes began ended = list_any (spans began ended) holes
 
 abbrev pub any_spans_on : ℕ → List Hole → ℕ → ℕ → Bool
-any_spans_on cpu holes began ended = list_any (λ hole. hole.cpu == cpu && spans began ended hole) holes
+any_spans_on cpu holes began ended = list_any (λ hole. is_of cpu hole && spans began ended hole) holes
 
 -- how sure a wait from a place to another is
 abbrev pub doubt : List Hole → Pos → Pos → Doubt
@@ -37,30 +42,20 @@ doubt holes began ended =
     if any_spans_on began.cpu holes began.stamp ended.stamp || any_spans_on ended.cpu holes began.stamp ended.stamp then doubts.Doubtful
     else (if any_spans holes began.stamp ended.stamp then doubts.Likely else doubts.Sure)
 
--- whether it is sure
+-- whether a wait is sure
 abbrev pub is_sure : Doubt → Bool
 is_sure doubts.Sure = true
 is_sure doubts.Likely = false
 is_sure doubts.Doubtful = false
 
--- a wait that ends here, if it began with this
-abbrev pub wait_from : List Hole → Pos → Began → Wait
-wait_from holes ended began = record { began = began; doubt = doubt holes began.place ended }
+-- a sure wait is likely, if its task was left asleep after it began: what woke the task after that is unknown
+abbrev pub lowered : Bool → Doubt → Doubt
+lowered slept known = if slept && is_sure known then doubts.Likely else known
 
--- the sure one of two waits, if the first one isn't sure and the second one is
-abbrev pub surer : Wait → Wait → Wait
-surer first second = if is_sure first.doubt then first else (if is_sure second.doubt then second else first)
+-- the wait that began with this and ended there, by whether its task was left asleep in between
+abbrev pub wait_from : List Hole → Began → Bool → Pos → Wait
+wait_from holes began slept ended = record { began = began; doubt = lowered slept (doubt holes began.place ended) }
 
--- the wait that began with this, or with what woke or created the task: a task whose CPU was taken from it may have run unseen since then, if events were lost; it waited at least since it was woken, if none were lost since
-abbrev pub wait_of_both : List Hole → Pos → Began → Option Began → Wait
-wait_of_both holes ended began None = wait_from holes ended began
-wait_of_both holes ended began (Some later) = surer (wait_from holes ended began) (wait_from holes ended later)
-
--- the wait that a task ends here, if anything made it runnable
-abbrev pub wait_by : List Hole → Pos → Option Began → Option Began → Option Wait
-wait_by holes ended None later = None
-wait_by holes ended (Some began) later = Some (wait_of_both holes ended began later)
-
--- the wait that a dispatch ends
+-- the wait that a dispatch ends, if anything made its task runnable
 abbrev pub wait_of : List Hole → Dispatch → Option Wait
-wait_of holes dispatch = wait_by holes dispatch.place (waiting_since dispatch.since) (awoken dispatch.since)
+wait_of holes dispatch = option_map (λ began. wait_from holes began (is_before_sleep dispatch.since began) dispatch.place) (waiting_since dispatch.since)

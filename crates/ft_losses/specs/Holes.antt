@@ -1,6 +1,6 @@
 -- Where a CPU's events were lost: between two of its events, if a line between them reports it; or before its first event, if only the header says that events were overwritten and another CPU begins earlier. Notes stand newest first.
 use Rattle.std.specs.Prelude.{ℕ, zero, suc, ◌+◌, ◌==◌, ◌&&◌, Bool, true, false, not, min, nat_lt, List, [], ◌∷◌, ◌++◌, length, Option, Some, None, option_map, if◌then◌else◌}
-use Rattle.std.specs.Option.{option_or, is_none}
+use Rattle.std.specs.Option.{option_or, option_and_then, is_none}
 use Rattle.std.specs.List.{flat_map, list_any}
 use Rattle.ft_event.specs.Marks.{last_count}
 use Rattle.ft_event.specs.declared.mark.Mark.{Mark}
@@ -114,7 +114,7 @@ overwritten cpu (note ∷ before) = overwritten_after cpu note (overwritten cpu 
 -- the hole that a CPU's loss makes, after its last event and before its next one
 abbrev pub hole_of : ℕ → Option ℕ → Option ℕ → Option Loss → List Hole
 hole_of cpu after before None = []
-hole_of cpu after before (Some loss) = record { cpu = cpu; line = loss.line; after = after; before = before; count = loss.count } ∷ []
+hole_of cpu after before (Some loss) = record { cpu = Some cpu; line = loss.line; after = after; before = before; count = loss.count } ∷ []
 
 -- the hole that an event ends
 abbrev pub hole_ended_by : Note → List Note → List Hole
@@ -161,7 +161,7 @@ any_earlier firsts stamp = list_any (λ cpu. is_earlier (firsts cpu) stamp) (cpu
 -- the hole before a CPU's first event, by whether another CPU's first event is before a stamp
 abbrev pub late_hole : (ℕ → Bool) → ℕ → ℕ → Option ℕ → List Hole
 late_hole earlier line cpu None = []
-late_hole earlier line cpu (Some first) = if earlier first then (record { cpu = cpu; line = line; after = None; before = Some first; count = None } ∷ []) else []
+late_hole earlier line cpu (Some first) = if earlier first then (record { cpu = Some cpu; line = line; after = None; before = Some first; count = None } ∷ []) else []
 
 -- the holes of all CPUs that begin late, by CPU, with the line that reports them
 abbrev pub all_late : (ℕ → Option ℕ) → ℕ → List Hole
@@ -178,4 +178,4 @@ late_holes notes = late_by (λ cpu. first_stamp cpu notes) (beginning notes).is_
 
 -- the holes: those of CPUs that begin late, by CPU; those that events ended, the first one first; and those that last to the end, by CPU
 abbrev pub holes : List Note → List Hole
-holes notes = flat_map (λ hole. counted_by (overwritten hole.cpu notes) hole) (late_holes notes ++ ended_holes notes ++ open_holes notes)
+holes notes = flat_map (λ hole. counted_by (option_and_then (λ cpu. overwritten cpu notes) hole.cpu) hole) (late_holes notes ++ ended_holes notes ++ open_holes notes)

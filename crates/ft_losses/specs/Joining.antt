@@ -1,7 +1,7 @@
 -- Notes of a part that was read apart, behind the lines before it.
 use Rattle.std.specs.Prelude.{◌≡◌, ◌≤◌, ◌+◌, ℕ, min, Bool, false, List, ◌++◌, length, Option}
 use Rattle.std.specs.List.{list_any}
-use Rattle.std.specs.Option.{option_or, is_some}
+use Rattle.std.specs.Option.{option_or, option_and_then, is_some}
 use Rattle.ft_event.specs.Marks.{last_count}
 use Rattle.ft_losses.specs.Holes.{cpus_below, lost_since}
 use Rattle.ft_losses.specs.Notes.{Note}
@@ -28,7 +28,7 @@ header_behind lines header = record { line = number_behind lines header.line; bu
 
 -- a hole behind so many lines, and behind the last event of each CPU: one that began with the part begins after that
 abbrev pub hole_behind : ℕ → (ℕ → Option ℕ) → Hole → Hole
-hole_behind lines last hole = record { cpu = hole.cpu; line = number_behind lines hole.line; after = option_or hole.after (last hole.cpu); before = hole.before; count = hole.count }
+hole_behind lines last hole = record { cpu = hole.cpu; line = number_behind lines hole.line; after = option_or hole.after (option_and_then last hole.cpu); before = hole.before; count = hole.count }
 
 -- whatever notes are kept, so many, if no hole has begun in them that has not ended, and whatever notes are kept of a part that was read apart: the part's are kept behind those before, if there are no more together than may be counted
 abbrev pub Joins : ℕ → Losses → Losses → Losses → Type 0

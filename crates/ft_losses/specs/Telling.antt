@@ -1,5 +1,5 @@
 -- What is kept of the notes so far, newest first.
-use Rattle.std.specs.Prelude.{◌≡◌, ◌≤◌, ⊤, ℕ, List}
+use Rattle.std.specs.Prelude.{◌≡◌, ◌≤◌, ⊤, ℕ, List, Option, Some, None}
 use Rattle.std.specs.List.{AllByRecursion}
 use Rattle.ft_fields.specs.Traced.{last_cpu}
 use Rattle.ft_losses.specs.Notes.{Note, Passed, Marked, Silent}
@@ -17,6 +17,11 @@ IsOnCpu (Passed event) = event.cpu ≤ last_cpu
 IsOnCpu (Marked mark) = ⊤
 IsOnCpu Silent = ⊤
 
+-- a hole's CPU is known, and one that there can be
+abbrev pub IsCpu : Option ℕ → Type 0
+IsCpu None = ⊥
+IsCpu (Some cpu) = cpu ≤ last_cpu
+
 -- what is kept of each CPU, of the holes that have ended, and of how the buffers begin
 pub record IsKept (lanes : List Lane) (holes : List Hole) (begins : Beginning) (notes : List Note) : Type 0 where
   pub first : (cpu : ℕ) → cpu ≤ last_cpu → (lane_in lanes cpu).first ≡ first_stamp cpu notes
@@ -24,7 +29,7 @@ pub record IsKept (lanes : List Lane) (holes : List Hole) (begins : Beginning) (
   pub lost : (cpu : ℕ) → cpu ≤ last_cpu → (lane_in lanes cpu).lost ≡ lost_since cpu notes
   pub overwritten : (cpu : ℕ) → cpu ≤ last_cpu → (lane_in lanes cpu).overwritten ≡ overwritten cpu notes
   pub ended : holes ≡ ended_holes notes
-  pub within : AllByRecursion (λ hole. hole.cpu ≤ last_cpu) holes
+  pub within : AllByRecursion (λ hole. IsCpu hole.cpu) holes
   pub begun : begins ≡ beginning notes
   pub cpus : AllByRecursion IsOnCpu notes
 

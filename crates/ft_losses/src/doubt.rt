@@ -1,18 +1,18 @@
 //! How sure a wait is.
 
 ghost use Rattle.std.specs.Prelude.{◌≡◌};
-ghost use Rattle.ft_losses.specs.Doubt.{is_sure, surer};
+ghost use Rattle.ft_losses.specs.Doubt.{is_sure, lowered};
 
 use ft_dispatch::Began;
 
-/// How sure a wait is, by the events that were lost in its time.
+/// How sure a wait is, by the events that were lost in its time, and by whether its task was left asleep in it.
 #[derive(Clone, Copy, Debug, PartialEq, Eq)]
 pub enum Doubt {
-    /// No CPU lost events in its time.
+    /// No events were lost in its time, and its task was not left asleep in it.
     Sure,
-    /// The CPUs on which it began and ended lost none.
+    /// The CPUs on which it began and ended lost no events in its time.
     Likely,
-    /// One of these CPUs lost events: the wait may be false.
+    /// One of these CPUs did: the wait may be false.
     Doubtful,
 }
 
@@ -26,7 +26,7 @@ pub struct Wait {
 }
 
 impl Doubt {
-    /// Whether no CPU lost events in the wait's time.
+    /// Whether the wait is sure.
     pub fn is_sure(self) -> bool
         ensures { result ≡ is_sure self }
     {
@@ -35,16 +35,15 @@ impl Doubt {
             Doubt::Likely | Doubt::Doubtful => false,
         }
     }
-}
 
-impl Wait {
-    /// This wait, or another one, if only that one is sure.
-    pub(crate) fn surer(self, other: Wait) -> Wait
-        ensures { result ≡ surer self other }
+    /// The same, but likely in place of sure if the wait's task was left asleep after it began.
+    pub(crate) fn lowered(self, slept: bool) -> Doubt
+        ensures { result ≡ lowered slept self }
     {
-        if self.doubt.is_sure() {
-            return self;
+        if slept && self.is_sure() {
+            Doubt::Likely
+        } else {
+            self
         }
-        if other.doubt.is_sure() { other } else { self }
     }
 }

@@ -2,6 +2,7 @@
 
 ghost use Rattle.std.specs.Prelude.{◌≡◌, ◌++◌, List, OnOk, IfOk, option_map};
 ghost use Rattle.std.specs.List.{flat_map};
+ghost use Rattle.std.specs.Option.{option_and_then};
 ghost use Rattle.ft_losses.specs.Holes.{cpus_below, hole_of, counted_as, counted_by};
 ghost use Rattle.ft_losses.specs.Notes.{Note};
 ghost use Rattle.ft_losses.specs.Telling.{Keeps, AreLosses};
@@ -52,6 +53,16 @@ fn add_counted(holes: &mut Vec<Hole>, hole: &Hole, count: Option<u64>) -> Result
     Ok(())
 }
 
+/// How many events of a hole's CPU were overwritten before the first one.
+fn overwritten_on(lanes: &[Lane], cpu: Option<u16>) -> Option<u64>
+    ensures { result ≡ option_and_then (λ cpu. (lane_in lanes.now cpu).overwritten) cpu }
+{
+    match cpu {
+        Some(cpu) => lane_of(lanes, cpu).overwritten,
+        None => None,
+    }
+}
+
 /// Adds holes, each by how many events of its CPU were overwritten before the first one.
 fn add_all_counted(
     counted: &mut Vec<Hole>,
@@ -59,10 +70,10 @@ fn add_all_counted(
     holes: &[Hole],
 ) -> Result<(), AllocError>
     ensures { OnOk result (counted.new.items ≡ counted.old.items
-        ++ flat_map (λ hole. counted_by (lane_in lanes.now hole.cpu).overwritten hole) holes.now) }
+        ++ flat_map (λ hole. counted_by (option_and_then (λ cpu. (lane_in lanes.now cpu).overwritten) hole.cpu) hole) holes.now) }
 {
     for hole in holes {
-        add_counted(counted, hole, lane_of(lanes, hole.cpu).overwritten)?;
+        add_counted(counted, hole, overwritten_on(lanes, hole.cpu))?;
     }
     Ok(())
 }

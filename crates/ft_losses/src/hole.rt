@@ -3,9 +3,9 @@
 /// A stretch of time in which a CPU's events were lost. Stamps are in microseconds.
 #[derive(Clone, Copy, Debug, PartialEq, Eq)]
 pub struct Hole {
-    /// The CPU.
-    pub cpu: u16,
-    /// The number of the first line that reports the loss, from 1.
+    /// The CPU; `None` if it isn't known.
+    pub cpu: Option<u16>,
+    /// The number of the first line that reports the loss, from 1; 0 if no line does.
     pub line: u64,
     /// The stamp of the CPU's last event before the loss; `None` if it had none.
     pub after: Option<u64>,

@@ -1,7 +1,7 @@
 //! How sure waits are, by an index of the holes.
 
 ghost use Rattle.std.specs.Prelude.{◌≡◌, IfOk};
-ghost use Rattle.ft_losses.specs.Doubt.{any_spans, any_spans_on, doubt, wait_from, wait_of_both, wait_of};
+ghost use Rattle.ft_losses.specs.Doubt.{any_spans, any_spans_on, doubt, wait_from, wait_of};
 
 use crate::doubt::{Doubt, Wait};
 use crate::hole::Hole;
@@ -58,8 +58,9 @@ impl Doubts {
         &self.holes
     }
 
-    /// Whether any hole is in a wait's time, from its beginning to its end in microseconds.
-    fn any_spans(&self, began: u64, ended: u64) -> bool
+    /// Whether any hole is in a time, from its beginning to its end in microseconds: the hole begins before the
+    /// end and ends after the beginning.
+    pub fn any(&self, began: u64, ended: u64) -> bool
         ensures { result ≡ any_spans self.now began ended }
     {
         any_in(&self.rows, None, began, ended)
@@ -79,7 +80,7 @@ impl Doubts {
     {
         let (from, to) = (began.stamp, ended.stamp);
         // Mostly no hole is in a wait's time, and one question shows it.
-        if !self.any_spans(from, to) {
+        if !self.any(from, to) {
             return Doubt::Sure;
         }
         if self.any_spans_on(began.cpu, from, to) {
@@ -92,28 +93,14 @@ impl Doubts {
         }
     }
 
-    /// A wait that ends here, if it began with this.
-    fn wait_from(&self, began: Began, ended: Pos) -> Wait
-        ensures { result ≡ wait_from self.now ended began }
+    /// The wait that began with this and ended there, and how sure it is. `slept` says whether its task was
+    /// left asleep after it began: then the wait is likely at most.
+    pub fn wait(&self, began: Began, slept: bool, ended: Pos) -> Wait
+        ensures { result ≡ wait_from self.now began slept ended }
     {
         Wait {
             began,
-            doubt: self.doubt(began.place, ended),
-        }
-    }
-
-    /// The wait that ends here and began with this; or with what woke or created the task, if only that wait
-    /// is sure.
-    pub fn wait(&self, began: Began, awoken: Option<Began>, ended: Pos) -> Wait
-        ensures { result ≡ wait_of_both self.now ended began awoken }
-    {
-        let wait = self.wait_from(began, ended);
-        if wait.doubt.is_sure() {
-            return wait;
-        }
-        match awoken {
-            Some(later) => wait.surer(self.wait_from(later, ended)),
-            None => wait,
+            doubt: self.doubt(began.place, ended).lowered(slept),
         }
     }
 
@@ -123,7 +110,10 @@ impl Doubts {
         ensures { result ≡ wait_of self.now dispatch.now }
     {
         match dispatch.since.waiting() {
-            Some(began) => Some(self.wait(began, dispatch.since.awoken(), dispatch.place)),
+            Some(began) => {
+                let slept = dispatch.since.is_before_sleep(began);
+                Some(self.wait(began, slept, dispatch.place))
+            }
             None => None,
         }
     }

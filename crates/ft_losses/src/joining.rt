@@ -2,7 +2,7 @@
 
 ghost use Rattle.std.specs.Prelude.{◌≡◌, ◌≤◌, ◌++◌, ◌||◌, ℕ, List, map as list_map, option_map, OnOk, vec_len};
 ghost use Rattle.std.specs.List.{list_any};
-ghost use Rattle.std.specs.Option.{is_some};
+ghost use Rattle.std.specs.Option.{is_some, option_and_then};
 ghost use Rattle.ft_fields.specs.Traced.{last_cpu};
 ghost use Rattle.ft_losses.specs.Holes.{cpus_below};
 ghost use Rattle.ft_losses.specs.Joining.{any_lost, number_behind, loss_behind, header_behind, hole_behind, Joins};
@@ -67,6 +67,16 @@ fn header_behind(lines: u64, header: Option<Header>) -> Option<Header>
     }
 }
 
+/// The stamp of the last event of a hole's CPU.
+fn last_on(lanes: &[Lane], cpu: Option<u16>) -> Option<u64>
+    ensures { result ≡ option_and_then (λ cpu. (lane_in lanes.now cpu).last) cpu }
+{
+    match cpu {
+        Some(cpu) => lane_of(lanes, cpu).last,
+        None => None,
+    }
+}
+
 /// A hole of a part, behind so many lines and the last event of its CPU.
 fn hole_behind(lines: u64, lanes: &[Lane], hole: &Hole) -> Hole
     ensures { result ≡ hole_behind lines (λ cpu. (lane_in lanes.now cpu).last) hole.now }
@@ -74,7 +84,7 @@ fn hole_behind(lines: u64, lanes: &[Lane], hole: &Hole) -> Hole
     Hole {
         cpu: hole.cpu,
         line: number_behind(lines, hole.line),
-        after: hole.after.or(lane_of(lanes, hole.cpu).last),
+        after: hole.after.or(last_on(lanes, hole.cpu)),
         before: hole.before,
         count: hole.count,
     }

@@ -57,7 +57,7 @@ fn add_late_at(
     };
     if is_earlier(least, stamp) {
         holes.push(Hole {
-            cpu,
+            cpu: Some(cpu),
             line,
             after: None,
             before: Some(stamp),

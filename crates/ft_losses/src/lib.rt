@@ -33,11 +33,11 @@
 //!   only for memory. Lets through: running out of memory at any time.
 //! - `Doubts::doubt`: how sure a wait from a place to another is; exact, `doubt`
 //!   (`specs/Doubt.antt`). Any hole in its time makes it likely at most, and one of these on the
-//!   CPU on which it began or ended makes it doubtful.
+//!   CPU on which it began or ended makes it doubtful. A hole of a CPU that isn't known is on none.
+//! - `Doubts::any`: whether any hole is in a time; exact, `any_spans` (`specs/Doubt.antt`).
 //! - `Doubts::wait`, `wait_of`: the wait that a dispatch ends, and how sure it is; exact,
-//!   `wait_of_both` and `wait_of` (`specs/Doubt.antt`). If a task waits since the CPU was taken
-//!   from it, and that wait isn't sure, it counts as waiting since it was woken or created, if that
-//!   wait is sure.
+//!   `wait_from` and `wait_of` (`specs/Doubt.antt`). A wait that would be sure is likely, if its
+//!   task was left asleep after it began: what woke the task after that is unknown.
 //! - `Doubt::is_sure`: exact, `is_sure` (`specs/Doubt.antt`).
 #![tactic(auto)]
 

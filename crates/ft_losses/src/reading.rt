@@ -53,7 +53,7 @@ pub(crate) fn add_hole(
 {
     if let Some(lost) = lane.lost {
         holes.push(Hole {
-            cpu,
+            cpu: Some(cpu),
             line: lost.line,
             after: lane.last,
             before,

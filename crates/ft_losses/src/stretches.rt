@@ -65,12 +65,12 @@ impl Stretch {
     }
 }
 
-/// Adds the stretches of a hole.
+/// Adds the stretches of a hole: one on its CPU, if that is known, and one on any.
 fn add(stretches: &mut Vec<Stretch>, hole: &Hole) -> Result<(), AllocError>
     ensures { OnOk result (stretches.new.items ≡ stretches.old.items ++ stretches_of hole.now) }
 {
     let (after, before) = (hole.after, hole.before);
-    let cpu = Some(hole.cpu);
+    let cpu = hole.cpu;
     stretches.push(Stretch {
         start: Start { cpu, after },
         before,

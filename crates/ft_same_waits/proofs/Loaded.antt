@@ -58,8 +58,8 @@ placed_events (e ∷ before) = (place_after before e, e) ∷ placed_events befor
 acts-placed : (events : List Traced) → acts_of [] events ≡ filter_map placed_act (placed_events events)
 unfolding acts_of placed_events
 acts-placed [] = refl
-acts-placed (e ∷ before) = ap (λ (acts : List (Pos × Act)). act_at (place_after before e) (act_of e.body) ++ acts) (acts-placed before)
-    ∙ elim (act_of e.body) as (λ o. act_at (place_after before e) o ++ filter_map placed_act (placed_events before) ≡ cons_option (option_map (λ act. (place_after before e, act)) o) (filter_map placed_act (placed_events before))) [
+acts-placed (e ∷ before) = ap (λ (acts : List (Pos × Act)). act_at (place_after before e) (act_of e.pid e.body) ++ acts) (acts-placed before)
+    ∙ elim (act_of e.pid e.body) as (λ o. act_at (place_after before e) o ++ filter_map placed_act (placed_events before) ≡ cons_option (option_map (λ act. (place_after before e, act)) o) (filter_map placed_act (placed_events before))) [
       | None ↦ refl
       | Some act ↦ refl
     ]
@@ -233,5 +233,5 @@ pub same_told : (events : List Traced) → dispatches_held (loaded events) ≡ d
 same_told events =
     ap (λ (m : Events). dispatches (reverse (filter_map placed_act (map.entries m)))) (ap merged (loaded-is events) ∙ merged-is events)
     ∙ ap (λ (acts : List (Pos × Act)). dispatches (reverse acts))
-    (seen_in_order pos_cmp pos_cmp_total pos_same (λ (e : Traced). act_of e.body) (placed_events events) (placed-distinct events)
+    (seen_in_order pos_cmp pos_cmp_total pos_same (λ (e : Traced). act_of e.pid e.body) (placed_events events) (placed-distinct events)
     ∙ ap in_order (sym (acts-placed events)))

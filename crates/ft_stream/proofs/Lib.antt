@@ -1,4 +1,5 @@
 mod TellingOn
 mod Leaves
 mod Seams
+mod Stamps
 mod Sums

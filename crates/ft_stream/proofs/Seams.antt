@@ -7,12 +7,8 @@ use Rattle.std.proofs.lemmas.List.Elements.{filter-append}
 use Rattle.std.proofs.lemmas.List.Sums.{sum_by-cons, sum_by-append}
 use Rattle.ft_fields.specs.declared.pos.Pos.{Pos}
 use Rattle.ft_dispatch.specs.Acts.{Act}
-use Rattle.ft_dispatch.specs.Began.{awoken, waiting_by, waiting_since}
-use Rattle.ft_dispatch.specs.Joining.{place_behind, left_behind, dispatch_behind, joined_behind, firsts, others, AreOfTasks}
-use Rattle.ft_dispatch.specs.declared.began.Began.{Began}
+use Rattle.ft_dispatch.specs.Joining.{place_behind, dispatch_behind, joined_behind, firsts, others, AreOfTasks}
 use Rattle.ft_dispatch.specs.declared.dispatch.Dispatch.{Dispatch}
-use Rattle.ft_dispatch.specs.declared.dispatch.Left.{Left}
-use Rattle.ft_dispatch.specs.declared.dispatch.Since.{Since}
 use Rattle.ft_waits.specs.Joining.{behind_text, JoinsTexts}
 use Rattle.ft_waits.specs.Streams.{HasRead, counts_kept}
 use Rattle.ft_waits.specs.declared.stream.Waits.{Waits}
@@ -20,75 +16,24 @@ use Rattle.ft_stream.specs.Joining.{waits_behind, JoinsTold}
 use Rattle.ft_stream.specs.Telling.{ends_wait, waits_of, HasTold, HoldsBack}
 use Rattle.ft_stream.specs.declared.apart.Part.{Part}
 use Rattle.ft_stream.specs.declared.phase.Phase.TheVariants as phases
+use Rattle.ft_stream.proofs.Stamps.{wait-behind}
 
--- ---- whether a dispatch ends a wait does not depend on its places
-
-abbrev since_of : Option Pos → Option Pos → Option Left → Since
-since_of woken created left = record { woken = woken; created = created; left = left }
-
-both-some : (b : Bool) (x y : Began) → is_some (cond b (Some x) (Some y)) ≡ true
-both-some true x y = refl
-both-some false x y = refl
-
-some-awoken : (woken created : Option Pos) (left : Option Left) → is_some (awoken (since_of woken created left)) ≡ (is_some woken || is_some created)
-some-awoken None None left = refl
-some-awoken None (Some created) left = refl
-some-awoken (Some woken) None left = refl
-some-awoken (Some woken) (Some created) left = both-some _ _ _
-
-either-some : (b : Bool) (x : Option Began) (y : Began) → is_some x ≡ true → is_some (cond b x (Some y)) ≡ true
-either-some true x y some = some
-either-some false x y some = refl
-
-or-true : (b : Bool) → (b || true) ≡ true
-or-true true = refl
-or-true false = refl
-
-some-waiting : (place : Pos) (woken created : Option Pos) (left : Option Left) → is_some (waiting_by (Some place) (since_of woken created left)) ≡ true
-some-waiting place woken None left = refl
-some-waiting place woken (Some created) left = either-some _ _ _ (some-awoken woken (Some created) left ∙ or-true (is_some woken))
-
-some-by : (runnable : Bool) (place : Pos) (woken created : Option Pos) (left : Option Left)
-    → is_some (waiting_by (cond runnable (Some place) None) (since_of woken created left)) ≡ (runnable || (is_some woken || is_some created))
-some-by true place woken created left = some-waiting place woken created left
-some-by false place woken created left = some-awoken woken created left
-
--- whether a task was left so that it could still run
-abbrev runs_on : Option Left → Bool
-runs_on None = false
-runs_on (Some left) = left.runnable
-
-some-since : (woken created : Option Pos) (left : Option Left) → is_some (waiting_since (since_of woken created left)) ≡ (runs_on left || (is_some woken || is_some created))
-some-since woken created None = some-awoken woken created None
-some-since woken created (Some left) = some-by left.runnable left.place woken created (Some left)
-
-some-map : (move : Pos → Pos) (place : Option Pos) → is_some (option_map move place) ≡ is_some place
-some-map move None = refl
-some-map move (Some place) = refl
-
-runs-behind : (move : Pos → Pos) (left : Option Left) → runs_on (option_map (left_behind move) left) ≡ runs_on left
-runs-behind move None = refl
-runs-behind move (Some left) = refl
-
-ends-behind : (move : Pos → Pos) (one : Dispatch) → ends_wait (dispatch_behind move one) ≡ ends_wait one
-ends-behind move one =
-    let since = one.since in
-    some-since (option_map move since.woken) (option_map move since.created) (option_map (left_behind move) since.left)
-    ∙ ap (λ b. b || (is_some (option_map move since.woken) || is_some (option_map move since.created))) (runs-behind move since.left)
-    ∙ ap (λ b. runs_on since.left || (b || is_some (option_map move since.created))) (some-map move since.woken)
-    ∙ ap (λ b. runs_on since.left || (is_some since.woken || b)) (some-map move since.created)
-    ∙ sym (some-since since.woken since.created since.left)
+-- ---- waits behind other events
 
 kept-step : (move : Pos → Pos) (ends : Bool) (one : Dispatch) (behind waits : List Dispatch) → behind ≡ list_map (dispatch_behind move) waits
     → cond ends (dispatch_behind move one ∷ behind) behind ≡ list_map (dispatch_behind move) (cond ends (one ∷ waits) waits)
 kept-step move true one behind waits is = ap (λ (ds : List Dispatch). dispatch_behind move one ∷ ds) is
 kept-step move false one behind waits is = is
 
-waits-behind : (move : Pos → Pos) (told : List Dispatch) → waits_of (list_map (dispatch_behind move) told) ≡ list_map (dispatch_behind move) (waits_of told)
-waits-behind move [] = refl
-waits-behind move (one ∷ told) =
-    ap (λ b. cond b (dispatch_behind move one ∷ waits_of (list_map (dispatch_behind move) told)) (waits_of (list_map (dispatch_behind move) told))) (ends-behind move one)
-    ∙ kept-step move (ends_wait one) one (waits_of (list_map (dispatch_behind move) told)) (waits_of told) (waits-behind move told)
+module _ (counts : List ℕ) where
+  abbrev move : Pos → Pos
+  move = place_behind counts
+
+  waits-behind : (told : List Dispatch) → waits_of (list_map (dispatch_behind move) told) ≡ list_map (dispatch_behind move) (waits_of told)
+  waits-behind [] = refl
+  waits-behind (one ∷ told) =
+      ap (λ b. cond b (dispatch_behind move one ∷ waits_of (list_map (dispatch_behind move) told)) (waits_of (list_map (dispatch_behind move) told))) (wait-behind counts one.since)
+      ∙ kept-step move (ends_wait one) one (waits_of (list_map (dispatch_behind move) told)) (waits_of told) (waits-behind told)
 
 -- ---- how many waits there are of a kind
 
@@ -151,7 +96,7 @@ joins-told old new part cleared late ones waits none joins well is tasks moves_f
     let now : waits ≡ waits_of (late ++ firsts behind) =
     is ∙ ap (λ (ds : List Dispatch). waits_of (late ++ ds)) (joined.1 ∙ ap (behind_text (counts_kept old) choice text) back.held.ones ∙ sym (moves_firsts (place_behind (counts_kept old)) _ back.dispatches)) in
     let before : waits_behind (counts_kept old) apart ≡ waits_of (others behind) =
-    ap (list_map (dispatch_behind (place_behind (counts_kept old)))) back.are_waits ∙ sym (waits-behind (place_behind (counts_kept old)) (others back.dispatches))
+    ap (list_map (dispatch_behind (place_behind (counts_kept old)))) back.are_waits ∙ sym (waits-behind (counts_kept old) (others back.dispatches))
     ∙ ap waits_of (sym (moves_others (place_behind (counts_kept old)) _ back.dispatches)) in
     record {
       late = late;

@@ -1,18 +1,15 @@
 -- How sure waits are, as C has them. All of it is our own choice.
-use Rattle.std.specs.Prelude.{ℕ, min, List, Option, Some, None, option_map, ◌==◌, if◌then◌else◌}
+use Rattle.std.specs.Prelude.{ℕ, min, List, Option, Some, None, option_map, ◌==◌, not, if◌then◌else◌}
 use Rattle.std.specs.Option.{option_map_or}
 use Rattle.ft_fields.specs.declared.pos.Pos.{Pos}
 use Rattle.ft_dispatch.specs.declared.began.Began.{Began}
 use Rattle.ft_dispatch.specs.declared.began.Cause.{Cause}
 use Rattle.ft_dispatch.specs.declared.began.Cause.TheVariants as causes
-use Rattle.ft_losses.specs.Doubt.{wait_of_both}
+use Rattle.ft_losses.specs.Doubt.{wait_from}
 use Rattle.ft_losses.specs.declared.doubt.Doubt.{Doubt}
 use Rattle.ft_losses.specs.declared.doubt.Doubt.TheVariants as doubts
-use Rattle.ft_losses.specs.declared.doubt.Wait.{Wait}
 use Rattle.ft_losses.specs.declared.hole.Hole.{Hole}
-use Rattle.ft_layout.specs.Places.{place_layout}
 use Rattle.ft_layout.specs.declared.places.PlaceLayout.{PlaceLayout}
-use Rattle.ft_stream.specs.Layouts.{cause_number}
 use Rattle.ft_stream.specs.declared.layouts.WaitLayout.{WaitLayout}
 
 -- ---- what C has
@@ -41,10 +38,6 @@ doubt_number doubts.Sure = 0
 doubt_number doubts.Likely = 1
 doubt_number doubts.Doubtful = 2
 
--- a wait as it is counted: what it began with, and how sure it is
-abbrev pub with_wait : WaitLayout → Wait → WaitLayout
-with_wait layout wait = record layout { began = place_layout wait.began.place; cause = cause_number wait.began.cause; doubt = doubt_number wait.doubt }
-
--- a wait by the holes of its text; it stays if it began with nothing
+-- a wait by the holes of its text: one after whose beginning its task was left asleep is likely at most. It stays if it began with nothing
 abbrev pub with_doubt : List Hole → WaitLayout → WaitLayout
-with_doubt holes layout = option_map_or (λ began. with_wait layout (wait_of_both holes (pos_of layout.ended) began (began_of layout.awoken_cause layout.awoken))) (began_of layout.cause layout.began) layout
+with_doubt holes layout = option_map_or (λ began. record layout { doubt = doubt_number (wait_from holes began (not (layout.slept == 0)) (pos_of layout.ended)).doubt }) (began_of layout.cause layout.began) layout

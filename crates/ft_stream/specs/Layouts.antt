@@ -1,12 +1,13 @@
 -- Waits, holes and what was read of a text, as C has them. All of it is our own choice.
-use Rattle.std.specs.Prelude.{ℕ, length, Option, Some, None, is_some, unwrap_or}
+use Rattle.std.specs.Prelude.{ℕ, length, Option, Some, None, is_some, unwrap_or, if◌then◌else◌}
 use Rattle.std.specs.Option.{option_map_or}
 use Rattle.ft_event.specs.LineFault.{line_number}
-use Rattle.ft_dispatch.specs.Began.{waiting_since, awoken}
+use Rattle.ft_dispatch.specs.Began.{waiting_since, is_before_sleep}
 use Rattle.ft_dispatch.specs.declared.began.Began.{Began}
 use Rattle.ft_dispatch.specs.declared.began.Cause.{Cause}
 use Rattle.ft_dispatch.specs.declared.began.Cause.TheVariants as causes
 use Rattle.ft_dispatch.specs.declared.dispatch.Dispatch.{Dispatch}
+use Rattle.ft_dispatch.specs.declared.dispatch.Since.{Since}
 use Rattle.ft_layout.specs.Names.{name_layout}
 use Rattle.ft_layout.specs.Places.{place_layout}
 use Rattle.ft_layout.specs.declared.places.PlaceLayout.{PlaceLayout}
@@ -43,37 +44,34 @@ cause_of began = option_map_or (λ b. cause_number b.cause) began 0
 abbrev pub place_of : Option Began → PlaceLayout
 place_of began = option_map_or (λ b. place_layout b.place) began no_place
 
--- what woke or created a task besides, by why it waited: only if the CPU was taken from it
-abbrev pub awoken_besides : Cause → Option Began → Option Began
-awoken_besides causes.Woken awoken = None
-awoken_besides causes.Created awoken = None
-awoken_besides causes.Preempted awoken = awoken
+-- 1 if the task of a wait that began so was left asleep after that, so that it isn't known what woke it then; else 0
+abbrev pub slept_of : Since → Option Began → ℕ
+slept_of since None = 0
+slept_of since (Some began) = if is_before_sleep since began then 1 else 0
 
--- the same of a wait, if there is one
-abbrev pub awoken_in : Option Began → Option Began → Option Began
-awoken_in None awoken = None
-awoken_in (Some began) awoken = awoken_besides began.cause awoken
-
--- a wait, by what it began with and what woke or created the task besides
-abbrev pub wait_from : Dispatch → Option Began → Option Began → WaitLayout
-wait_from dispatch began besides = record {
+-- a wait, by what it began with
+abbrev pub wait_from : Dispatch → Option Began → WaitLayout
+wait_from dispatch began = record {
   ended = place_layout dispatch.place;
   began = place_of began;
-  awoken = place_of besides;
   pid = dispatch.pid;
   prio = dispatch.prio;
   cause = cause_of began;
-  awoken_cause = cause_of besides;
   doubt = 0;
+  slept = slept_of dispatch.since began;
   zero = 0;
   name = name_layout dispatch.name;
 }
 
 -- the wait that a dispatch ends, before anything says how sure it is
 abbrev pub wait_layout : Dispatch → WaitLayout
-wait_layout dispatch = wait_from dispatch (waiting_since dispatch.since) (awoken_in (waiting_since dispatch.since) (awoken dispatch.since))
+wait_layout dispatch = wait_from dispatch (waiting_since dispatch.since)
 
 -- ---- what was read
+
+-- the number of a CPU; 0 if it isn't known
+abbrev pub cpu_of : Option ℕ → ℕ
+cpu_of cpu = unwrap_or cpu 0
 
 -- a hole
 abbrev pub hole_layout : Hole → HoleLayout
@@ -82,10 +80,11 @@ hole_layout hole = record {
   after = unwrap_or hole.after 0;
   before = unwrap_or hole.before 0;
   count = unwrap_or hole.count 0;
-  cpu = hole.cpu;
+  cpu = cpu_of hole.cpu;
   has_after = is_some hole.after;
   has_before = is_some hole.before;
   has_count = is_some hole.count;
+  has_cpu = is_some hole.cpu;
 }
 
 -- how many events were left out
@@ -109,6 +108,7 @@ task_sum_layout sum = record {
 abbrev pub cpu_sum_layout : CpuSum → CpuSumLayout
 cpu_sum_layout sum = record {
   idle = sum.idle;
+  unknown = sum.unknown;
   idle_with_waiters = sum.idle_with_waiters;
   longest = sum.longest;
   longest_from = sum.longest_from;

@@ -1,13 +1,13 @@
 //! How sure waits are, by the holes of their text.
 
 ghost use Rattle.std.specs.Prelude.{◌≡◌, map};
-ghost use Rattle.ft_stream.specs.Doubting.{pos_of, cause_numbered, began_of, doubt_number, with_wait, with_doubt};
+ghost use Rattle.ft_stream.specs.Doubting.{pos_of, cause_numbered, began_of, doubt_number, with_doubt};
 
-use crate::layouts::{WaitLayout, cause_number};
+use crate::layouts::WaitLayout;
 use ft_dispatch::{Began, Cause};
 use ft_fields::Pos;
 use ft_layout::PlaceLayout;
-use ft_losses::{Doubt, Doubts, Wait};
+use ft_losses::{Doubt, Doubts};
 
 /// The largest CPU that a place can have.
 const MOST_CPU: u32 = 65535;
@@ -60,27 +60,18 @@ fn doubt_number(doubt: Doubt) -> u32
 }
 
 impl WaitLayout {
-    /// With what the wait began with, and how sure it is.
-    fn with_wait(self, wait: Wait) -> WaitLayout
-        ensures { result ≡ with_wait self wait }
-    {
-        WaitLayout {
-            began: PlaceLayout::of(&wait.began.place),
-            cause: cause_number(wait.began.cause),
-            doubt: doubt_number(wait.doubt),
-            ..self
-        }
-    }
-
-    /// The wait with how sure it is, by the holes of its text. If only the wait since the task was woken or
-    /// created is sure, it begins with that. Without a cause it stays as it is.
+    /// The wait with how sure it is, by the holes of its text; it is likely at most if its task was left asleep
+    /// after it began. Without a cause it stays as it is.
     fn with_doubt(self, doubts: &Doubts) -> WaitLayout
         ensures { result ≡ with_doubt doubts.now self }
     {
         match began_of(self.cause, &self.began) {
             Some(began) => {
-                let awoken = began_of(self.awoken_cause, &self.awoken);
-                self.with_wait(doubts.wait(began, awoken, pos_of(&self.ended)))
+                let wait = doubts.wait(began, self.slept != 0, pos_of(&self.ended));
+                WaitLayout {
+                    doubt: doubt_number(wait.doubt),
+                    ..self
+                }
             }
             None => self,
         }

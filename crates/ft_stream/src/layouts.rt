@@ -4,10 +4,10 @@ ghost use Rattle.std.specs.Prelude.{◌≡◌, unwrap_or};
 ghost use Rattle.ft_event.specs.LineFault.{line_number};
 ghost use Rattle.std.specs.Option.{option_map_or};
 ghost use Rattle.ft_layout.specs.Places.{place_layout};
-ghost use Rattle.ft_stream.specs.Layouts.{no_place, cause_number, cause_of, place_of, awoken_besides, awoken_in, no_buffers, wait_layout, hole_layout, left_out_layout, read_layout};
+ghost use Rattle.ft_stream.specs.Layouts.{no_place, cause_number, cause_of, place_of, slept_of, no_buffers, wait_layout, cpu_of, hole_layout, left_out_layout, read_layout};
 
 use crate::phase::Finished;
-use ft_dispatch::{Began, Cause, Dispatch};
+use ft_dispatch::{Began, Cause, Dispatch, Since};
 use ft_fields::Pos;
 use ft_layout::{NameLayout, PlaceLayout};
 use ft_losses::{Buffers, Hole};
@@ -21,29 +21,27 @@ pub struct WaitLayout {
     pub ended: PlaceLayout,
     /// The place of the event that the wait began with.
     pub began: PlaceLayout,
-    /// The place of the event that woke or created the task besides; all zero if there is none.
-    pub awoken: PlaceLayout,
     /// The task's PID.
     pub pid: i32,
     /// The priority with which it runs.
     pub prio: i32,
     /// Why it waited: 1 it was woken, 2 it was created, 3 the CPU was taken from it.
     pub cause: u32,
-    /// 0; or if the CPU was taken from it, and it was woken or created besides, 1 or 2.
-    pub awoken_cause: u32,
     /// How sure the wait is: 0 sure, 1 likely, 2 doubtful.
     pub doubt: u32,
+    /// 1 if the task was left asleep after the wait began, so that it isn't known what woke it then; else 0.
+    pub slept: u32,
     /// 0.
     pub zero: u32,
     /// The task's name.
     pub name: NameLayout,
 }
 
-/// A stretch of time in which a CPU's events were lost. What isn't there is 0.
+/// A stretch of time in which a CPU's events were lost. What isn't there or isn't known is 0.
 #[repr(C)]
 #[derive(Clone, Copy, Debug, PartialEq, Eq)]
 pub struct HoleLayout {
-    /// The first line that reports it, from 1.
+    /// The first line that reports it, from 1; 0 if no line does.
     pub line: u64,
     /// The stamp of the CPU's last event before it.
     pub after: u64,
@@ -59,6 +57,8 @@ pub struct HoleLayout {
     pub has_before: bool,
     /// Whether a line reports how many events were lost.
     pub has_count: bool,
+    /// Whether the CPU is known.
+    pub has_cpu: bool,
 }
 
 /// How many events were left out of a text.
@@ -103,6 +103,16 @@ pub struct ReadLayout {
     pub has_written: bool,
 }
 
+/// The number of a CPU; 0 if it isn't known.
+fn cpu_of(cpu: Option<u16>) -> u32
+    ensures { result ≡ cpu_of cpu }
+{
+    match cpu {
+        Some(cpu) => u32::from(cpu),
+        None => 0,
+    }
+}
+
 impl HoleLayout {
     /// The hole as C has it.
     pub fn of(hole: &Hole) -> HoleLayout
@@ -113,10 +123,11 @@ impl HoleLayout {
             after: hole.after.unwrap_or(0),
             before: hole.before.unwrap_or(0),
             count: hole.count.unwrap_or(0),
-            cpu: u32::from(hole.cpu),
+            cpu: cpu_of(hole.cpu),
             has_after: hole.after.is_some(),
             has_before: hole.before.is_some(),
             has_count: hole.count.is_some(),
+            has_cpu: hole.cpu.is_some(),
         }
     }
 }
@@ -155,7 +166,7 @@ fn place_or_none(place: Option<Pos>) -> PlaceLayout
 }
 
 /// The number of a cause.
-pub(crate) fn cause_number(cause: Cause) -> u32
+fn cause_number(cause: Cause) -> u32
     ensures { result ≡ cause_number cause }
 {
     match cause {
@@ -185,18 +196,13 @@ fn place_of(began: Option<Began>) -> PlaceLayout
     }
 }
 
-/// What woke or created a task besides what its wait began with: only if the CPU was taken from it.
-fn awoken_in(began: Option<Began>, awoken: Option<Began>) -> Option<Began>
-    ensures { result ≡ awoken_in began awoken }
+/// 1 if the task of a wait that began so was left asleep after that; else 0.
+fn slept_of(since: &Since, began: Option<Began>) -> u32
+    ensures { result ≡ slept_of since.now began }
 {
     match began {
-        Some(
-            Began {
-                cause: Cause::Preempted,
-                place: _,
-            },
-        ) => awoken,
-        _ => None,
+        Some(began) => u32::from(since.is_before_sleep(began)),
+        None => 0,
     }
 }
 
@@ -206,16 +212,14 @@ impl WaitLayout {
         ensures { result ≡ wait_layout dispatch.now }
     {
         let began = dispatch.since.waiting();
-        let besides = awoken_in(began, dispatch.since.awoken());
         WaitLayout {
             ended: PlaceLayout::of(&dispatch.place),
             began: place_of(began),
-            awoken: place_of(besides),
             pid: dispatch.pid,
             prio: dispatch.prio,
             cause: cause_of(began),
-            awoken_cause: cause_of(besides),
             doubt: 0,
+            slept: slept_of(&dispatch.since, began),
             zero: 0,
             name: NameLayout::of(&dispatch.name),
         }

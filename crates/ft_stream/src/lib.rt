@@ -55,8 +55,8 @@
 //! - `Stream::sum_up`: the text is summed up by task and by CPU as well (`specs/Summing.antt`), as
 //!   `ft_summary` sums up; if it is refused, the stream is as before. `Phase::tasks`, `cpus`: these sums,
 //!   once the text has ended.
-//! - `Stream::doubt`: how sure waits of a text that has ended are, by its holes; exact, `with_doubt`
-//!   (`specs/Doubting.antt`), over `wait_of_both` of `ft_losses`.
+//! - `Stream::doubt`: how sure waits of a text that has ended are, by its holes, and by whether their tasks were
+//!   left asleep after they began; exact, `with_doubt` (`specs/Doubting.antt`), over `wait_from` of `ft_losses`.
 //! - `Stream::hold`: the waits of held events, by `ft_held_waits`.
 //! - `WaitLayout::of` and the other layouts: each struct is a function of what it shows
 //!   (`specs/Layouts.antt`). `copy_waits`, `copy_holes`, `copy_left_out`, `copy_tasks`, `copy_cpus`, `copy_numbers`: a

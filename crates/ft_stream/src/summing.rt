@@ -41,7 +41,9 @@ pub struct TaskSumLayout {
 pub struct CpuSumLayout {
     /// How long it ran task 0, in microseconds.
     pub idle: u64,
-    /// For how much of that time some task waited for a processor.
+    /// For how long, between two of its switches, it isn't known what it ran.
+    pub unknown: u64,
+    /// For how much of the time of task 0 some task waited for a processor.
     pub idle_with_waiters: u64,
     /// The most of that in one run of task 0.
     pub longest: u64,
@@ -78,6 +80,7 @@ impl CpuSumLayout {
     {
         CpuSumLayout {
             idle: sum.idle,
+            unknown: sum.unknown,
             idle_with_waiters: sum.idle_with_waiters,
             longest: sum.longest,
             longest_from: sum.longest_from,

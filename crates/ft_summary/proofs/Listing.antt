@@ -14,7 +14,7 @@ use Rattle.std.specs.FinMap.{FinMap, IsAntisymmetric, find, put, entries-insert,
 use Rattle.std.specs.FinMap.Entries.{by_order}
 use Rattle.std.proofs.Common.{ap, cond, refl, sym, ◌∙◌}
 use Rattle.ft_fields.specs.declared.pos.Pos.{Pos}
-use Rattle.ft_dispatch.specs.Acts.{Act, Waking, Creation, Switch, Handover}
+use Rattle.ft_dispatch.specs.Acts.{Act, Waking, Creation, Wakeup, Switch, Handover}
 use Rattle.ft_maps.specs.Entries.{entries-empty}
 use Rattle.ft_maps.specs.Mapped.{entries_by, entries-map_by, get-map_by, map_by}
 use Rattle.ft_maps.specs.Seen.{entries-seen, get-seen, seen}
@@ -136,8 +136,9 @@ switch-or false one last = refl
 pub named-cpu : (q : ℕ) (acts : List Entry) → is_some (last_switch q acts) ≡ list_any (λ named. nat_eq named q) (cpus_of acts)
 unfolding last_switch cpus_of
 named-cpu q [] = refl
-named-cpu q ((place, Waking woken) ∷ before) = named-cpu q before
-named-cpu q ((place, Creation created) ∷ before) = named-cpu q before
+named-cpu q ((place, Waking by woken) ∷ before) = named-cpu q before
+named-cpu q ((place, Creation by created) ∷ before) = named-cpu q before
+named-cpu q ((place, Wakeup by woken) ∷ before) = named-cpu q before
 named-cpu q ((place, Switch turn) ∷ before) = switch-or (nat_eq place.cpu q) (place, turn) (last_switch q before) ∙ ap (λ b. nat_eq place.cpu q || b) (named-cpu q before)
 
 summed-cpu : (q : ℕ) (acts : List Entry) (last : Option (Pos × Handover)) → option_map (λ cpu. cpu.sum) (option_map (cpu_since q acts) last) ≡ cond (is_some last) (Some (cpu_sum q acts)) None

@@ -4,7 +4,7 @@ use Rattle.std.specs.Option.{option_map_or, option_or}
 use Rattle.std.proofs.Common.{ap, arith, cond, refl, sym, ◌∙◌}
 use Rattle.std.proofs.lemmas.Bool.{eq-eqb, eqb-false, le-ltb, ltb-false, ltb-true, ne_eqb}
 use Rattle.ft_fields.specs.declared.pos.Pos.{Pos}
-use Rattle.ft_dispatch.specs.Acts.{Act, Waking, Creation, Switch}
+use Rattle.ft_dispatch.specs.Acts.{Act, Waking, Creation, Wakeup, Switch}
 use Rattle.ft_summary.specs.Figures.{ends_idling, first_idle_begun, idle_begun, idle_from, idled_with_waiters, waited_in_run}
 use Rattle.ft_summary.specs.Runs.{last_switch, most, run_begun, total}
 
@@ -66,8 +66,9 @@ begun-known false begun place before h = absurd (not-above 0 refl h)
 
 -- it is known where a run began in which some task waited
 waited-begun : (cpu : ℕ) (place : Pos) (act : Act) (before : List Entry) → 0 < idled_with_waiters cpu place act before → is_some (idle_begun cpu place act before) ≡ true
-waited-begun cpu place (Waking woken) before h = absurd (not-above 0 refl h)
-waited-begun cpu place (Creation created) before h = absurd (not-above 0 refl h)
+waited-begun cpu place (Waking by woken) before h = absurd (not-above 0 refl h)
+waited-begun cpu place (Creation by created) before h = absurd (not-above 0 refl h)
+waited-begun cpu place (Wakeup by woken) before h = absurd (not-above 0 refl h)
 waited-begun cpu place (Switch turn) before h = begun-known (ends_idling cpu place turn) (run_begun turn.prev_pid (last_switch place.cpu before)) place before h
 
 found-first : (b : Bool) (first begun : Option Pos) → is_some first ≡ true → is_some (option_or first (cond b begun None)) ≡ true

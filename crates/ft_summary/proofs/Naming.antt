@@ -5,7 +5,7 @@ use Rattle.std.specs.Option.{unwrap_or}
 use Rattle.std.specs.Ordering.{int_eq}
 use Rattle.std.proofs.Common.{ap, cond, refl, sym, ◌∙◌}
 use Rattle.ft_fields.specs.declared.pos.Pos.{Pos}
-use Rattle.ft_dispatch.specs.Acts.{Act, Waking, Creation, Switch, Handover}
+use Rattle.ft_dispatch.specs.Acts.{Act, Waking, Creation, Wakeup, Switch, Handover}
 use Rattle.ft_summary.specs.Figures.{last_cpu, task_sum}
 use Rattle.ft_summary.specs.Runs.{total}
 use Rattle.ft_summary.specs.Telling.{is_named, standing, standing_if_named}
@@ -14,7 +14,7 @@ use Rattle.ft_summary.specs.inner.Changes.{awoken_now, changed, changed_in, none
 use Rattle.ft_summary.specs.declared.standing.Change.{Change}
 use Rattle.ft_summary.specs.declared.standing.Change.TheVariants as changes
 use Rattle.ft_summary.specs.declared.standing.Standing.{Standing}
-use Rattle.ft_summary.proofs.Summing.{created-step, leaving, left_and_run, turned-step, woken-step}
+use Rattle.ft_summary.proofs.Summing.{created-step, leaving, left_and_run, roused-step, turned-step, woken-step}
 use Rattle.ft_summary.proofs.Written.{pick, same-pid}
 
 abbrev Entry : Type 0
@@ -63,13 +63,18 @@ named-first pid q xs rest =
     ap (list_any (λ named. int_eq named q)) (append-cond (is_counted pid) pid (filter is_counted xs) rest)
     ∙ named-one (is_counted pid) pid q (filter is_counted xs ++ rest)
 
-pub named-woken : (place : Pos) (woken q : ℤ) (before : List Entry) → is_named q ((place, Waking woken) ∷ before) ≡ (touched woken q || is_named q before)
+pub named-woken : (place : Pos) (by woken q : ℤ) (before : List Entry) → is_named q ((place, Waking by woken) ∷ before) ≡ (touched woken q || is_named q before)
 unfolding tasks_of
-named-woken place woken q before = named-first woken q [] (tasks_of before)
+named-woken place by woken q before = named-first woken q [] (tasks_of before)
 
-pub named-created : (place : Pos) (created q : ℤ) (before : List Entry) → is_named q ((place, Creation created) ∷ before) ≡ (touched created q || is_named q before)
+pub named-created : (place : Pos) (by created q : ℤ) (before : List Entry) → is_named q ((place, Creation by created) ∷ before) ≡ (touched created q || is_named q before)
 unfolding tasks_of
-named-created place created q before = named-first created q [] (tasks_of before)
+named-created place by created q before = named-first created q [] (tasks_of before)
+
+-- the end of a waking names none
+pub named-roused : (place : Pos) (by woken q : ℤ) (before : List Entry) → is_named q ((place, Wakeup by woken) ∷ before) ≡ is_named q before
+unfolding tasks_of
+named-roused place by woken q before = refl
 
 pub named-turned : (place : Pos) (turn : Handover) (q : ℤ) (before : List Entry) → is_named q ((place, Switch turn) ∷ before) ≡ (touched turn.next_pid q || (touched turn.prev_pid q || is_named q before))
 unfolding tasks_of
@@ -84,10 +89,11 @@ touched-counted pid q h = sym (ap is_counted (same-pid pid q (and-second (is_cou
 pub named-counted : (q : ℤ) (acts : List Entry) → is_named q acts ≡ true → is_counted q ≡ true
 unfolding tasks_of
 named-counted q [] h = cc
-named-counted q ((place, Waking woken) ∷ before) h =
-    either-one (touched woken q) (is_named q before) (sym (named-woken place woken q before) ∙ h) (touched-counted woken q) (named-counted q before)
-named-counted q ((place, Creation created) ∷ before) h =
-    either-one (touched created q) (is_named q before) (sym (named-created place created q before) ∙ h) (touched-counted created q) (named-counted q before)
+named-counted q ((place, Waking by woken) ∷ before) h =
+    either-one (touched woken q) (is_named q before) (sym (named-woken place by woken q before) ∙ h) (touched-counted woken q) (named-counted q before)
+named-counted q ((place, Creation by created) ∷ before) h =
+    either-one (touched created q) (is_named q before) (sym (named-created place by created q before) ∙ h) (touched-counted created q) (named-counted q before)
+named-counted q ((place, Wakeup by woken) ∷ before) h = named-counted q before (sym (named-roused place by woken q before) ∙ h)
 named-counted q ((place, Switch turn) ∷ before) h =
     either-one (touched turn.next_pid q) (touched turn.prev_pid q || is_named q before) (sym (named-turned place turn q before) ∙ h) (touched-counted turn.next_pid q)
     (λ k. either-one (touched turn.prev_pid q) (is_named q before) k (touched-counted turn.prev_pid q) (named-counted q before))
@@ -113,14 +119,16 @@ none-turned b d pid place turn before s n p q e = ap (λ x. left_and_run x d (le
 pub unnamed : (q : ℤ) (acts : List Entry) → is_counted q ≡ true → is_named q acts ≡ false → standing q acts ≡ none q
 unfolding standing task_sum total last_cpu is_running is_runnable tasks_of
 unnamed q [] counted h = refl
-unnamed q ((place, Waking woken) ∷ before) counted h =
-    let k = sym (named-woken place woken q before) ∙ h in
-    woken-step q place woken before
+unnamed q ((place, Waking by woken) ∷ before) counted h =
+    let k = sym (named-woken place by woken q before) ∙ h in
+    woken-step q place by woken before
     ∙ none-woken (int_eq woken q) (standing q before) (none q) (sym (touched-is woken q counted) ∙ or-left (touched woken q) (is_named q before) k) (unnamed q before counted (or-right (touched woken q) (is_named q before) k))
-unnamed q ((place, Creation created) ∷ before) counted h =
-    let k = sym (named-created place created q before) ∙ h in
-    created-step q place created before
+unnamed q ((place, Creation by created) ∷ before) counted h =
+    let k = sym (named-created place by created q before) ∙ h in
+    created-step q place by created before
     ∙ none-woken (int_eq created q) (standing q before) (none q) (sym (touched-is created q counted) ∙ or-left (touched created q) (is_named q before) k) (unnamed q before counted (or-right (touched created q) (is_named q before) k))
+unnamed q ((place, Wakeup by woken) ∷ before) counted h =
+    roused-step q place by woken before ∙ unnamed q before counted (sym (named-roused place by woken q before) ∙ h)
 unnamed q ((place, Switch turn) ∷ before) counted h =
     let k = sym (named-turned place turn q before) ∙ h in
     let l = or-right (touched turn.next_pid q) (touched turn.prev_pid q || is_named q before) k in
@@ -176,21 +184,28 @@ told-stands tasks named f acts stands same is q =
 
 -- ---- one act more
 
-pub told-woken : (tasks new : ℤ → Option Standing) (place : Pos) (woken : ℤ) (before : List Entry) → ((q : ℤ) → tasks q ≡ standing_if_named q before) → ((q : ℤ) → new q ≡ changed_in tasks changes.Awoken woken q)
-    → (q : ℤ) → new q ≡ standing_if_named q ((place, Waking woken) ∷ before)
-told-woken tasks new place woken before h is =
-    told-stands new (λ q. touched woken q || is_named q before) (λ q. cond (touched woken q) (awoken_now (standing q before)) (standing q before)) ((place, Waking woken) ∷ before)
+pub told-woken : (tasks new : ℤ → Option Standing) (place : Pos) (by woken : ℤ) (before : List Entry) → ((q : ℤ) → tasks q ≡ standing_if_named q before) → ((q : ℤ) → new q ≡ changed_in tasks changes.Awoken woken q)
+    → (q : ℤ) → new q ≡ standing_if_named q ((place, Waking by woken) ∷ before)
+told-woken tasks new place by woken before h is =
+    told-stands new (λ q. touched woken q || is_named q before) (λ q. cond (touched woken q) (awoken_now (standing q before)) (standing q before)) ((place, Waking by woken) ∷ before)
     (stands-changed tasks new (λ q. is_named q before) (λ q. standing q before) changes.Awoken woken (stands-told tasks before h) is)
-    (λ q. named-woken place woken q before)
-    (λ q counted. ap (λ b. cond b (awoken_now (standing q before)) (standing q before)) (touched-is woken q counted) ∙ sym (woken-step q place woken before))
+    (λ q. named-woken place by woken q before)
+    (λ q counted. ap (λ b. cond b (awoken_now (standing q before)) (standing q before)) (touched-is woken q counted) ∙ sym (woken-step q place by woken before))
 
-pub told-created : (tasks new : ℤ → Option Standing) (place : Pos) (created : ℤ) (before : List Entry) → ((q : ℤ) → tasks q ≡ standing_if_named q before) → ((q : ℤ) → new q ≡ changed_in tasks changes.Awoken created q)
-    → (q : ℤ) → new q ≡ standing_if_named q ((place, Creation created) ∷ before)
-told-created tasks new place created before h is =
-    told-stands new (λ q. touched created q || is_named q before) (λ q. cond (touched created q) (awoken_now (standing q before)) (standing q before)) ((place, Creation created) ∷ before)
+pub told-created : (tasks new : ℤ → Option Standing) (place : Pos) (by created : ℤ) (before : List Entry) → ((q : ℤ) → tasks q ≡ standing_if_named q before) → ((q : ℤ) → new q ≡ changed_in tasks changes.Awoken created q)
+    → (q : ℤ) → new q ≡ standing_if_named q ((place, Creation by created) ∷ before)
+told-created tasks new place by created before h is =
+    told-stands new (λ q. touched created q || is_named q before) (λ q. cond (touched created q) (awoken_now (standing q before)) (standing q before)) ((place, Creation by created) ∷ before)
     (stands-changed tasks new (λ q. is_named q before) (λ q. standing q before) changes.Awoken created (stands-told tasks before h) is)
-    (λ q. named-created place created q before)
-    (λ q counted. ap (λ b. cond b (awoken_now (standing q before)) (standing q before)) (touched-is created q counted) ∙ sym (created-step q place created before))
+    (λ q. named-created place by created q before)
+    (λ q counted. ap (λ b. cond b (awoken_now (standing q before)) (standing q before)) (touched-is created q counted) ∙ sym (created-step q place by created before))
+
+-- the end of a waking changes none
+pub told-roused : (tasks : ℤ → Option Standing) (place : Pos) (by woken : ℤ) (before : List Entry) → ((q : ℤ) → tasks q ≡ standing_if_named q before)
+    → (q : ℤ) → tasks q ≡ standing_if_named q ((place, Wakeup by woken) ∷ before)
+told-roused tasks place by woken before h q =
+    h q ∙ ap (λ b. cond b (Some (standing q before)) None) (sym (named-roused place by woken q before))
+    ∙ ap (λ (s : Standing). cond (is_named q ((place, Wakeup by woken) ∷ before)) (Some s) None) (sym (roused-step q place by woken before))
 
 -- a switch leaves one, and runs one
 pub told-turned : (tasks mid new : ℤ → Option Standing) (place : Pos) (turn : Handover) (before : List Entry) → ((q : ℤ) → tasks q ≡ standing_if_named q before)

@@ -4,7 +4,7 @@ use Rattle.std.specs.Cmp.{nat_eq_equiv}
 use Rattle.std.specs.Ordering.{int_eq}
 use Rattle.std.proofs.Common.{ap, arith, cond, refl, sym, ◌∙◌}
 use Rattle.ft_fields.specs.declared.pos.Pos.{Pos}
-use Rattle.ft_dispatch.specs.Acts.{Act, Waking, Creation, Switch, Handover, can_run}
+use Rattle.ft_dispatch.specs.Acts.{Act, Waking, Creation, Wakeup, Switch, Handover, can_run}
 use Rattle.ft_dispatch.specs.declared.act.PrevState.{PrevState}
 use Rattle.ft_summary.specs.Figures.{is_another, is_asleep, is_blocked, last_cpu, left_for_another, moved_to, ran_for, switched_to, task_sum}
 use Rattle.ft_summary.specs.Runs.{capped, one_if, run_ended, total}
@@ -46,19 +46,26 @@ or-none : (b x : Bool) → cond (b || false) true x ≡ cond b true x
 or-none true x = refl
 or-none false x = refl
 
-pub woken-step : (pid : ℤ) (place : Pos) (woken : ℤ) (before : List Entry) → standing pid ((place, Waking woken) ∷ before) ≡ cond (int_eq woken pid) (awoken_now (standing pid before)) (standing pid before)
+pub woken-step : (pid : ℤ) (place : Pos) (by woken : ℤ) (before : List Entry) → standing pid ((place, Waking by woken) ∷ before) ≡ cond (int_eq woken pid) (awoken_now (standing pid before)) (standing pid before)
 unfolding standing task_sum total last_cpu is_running is_runnable
-woken-step pid place woken before =
-    awoken-step (int_eq woken pid) (standing pid before) (task_sum pid ((place, Waking woken) ∷ before)) _
+woken-step pid place by woken before =
+    awoken-step (int_eq woken pid) (standing pid before) (task_sum pid ((place, Waking by woken) ∷ before)) _
     (sums pid (capped-none _) (capped-none _) (capped-none _) (capped-none _) (capped-none _) (capped-none _))
     (or-none (int_eq woken pid) (is_runnable pid before))
 
-pub created-step : (pid : ℤ) (place : Pos) (created : ℤ) (before : List Entry) → standing pid ((place, Creation created) ∷ before) ≡ cond (int_eq created pid) (awoken_now (standing pid before)) (standing pid before)
+pub created-step : (pid : ℤ) (place : Pos) (by created : ℤ) (before : List Entry) → standing pid ((place, Creation by created) ∷ before) ≡ cond (int_eq created pid) (awoken_now (standing pid before)) (standing pid before)
 unfolding standing task_sum total last_cpu is_running is_runnable
-created-step pid place created before =
-    awoken-step (int_eq created pid) (standing pid before) (task_sum pid ((place, Creation created) ∷ before)) _
+created-step pid place by created before =
+    awoken-step (int_eq created pid) (standing pid before) (task_sum pid ((place, Creation by created) ∷ before)) _
     (sums pid (capped-none _) (capped-none _) (capped-none _) (capped-none _) (capped-none _) (capped-none _))
     refl
+
+-- the end of a waking changes nothing
+pub roused-step : (pid : ℤ) (place : Pos) (by woken : ℤ) (before : List Entry) → standing pid ((place, Wakeup by woken) ∷ before) ≡ standing pid before
+unfolding standing task_sum total last_cpu is_running is_runnable
+roused-step pid place by woken before =
+    ap (λ x. stands x (last_cpu pid before) (is_running pid before) (is_runnable pid before))
+    (sums pid (capped-none _) (capped-none _) (capped-none _) (capped-none _) (capped-none _) (capped-none _))
 
 same-cpu : (cpu : ℕ) → nat_eq cpu cpu ≡ true
 same-cpu cpu = nat_eq_equiv.refl cpu

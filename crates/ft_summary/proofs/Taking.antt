@@ -10,7 +10,7 @@ use Rattle.std.proofs.Common.{ap, arith, cond, get_or, refl, subst, sym, ◌∙�
 use Rattle.std.proofs.lemmas.Bool.Decides.{nat_tests}
 use Rattle.std.proofs.lemmas.List.{take_more, reverse-append, map-append}
 use Rattle.ft_fields.specs.declared.pos.Pos.{Pos}
-use Rattle.ft_dispatch.specs.Acts.{Act, Waking, Creation, Switch, Handover}
+use Rattle.ft_dispatch.specs.Acts.{Act, Waking, Creation, Wakeup, Switch, Handover}
 use Rattle.ft_dispatch.specs.Telling.{entries_of, entry_of, handover_of}
 use Rattle.ft_dispatch.specs.declared.act.PlacedAct.{PlacedAct}
 use Rattle.ft_summary.specs.Runs.{last_switch, run_begun, run_ended, lasted, total}
@@ -23,8 +23,8 @@ use Rattle.ft_summary.specs.declared.standing.Change.TheVariants as changes
 use Rattle.ft_summary.specs.declared.standing.Standing.{Standing}
 use Rattle.ft_summary.specs.declared.summary.Summary.{Summary}
 use Rattle.ft_summary.proofs.Anyone.{none-left, some-counted}
-use Rattle.ft_summary.proofs.Naming.{told-created, told-turned, told-woken}
-use Rattle.ft_summary.proofs.Turning.{cpu-created, cpu-turned, cpu-woken}
+use Rattle.ft_summary.proofs.Naming.{told-created, told-roused, told-turned, told-woken}
+use Rattle.ft_summary.proofs.Turning.{cpu-created, cpu-roused, cpu-turned, cpu-woken}
 
 abbrev Entry : Type 0
 Entry = Pos × Act
@@ -65,32 +65,46 @@ waited-more old before clock place tells goes =
 
 -- ---- acts
 
-pub tells-woken : (old new : Summary) (place : Pos) (woken : ℤ) (before : List Entry) → Tells old before → GoesOn old.clock new.clock place (nat_lt 0 old.waiting)
+pub tells-woken : (old new : Summary) (place : Pos) (by woken : ℤ) (before : List Entry) → Tells old before → GoesOn old.clock new.clock place (nat_lt 0 old.waiting)
     → ((q : ℤ) → found_task new.tasks q ≡ changed_in (found_task old.tasks) changes.Awoken woken q) → (old.waiting ≡ number_waiting old.tasks → new.waiting ≡ number_waiting new.tasks)
-    → (IsOrdered task_cmp old.tasks → IsOrdered task_cmp new.tasks) → new.cpus ≡ old.cpus → Tells new ((place, Waking woken) ∷ before)
+    → (IsOrdered task_cmp old.tasks → IsOrdered task_cmp new.tasks) → new.cpus ≡ old.cpus → Tells new ((place, Waking by woken) ∷ before)
 unfolding latest total
-tells-woken old new place woken before tells goes finds counts ordered same = record {
+tells-woken old new place by woken before tells goes finds counts ordered same = record {
   latest = goes.latest ∙ ap (λ l. max l place.stamp) tells.latest;
   waited = waited-more old before new.clock place tells goes;
-  tasks = told-woken (found_task old.tasks) (found_task new.tasks) place woken before tells.tasks finds;
+  tasks = told-woken (found_task old.tasks) (found_task new.tasks) place by woken before tells.tasks finds;
   waiting = counts tells.waiting;
-  cpus = λ cpu. ap (λ m. found_cpu m cpu) same ∙ tells.cpus cpu ∙ sym (cpu-woken cpu place woken before);
+  cpus = λ cpu. ap (λ m. found_cpu m cpu) same ∙ tells.cpus cpu ∙ sym (cpu-woken cpu place by woken before);
   tasks_ascend = ordered tells.tasks_ascend;
   cpus_ascend = subst (IsOrdered nat_cmp) (sym same) tells.cpus_ascend;
 }
 
-pub tells-created : (old new : Summary) (place : Pos) (created : ℤ) (before : List Entry) → Tells old before → GoesOn old.clock new.clock place (nat_lt 0 old.waiting)
+pub tells-created : (old new : Summary) (place : Pos) (by created : ℤ) (before : List Entry) → Tells old before → GoesOn old.clock new.clock place (nat_lt 0 old.waiting)
     → ((q : ℤ) → found_task new.tasks q ≡ changed_in (found_task old.tasks) changes.Awoken created q) → (old.waiting ≡ number_waiting old.tasks → new.waiting ≡ number_waiting new.tasks)
-    → (IsOrdered task_cmp old.tasks → IsOrdered task_cmp new.tasks) → new.cpus ≡ old.cpus → Tells new ((place, Creation created) ∷ before)
+    → (IsOrdered task_cmp old.tasks → IsOrdered task_cmp new.tasks) → new.cpus ≡ old.cpus → Tells new ((place, Creation by created) ∷ before)
 unfolding latest total
-tells-created old new place created before tells goes finds counts ordered same = record {
+tells-created old new place by created before tells goes finds counts ordered same = record {
   latest = goes.latest ∙ ap (λ l. max l place.stamp) tells.latest;
   waited = waited-more old before new.clock place tells goes;
-  tasks = told-created (found_task old.tasks) (found_task new.tasks) place created before tells.tasks finds;
+  tasks = told-created (found_task old.tasks) (found_task new.tasks) place by created before tells.tasks finds;
   waiting = counts tells.waiting;
-  cpus = λ cpu. ap (λ m. found_cpu m cpu) same ∙ tells.cpus cpu ∙ sym (cpu-created cpu place created before);
+  cpus = λ cpu. ap (λ m. found_cpu m cpu) same ∙ tells.cpus cpu ∙ sym (cpu-created cpu place by created before);
   tasks_ascend = ordered tells.tasks_ascend;
   cpus_ascend = subst (IsOrdered nat_cmp) (sym same) tells.cpus_ascend;
+}
+
+-- the end of a waking changes only the time
+pub tells-roused : (old new : Summary) (place : Pos) (by woken : ℤ) (before : List Entry) → Tells old before → GoesOn old.clock new.clock place (nat_lt 0 old.waiting)
+    → new.tasks ≡ old.tasks → new.waiting ≡ old.waiting → new.cpus ≡ old.cpus → Tells new ((place, Wakeup by woken) ∷ before)
+unfolding latest total
+tells-roused old new place by woken before tells goes tasks waiting cpus = record {
+  latest = goes.latest ∙ ap (λ l. max l place.stamp) tells.latest;
+  waited = waited-more old before new.clock place tells goes;
+  tasks = λ q. ap (λ m. found_task m q) tasks ∙ told-roused (found_task old.tasks) place by woken before tells.tasks q;
+  waiting = waiting ∙ tells.waiting ∙ ap number_waiting (sym tasks);
+  cpus = λ cpu. ap (λ m. found_cpu m cpu) cpus ∙ tells.cpus cpu ∙ sym (cpu-roused cpu place by woken before);
+  tasks_ascend = subst (IsOrdered task_cmp) (sym tasks) tells.tasks_ascend;
+  cpus_ascend = subst (IsOrdered nat_cmp) (sym cpus) tells.cpus_ascend;
 }
 
 run-begun : (z : Bool) (begun place : Pos) → cond z (place.stamp - begun.stamp) 0 ≡ lasted (cond z (Some begun) None) place

@@ -4,11 +4,11 @@ use Rattle.std.specs.FinMap as finite
 use Rattle.std.specs.Option.{option_map_or, option_or}
 use Rattle.std.specs.Ordering.{int_cmp, int_eq, nat_cmp}
 use Rattle.ft_fields.specs.declared.pos.Pos.{Pos}
-use Rattle.ft_dispatch.specs.Acts.{Act, Waking, Creation, Switch, Handover, can_run}
+use Rattle.ft_dispatch.specs.Acts.{Act, Waking, Creation, Wakeup, Switch, Handover, can_run}
 use Rattle.ft_dispatch.specs.Dispatches.{leaves, runs}
 use Rattle.ft_dispatch.specs.declared.act.PrevState.{PrevState}
 use Rattle.ft_dispatch.specs.declared.act.PrevState.TheVariants as states
-use Rattle.ft_summary.specs.Runs.{capped, one_if, total, most, last_switch, run_begun, run_ended}
+use Rattle.ft_summary.specs.Runs.{capped, one_if, total, most, last_switch, run_begun, run_ended, unknown_ended}
 use Rattle.ft_summary.specs.Waiting.{tasks_of, waited_since_switch, waited_up_to}
 use Rattle.ft_summary.specs.declared.sums.CpuSum.{CpuSum}
 use Rattle.ft_summary.specs.declared.sums.TaskSum.{TaskSum}
@@ -17,8 +17,9 @@ use Rattle.ft_summary.specs.declared.sums.TaskSum.{TaskSum}
 
 -- how long a run of a task lasted, if an act ends it
 abbrev pub ran_for : ℤ → Pos → Act → List (Pos × Act) → ℕ
-ran_for pid place (Waking woken) before = 0
-ran_for pid place (Creation created) before = 0
+ran_for pid place (Waking by woken) before = 0
+ran_for pid place (Creation by created) before = 0
+ran_for pid place (Wakeup by woken) before = 0
 ran_for pid place (Switch turn) before = if int_eq turn.prev_pid pid then run_ended place turn before else 0
 
 -- 1 if a CPU goes to a task
@@ -28,6 +29,7 @@ switched_to pid place act before = one_if (runs pid act)
 -- whether a task sleeps that a switch leaves so
 abbrev pub is_asleep : PrevState → Bool
 is_asleep states.Runnable = false
+is_asleep states.Preempted = false
 is_asleep states.Asleep = true
 is_asleep states.Blocked = false
 is_asleep states.Other = false
@@ -35,14 +37,16 @@ is_asleep states.Other = false
 -- whether it is blocked
 abbrev pub is_blocked : PrevState → Bool
 is_blocked states.Runnable = false
+is_blocked states.Preempted = false
 is_blocked states.Asleep = false
 is_blocked states.Blocked = true
 is_blocked states.Other = false
 
 -- 1 if a switch to another task leaves a task in a state that passes a test
 abbrev pub left_for_another : (PrevState → Bool) → ℤ → Pos → Act → List (Pos × Act) → ℕ
-left_for_another passes pid place (Waking woken) before = 0
-left_for_another passes pid place (Creation created) before = 0
+left_for_another passes pid place (Waking by woken) before = 0
+left_for_another passes pid place (Creation by created) before = 0
+left_for_another passes pid place (Wakeup by woken) before = 0
 left_for_another passes pid place (Switch turn) before = one_if (int_eq turn.prev_pid pid && (not (int_eq turn.prev_pid turn.next_pid) && passes turn.prev_state))
 
 -- the CPU on which a task last ran or was left
@@ -83,9 +87,17 @@ ends_idling cpu place turn = nat_eq place.cpu cpu && int_eq turn.prev_pid (pos 0
 
 -- how long a run of task 0 on a CPU lasted, if an act ends it
 abbrev pub idled_for : ℕ → Pos → Act → List (Pos × Act) → ℕ
-idled_for cpu place (Waking woken) before = 0
-idled_for cpu place (Creation created) before = 0
+idled_for cpu place (Waking by woken) before = 0
+idled_for cpu place (Creation by created) before = 0
+idled_for cpu place (Wakeup by woken) before = 0
 idled_for cpu place (Switch turn) before = if ends_idling cpu place turn then run_ended place turn before else 0
+
+-- how long it isn't known what a CPU ran, up to an act, if that is a switch of it: the time between two switches of which the second leaves another task than the first one went to. It is neither idle nor part of a run
+abbrev pub unknown_for : ℕ → Pos → Act → List (Pos × Act) → ℕ
+unknown_for cpu place (Waking by woken) before = 0
+unknown_for cpu place (Creation by created) before = 0
+unknown_for cpu place (Wakeup by woken) before = 0
+unknown_for cpu place (Switch turn) before = if nat_eq place.cpu cpu then unknown_ended place turn before else 0
 
 -- the time in which some task waited, from where a run began on a CPU up to a place
 abbrev pub waited_in_run : Option Pos → Pos → List (Pos × Act) → ℕ
@@ -94,14 +106,16 @@ waited_in_run (Some begun) place before = waited_since_switch place.cpu before +
 
 -- the same of a run of task 0 on a CPU, if an act ends it
 abbrev pub idled_with_waiters : ℕ → Pos → Act → List (Pos × Act) → ℕ
-idled_with_waiters cpu place (Waking woken) before = 0
-idled_with_waiters cpu place (Creation created) before = 0
+idled_with_waiters cpu place (Waking by woken) before = 0
+idled_with_waiters cpu place (Creation by created) before = 0
+idled_with_waiters cpu place (Wakeup by woken) before = 0
 idled_with_waiters cpu place (Switch turn) before = if ends_idling cpu place turn then waited_in_run (run_begun turn.prev_pid (last_switch place.cpu before)) place before else 0
 
 -- where a run of task 0 on a CPU began, if an act ends it
 abbrev pub idle_begun : ℕ → Pos → Act → List (Pos × Act) → Option Pos
-idle_begun cpu place (Waking woken) before = None
-idle_begun cpu place (Creation created) before = None
+idle_begun cpu place (Waking by woken) before = None
+idle_begun cpu place (Creation by created) before = None
+idle_begun cpu place (Wakeup by woken) before = None
 idle_begun cpu place (Switch turn) before = if ends_idling cpu place turn then run_begun turn.prev_pid (last_switch place.cpu before) else None
 
 -- where the first run of task 0 on a CPU began in which some task waited so long
@@ -120,6 +134,7 @@ unfoldable pub cpu_sum : ℕ → List (Pos × Act) → CpuSum
 cpu_sum cpu acts = record {
   cpu = cpu;
   idle = capped (total (idled_for cpu) acts);
+  unknown = capped (total (unknown_for cpu) acts);
   idle_with_waiters = capped (total (idled_with_waiters cpu) acts);
   longest = most (idled_with_waiters cpu) acts;
   longest_from = idle_from (most (idled_with_waiters cpu) acts) (first_idle_begun cpu (most (idled_with_waiters cpu) acts) acts);
@@ -127,8 +142,9 @@ cpu_sum cpu acts = record {
 
 -- the CPU of a switch
 abbrev pub cpu_named : Pos → Act → List ℕ
-cpu_named place (Waking woken) = []
-cpu_named place (Creation created) = []
+cpu_named place (Waking by woken) = []
+cpu_named place (Creation by created) = []
+cpu_named place (Wakeup by woken) = []
 cpu_named place (Switch turn) = place.cpu ∷ []
 
 -- the CPUs on which a switch stands; one may stand there more than once

@@ -3,7 +3,7 @@ use Rattle.std.specs.Prelude.{ℕ, ◌+◌, ◌-◌, ◌^◌, ℤ, Bool, List, [
 use Rattle.std.specs.Option.{option_or}
 use Rattle.std.specs.Ordering.{int_eq}
 use Rattle.ft_fields.specs.declared.pos.Pos.{Pos}
-use Rattle.ft_dispatch.specs.Acts.{Act, Waking, Creation, Switch, Handover}
+use Rattle.ft_dispatch.specs.Acts.{Act, Waking, Creation, Wakeup, Switch, Handover}
 
 -- ---- sums
 
@@ -29,8 +29,9 @@ most part (entry ∷ before) = max (most part before) (part entry.0 entry.1 befo
 
 -- a switch at its place, if an act is one and the place is on the CPU
 abbrev pub switch_on : ℕ → Pos → Act → Option (Pos × Handover)
-switch_on cpu place (Waking woken) = None
-switch_on cpu place (Creation created) = None
+switch_on cpu place (Waking by woken) = None
+switch_on cpu place (Creation by created) = None
+switch_on cpu place (Wakeup by woken) = None
 switch_on cpu place (Switch turn) = if nat_eq place.cpu cpu then Some (place, turn) else None
 
 -- the last switch of a CPU
@@ -51,3 +52,12 @@ lasted (Some begun) place = place.stamp - begun.stamp
 -- the length of the run that a switch at a place ends
 abbrev pub run_ended : Pos → Handover → List (Pos × Act) → ℕ
 run_ended place turn before = lasted (run_begun turn.prev_pid (last_switch place.cpu before)) place
+
+-- how long it isn't known what a CPU ran, up to the switch at a place that leaves a task: since its last switch, if that went to another task, since a switch is missing between them
+abbrev pub unknown_since : ℤ → Pos → Option (Pos × Handover) → ℕ
+unknown_since pid place None = 0
+unknown_since pid place (Some last) = if int_eq last.1.next_pid pid then 0 else place.stamp - last.0.stamp
+
+-- the same of the switch at a place
+abbrev pub unknown_ended : Pos → Handover → List (Pos × Act) → ℕ
+unknown_ended place turn before = unknown_since turn.prev_pid place (last_switch place.cpu before)

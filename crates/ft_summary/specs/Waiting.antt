@@ -3,16 +3,17 @@ use Rattle.std.specs.Prelude.{ℕ, ◌+◌, ◌-◌, ℤ, pos, Bool, true, false
 use Rattle.std.specs.List.{list_any}
 use Rattle.std.specs.Ordering.{int_eq}
 use Rattle.ft_fields.specs.declared.pos.Pos.{Pos}
-use Rattle.ft_dispatch.specs.Acts.{Act, Waking, Creation, Switch}
+use Rattle.ft_dispatch.specs.Acts.{Act, Waking, Creation, Wakeup, Switch}
 use Rattle.ft_dispatch.specs.Dispatches.{creates, leaves, leaves_runnable, runs, wakes}
 use Rattle.ft_summary.specs.Runs.{switch_on}
 
 -- ---- tasks
 
--- the tasks that an act names
+-- the tasks that an act names; the end of a waking sums up to nothing, and names none
 abbrev pub names : Act → List ℤ
-names (Waking woken) = woken ∷ []
-names (Creation created) = created ∷ []
+names (Waking by woken) = woken ∷ []
+names (Creation by created) = created ∷ []
+names (Wakeup by woken) = []
 names (Switch turn) = turn.next_pid ∷ turn.prev_pid ∷ []
 
 -- whether a task isn't an idle task: each CPU has a task 0, which runs if no other can

@@ -3,7 +3,7 @@
 ghost use Rattle.std.specs.Prelude.{◌≡◌, ◌-◌, ℕ, Some, OnOk, IfOk, map as list_map, nat_eq, if◌then◌else◌};
 ghost use Rattle.std.specs.Ordering.{nat_cmp};
 ghost use Rattle.std.specs.BTreeMap.{IsOrdered, values};
-ghost use Rattle.ft_summary.specs.inner.Changes.{cpu_turned, cpu_from, found_cpu, idled, run_of};
+ghost use Rattle.ft_summary.specs.inner.Changes.{cpu_turned, cpu_from, found_cpu, idled, not_known, run_of};
 
 use crate::sums::CpuSum;
 use ft_dispatch::PlacedAct;
@@ -52,12 +52,25 @@ impl Cpu {
         sum
     }
 
+    /// What the acts sum up to once a switch is missing: it isn't known what ran by now.
+    #[inline(always)]
+    fn unknown_until(&self, stamp: u64) -> CpuSum
+        ensures { result ≡ not_known (stamp - self.now.stamp) self.now.sum }
+    {
+        let mut sum = self.sum;
+        let lasted = stamp.saturating_sub(self.stamp);
+        sum.unknown = sum.unknown.saturating_add(lasted);
+        sum
+    }
+
     /// Takes a switch of the CPU: some task waited so long by now.
     #[inline(always)]
     fn turn(&mut self, turn: &PlacedAct, waited: u64)
         ensures { self.new ≡ cpu_turned self.old turn.now waited }
     {
-        let sum = if self.pid == turn.prev_pid && turn.prev_pid == 0 {
+        let sum = if self.pid != turn.prev_pid {
+            self.unknown_until(turn.place.stamp)
+        } else if turn.prev_pid == 0 {
             self.idle_until(turn.place.stamp, waited)
         } else {
             self.sum
@@ -82,6 +95,7 @@ impl Cpu {
             sum: CpuSum {
                 cpu: turn.place.cpu,
                 idle: 0,
+                unknown: 0,
                 idle_with_waiters: 0,
                 longest: 0,
                 longest_from: 0,

@@ -67,7 +67,7 @@ fn is_asleep(state: PrevState) -> bool
 {
     match state {
         PrevState::Asleep => true,
-        PrevState::Runnable | PrevState::Blocked | PrevState::Other => false,
+        PrevState::Runnable | PrevState::Preempted | PrevState::Blocked | PrevState::Other => false,
     }
 }
 
@@ -78,7 +78,7 @@ fn is_blocked(state: PrevState) -> bool
 {
     match state {
         PrevState::Blocked => true,
-        PrevState::Runnable | PrevState::Asleep | PrevState::Other => false,
+        PrevState::Runnable | PrevState::Preempted | PrevState::Asleep | PrevState::Other => false,
     }
 }
 

@@ -83,6 +83,8 @@ impl Summary {
                 act.pid,
                 Change::Awoken,
             ),
+            // The task could run from the waking on.
+            Kind::Wakeup => Ok(()),
         }
     }
 

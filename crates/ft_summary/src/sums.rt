@@ -27,6 +27,9 @@ pub struct CpuSum {
     /// How long it ran task 0, in microseconds: the runs whose switches to task 0 and from it are both
     /// known.
     pub idle: u64,
+    /// How long it isn't known what it ran, in microseconds: the times between two of its switches of
+    /// which the second leaves another task than the first one went to.
+    pub unknown: u64,
     /// For how much of that time some task waited for a processor, in microseconds.
     pub idle_with_waiters: u64,
     /// The most of `idle_with_waiters` that one such run has, in microseconds.

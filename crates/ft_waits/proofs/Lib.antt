@@ -4,6 +4,7 @@ mod Cutting
 mod Joined
 mod Leaving
 mod Moves
+mod AllShown
 mod Noticing
 mod Ordering
 mod Places

@@ -1,10 +1,11 @@
 -- Acts that are held until their microsecond is over come in the order of their places.
-use Rattle.std.specs.Prelude.{◌≡◌, ◌<◌, ◌+◌, ℕ, suc, List, [], ◌∷◌, ◌++◌, length, reverse, Option, Some, None, IsPermutation, map as list_map}
+use Rattle.std.specs.Prelude.{◌≡◌, ◌<◌, ◌+◌, ℕ, suc, List, [], ◌∷◌, ◌++◌, length, reverse, Option, Some, None, Vec, IsPermutation, map as list_map}
 use Rattle.std.specs.List.{AllByRecursion, IsDistinct}
 use Rattle.std.specs.List.Sorted.{IsSorted, IsSortedByKey, IsStrictlySortedBy}
 use Rattle.std.specs.FinMap as map
 use Rattle.std.specs.FinMap.{get-from_entries, same_map}
 use Rattle.std.specs.Map.{keys_of}
+use Rattle.std.specs.declared.alloc.Global.{Global}
 use Rattle.std.specs.declared.cmp.Ordering.{Ordering}
 use Rattle.std.specs.declared.cmp.Ordering.TheVariants.{Less}
 use Rattle.std.specs.Ordering.{nat_cmp, eq_by_cmp, is_lt, ordering_then}
@@ -22,11 +23,16 @@ use Rattle.ft_fields.specs.declared.pos.Pos.{Pos}
 use Rattle.ft_dispatch.specs.Acts.{Act}
 use Rattle.ft_waits.specs.Reading.{act_at, in_order}
 use Rattle.ft_dispatch.specs.Dispatches.{dispatches}
+use Rattle.ft_dispatch.specs.Showings.{showings}
+use Rattle.ft_dispatch.specs.declared.showing.Showing.{Showing}
+use Rattle.ft_fields.specs.Traced.{Traced}
+use Rattle.ft_windows.specs.Telling.{Keeps}
+use Rattle.ft_windows.specs.declared.windows.Windows.{Windows}
 use Rattle.ft_dispatch.specs.Telling.{entry_of, entries_of, Tells}
-use Rattle.ft_waits.specs.inner.Known.{Settles, Orders, SumsTell}
+use Rattle.ft_waits.specs.inner.Known.{HasShown, Settles, Orders, SumsTell}
 use Rattle.ft_dispatch.specs.declared.dispatch.Dispatch.{Dispatch}
 use Rattle.ft_dispatch.specs.declared.act.PlacedAct.{PlacedAct}
-use Rattle.ft_dispatch.specs.declared.tasks.Tasks.{Tasks}
+use Rattle.ft_waits.specs.declared.kept.KeptActs.{KeptActs}
 use Rattle.ft_summary.specs.declared.summary.Summary.{Summary}
 
 -- ---- lists
@@ -93,11 +99,12 @@ entries-moved xs ys moved distinct sorted =
     ∙ sym (get-from_entries pos_cmp_total xs q)))
 
 -- the acts of a microsecond are taken when a later one begins
-pub settled : (old new : Tasks) (sums sums_now : Option Summary) (held : List PlacedAct) (latest stamp : ℕ) (acts : List (Pos × Act)) (told out out_now : List Dispatch)
-    → latest < stamp → Settles held old sums out new sums_now out_now → Orders old sums held latest acts (told ++ out) → Orders new sums_now [] stamp acts (told ++ out_now)
-settled old new sums sums_now held latest stamp acts told out out_now later settles orders =
+pub settled : (old new : KeptActs) (sums sums_now : Option Summary) (latest stamp : ℕ) (events : List Traced) (acts : List (Pos × Act)) (told out out_now : List Dispatch)
+    → latest < stamp → Settles old sums out new sums_now out_now → Orders old sums latest events acts (told ++ out) → Orders new sums_now stamp events acts (told ++ out_now)
+settled old new sums sums_now latest stamp events acts told out out_now later settles orders =
     let now : List (Pos × Act) = entries_of settles.ordered in
     let done : List (Pos × Act) = orders.done ++ now in
+    let held : List PlacedAct = old.held.items in
     let moved : IsPermutation (entries_of held) now = IsPermutation-map entry_of held settles.ordered settles.moved in
     let all : IsPermutation acts done = IsPermutation-trans _ _ _ orders.all (IsPermutation-append_right orders.done (entries_of held) now moved) in
     let at : AllByRecursion (λ (e : Pos × Act). e.0.stamp ≡ latest) now =
@@ -111,18 +118,20 @@ settled old new sums sums_now held latest stamp acts told out out_now later sett
       done = done;
       sorted = subst (IsStrictlySortedBy pos_cmp) (sym (keys-append orders.done now)) (strict-append (keys_of orders.done) (keys_of now) orders.sorted up (all-below latest orders.done now orders.earlier at));
       earlier = all-append (λ e. e.0.stamp < stamp) orders.done now (all-map _ _ (λ e low. omega (arith, low, later)) orders.done orders.earlier) (all-map _ _ (λ e is. omega (arith, is, later)) now at);
-      now = tt;
-      all = subst (IsPermutation acts) (sym (append-nil done)) all;
+      now = subst (λ (kept : List PlacedAct). AllByRecursion (λ (e : Pos × Act). e.0.stamp ≡ stamp) (entries_of kept)) (sym settles.none) tt;
+      all = subst (λ (kept : List PlacedAct). IsPermutation acts (done ++ entries_of kept)) (sym settles.none) (subst (IsPermutation acts) (sym (append-nil done)) all);
       distinct = orders.distinct;
-      tells = subst (λ (before : List (Pos × Act)). Tells new before (told ++ out_now)) (sym (reverse-append orders.done now)) (settles.takes (reverse orders.done) told orders.tells);
+      tells = subst (λ (before : List (Pos × Act)). Tells new.tasks before (told ++ out_now)) (sym (reverse-append orders.done now)) (settles.takes (reverse orders.done) told orders.tells);
+      shows = subst (HasShown new events) (sym (reverse-append orders.done now)) (settles.shows events (reverse orders.done) told orders.tells orders.shows);
       sums = subst (λ (before : List (Pos × Act)). SumsTell sums_now before) (sym (reverse-append orders.done now)) (settles.sums.takes (reverse orders.done) orders.sums);
     }
 
--- one act more is held, if there is one
-pub held-more : (tasks : Tasks) (sums : Option Summary) (old new : List PlacedAct) (stamp : ℕ) (place : Pos) (act : Option Act) (acts : List (Pos × Act)) (told : List Dispatch)
-    → entries_of new ≡ entries_of old ++ act_at place act → place.stamp ≡ stamp → IsDistinct (eq_by_cmp pos_cmp) (keys_of (act_at place act ++ acts))
-    → Orders tasks sums old stamp acts told → Orders tasks sums new stamp (act_at place act ++ acts) told
-held-more tasks sums old new stamp place act acts told is at distinct orders =
+-- one event more is known, and its act is held, if it has one
+pub held-more : (kept : KeptActs) (sums : Option Summary) (new : Vec PlacedAct Global) (windows : Windows) (stamp : ℕ) (events more_events : List Traced) (place : Pos) (act : Option Act) (acts : List (Pos × Act)) (told : List Dispatch)
+    → entries_of new.items ≡ entries_of kept.held.items ++ act_at place act → place.stamp ≡ stamp → IsDistinct (eq_by_cmp pos_cmp) (keys_of (act_at place act ++ acts)) → ((shown : List Showing) → Keeps kept.windows events shown → Keeps windows more_events shown)
+    → Orders kept sums stamp events acts told → Orders (record kept { held = new; windows = windows }) sums stamp more_events (act_at place act ++ acts) told
+held-more kept sums new windows stamp events more_events place act acts told is at distinct takes orders =
+    let old : List PlacedAct = kept.held.items in
     let more : List (Pos × Act) = act_at place act in
     let one : (act : Option Act) → AllByRecursion (λ (e : Pos × Act). e.0.stamp ≡ stamp) (act_at place act) = one_at stamp place at in
     record {
@@ -134,6 +143,11 @@ held-more tasks sums old new stamp place act acts told is at distinct orders =
           (IsPermutation-trans _ _ _ (IsPermutation-append_comm more acts) (IsPermutation-append_left more acts (orders.done ++ entries_of old) orders.all));
       distinct = distinct;
       tells = orders.tells;
+      shows = record {
+        windows = takes (showings (reverse orders.done)) orders.shows.windows;
+        given = orders.shows.given;
+        firsts = orders.shows.firsts;
+      };
       sums = orders.sums;
     }
   where
@@ -142,18 +156,21 @@ held-more tasks sums old new stamp place act acts told is at distinct orders =
     one_at stamp place at (Some act) = (at, tt)
 
 -- at the end all acts are taken in order
-pub all-settled : (old new : Tasks) (sums sums_now : Option Summary) (held : List PlacedAct) (latest : ℕ) (acts : List (Pos × Act)) (told out out_now : List Dispatch)
-    → Settles held old sums out new sums_now out_now → Orders old sums held latest acts (told ++ out) → (told ++ out_now ≡ dispatches (reverse (in_order acts))) × SumsTell sums_now (reverse (in_order acts))
-all-settled old new sums sums_now held latest acts told out out_now settles orders =
-    let last = settled old new sums sums_now held latest (suc latest) acts told out out_now (omega arith) settles orders in
-    let all : IsPermutation acts last.done = subst (IsPermutation acts) (append-nil last.done) last.all in
-    let same = entries-moved acts last.done all orders.distinct last.sorted in
-    (last.tells.tells ∙ ap (λ (es : List (Pos × Act)). dispatches (reverse es)) same, subst (λ (es : List (Pos × Act)). SumsTell sums_now (reverse es)) same last.sums)
+pub all-settled : (old new : KeptActs) (sums sums_now : Option Summary) (latest : ℕ) (events : List Traced) (acts : List (Pos × Act)) (told out out_now : List Dispatch)
+    → Settles old sums out new sums_now out_now → Orders old sums latest events acts (told ++ out) → (told ++ out_now ≡ dispatches (reverse (in_order acts))) × SumsTell sums_now (reverse (in_order acts)) × Keeps new.windows events (showings (reverse (in_order acts)))
+all-settled old new sums sums_now latest events acts told out out_now settles orders =
+    let last = settled old new sums sums_now latest (suc latest) events acts told out out_now (omega arith) settles orders in
+    let all : IsPermutation acts last.done = subst (IsPermutation acts) (append-nil last.done) (subst (λ (kept : List PlacedAct). IsPermutation acts (last.done ++ entries_of kept)) settles.none last.all) in
+    let same = entries-moved acts last.done all orders.distinct last.sorted in (
+      last.tells.tells ∙ ap (λ (es : List (Pos × Act)). dispatches (reverse es)) same,
+      subst (λ (es : List (Pos × Act)). SumsTell sums_now (reverse es)) same last.sums,
+      subst (λ (es : List (Pos × Act)). Keeps new.windows events (showings (reverse es))) same last.shows.windows,
+    )
 
 -- no acts
-pub orders-nothing : (tasks : Tasks) (held : List PlacedAct) → held ≡ [] → Tells tasks [] [] → Orders tasks None held 0 [] []
+pub orders-nothing : (kept : KeptActs) → kept.held.items ≡ [] → Tells kept.tasks [] [] → HasShown kept [] [] → Orders kept None 0 [] [] []
 unfolding IsDistinct IsStrictlySortedBy
-orders-nothing tasks held none tells = record {
+orders-nothing kept none tells shows = record {
   done = [];
   sorted = tt;
   earlier = tt;
@@ -161,5 +178,6 @@ orders-nothing tasks held none tells = record {
   all = subst (λ (h : List PlacedAct). IsPermutation [] (entries_of h)) (sym none) (IsPermutation-refl []);
   distinct = tt;
   tells = tells;
+  shows = shows;
   sums = tt;
 }

@@ -1,5 +1,5 @@
 -- One line more is read.
-use Rattle.std.specs.Prelude.{◌≡◌, ◌<◌, ◌≤◌, ◌+◌, ℕ, suc, Bool, false, List, [], ◌∷◌, length, nat_lt, if◌then◌else◌, Option, Some, None, Result, Ok, Err, ◌⊎◌, unwrap_or, IfSome, IfNone, option_map}
+use Rattle.std.specs.Prelude.{◌≡◌, ◌<◌, ◌≤◌, ◌+◌, ℕ, suc, Bool, false, List, [], ◌∷◌, length, reverse, nat_lt, if◌then◌else◌, Option, Some, None, Result, Ok, Err, ◌⊎◌, unwrap_or, IfSome, IfNone, option_map}
 use Rattle.std.specs.List.{count_by}
 use Rattle.std.specs.Option.{option_or}
 use Rattle.std.proofs.Common.{refl, sym, ap, subst, ◌∙◌, arith, cond, inl, inr, add-one}
@@ -12,9 +12,10 @@ use Rattle.ft_event.specs.declared.fault.LineFault.{LineFault}
 use Rattle.ft_event.specs.Line.{line_of}
 use Rattle.ft_event.specs.Marks.{MarkIs}
 use Rattle.ft_event.specs.declared.mark.Mark.{Mark}
-use Rattle.ft_losses.specs.Notes.{Note, NoteBy, NoteIs, SkippedIs, AreNotes, quiet_note}
+use Rattle.ft_losses.specs.Notes.{Note, NoteBy, NoteIs, Silent, SkippedIs, AreNotes, quiet_note}
 use Rattle.ft_losses.specs.Telling.{Keeps}
-use Rattle.ft_waits.specs.Reading.{events_of, with_line, is_bad, bad_at, first_bad, lines_read, first_stamp, last_stamp, latest, refusal_of, refused, number_limit, FailsAt}
+use Rattle.ft_waits.specs.Reading.{events_of, with_line, is_bad, bad_at, first_bad, lines_read, first_stamp, last_stamp, latest, refusal_of, refused, number_limit, CountsEvents, FailsAt}
+use Rattle.ft_waits.specs.Missing.{passed, running, missing_in}
 use Rattle.ft_dispatch.specs.declared.dispatch.Dispatch.{Dispatch}
 use Rattle.ft_waits.specs.declared.fault.BadLine.{BadLine}
 use Rattle.ft_waits.specs.declared.fault.BadLines.{BadLines}
@@ -23,7 +24,11 @@ use Rattle.ft_waits.specs.declared.fault.LinesRead.{LinesRead}
 use Rattle.ft_waits.specs.declared.fault.WaitsFault.{WaitsFault}
 use Rattle.ft_waits.specs.declared.fault.WaitsFault.TheVariants as faults
 use Rattle.ft_waits.specs.declared.reading.Reading.{Reading}
-use Rattle.ft_waits.specs.inner.Known.{Follows, IsNumbered}
+use Rattle.ft_waits.specs.inner.Known.{Follows, IsNumbered, Misses}
+use Rattle.ft_waits.specs.inner.Running.{RunsTasks}
+use Rattle.ft_waits.specs.inner.Starts.{starts_of}
+use Rattle.ft_waits.specs.declared.state.State.{State}
+use Rattle.ft_waits.proofs.Noticing.{passed-is}
 use Rattle.ft_waits.specs.inner.Streams.{ReadsLines}
 
 -- ---- what is counted
@@ -94,6 +99,34 @@ skipped-by line (Some mark) some none = some
 abbrev pub TakesNote : Reading → Reading → Note → Type 0
 TakesNote old new note = (notes : List Note) → Keeps old.losses notes → old.read.lines + 1 ≡ suc (length notes) → Keeps new.losses (note ∷ notes)
 
+-- what is missing after one note more
+abbrev pub MissesNote : Reading → Reading → Note → Type 0
+MissesNote old new note = (notes : List Note) → CountsEvents old.state.lines.items (passed notes) → Misses old.state notes → Misses new.state (note ∷ notes)
+
+-- a line that reports nothing
+pub misses-silent : (state : State) (notes : List Note) → Misses state notes → Misses state (Silent ∷ notes)
+unfolding running missing_in starts_of
+misses-silent state notes misses = record {
+  runs = misses.runs;
+  missing = misses.missing;
+  starts = misses.starts;
+}
+
+-- a line that is a mark, or isn't
+pub misses-marked : (state : State) (mark : Option Mark) (notes : List Note) → RunsTasks state.running.items (quiet_note mark ∷ notes) → state.missing ≡ missing_in notes → state.starts.items ≡ reverse (starts_of notes)
+    → Misses state (quiet_note mark ∷ notes)
+unfolding missing_in starts_of
+misses-marked state None notes runs missing starts = record {
+  runs = runs;
+  missing = missing;
+  starts = starts;
+}
+misses-marked state (Some mark) notes runs missing starts = record {
+  runs = runs;
+  missing = missing;
+  starts = starts;
+}
+
 -- what a line reports that reads so
 pub note-by : (line : List ℕ) (given : Result Line LineFault) (note : Note) → line_of line ≡ given → NoteBy given line note → NoteIs line note
 note-by line given note is by = subst (λ (g : Result Line LineFault). NoteBy g line note) (sym is) by
@@ -101,16 +134,17 @@ note-by line given note is by = subst (λ (g : Result Line LineFault). NoteBy g 
 -- what is read after one more line
 pub reads-more : (old new : Reading) (given : Result Line LineFault) (line : List ℕ) (before : List (List ℕ)) (told told_now : List Dispatch)
     → line_of line ≡ given → ReadsLines old before told → new.bad_lines ≡ old.bad_lines → new.read ≡ read-more old.read given
-    → refusal_of old.bad_lines (old.read.lines + 1) old.state.latest given ≡ None → (note : Note) → NoteIs line note → TakesNote old new note → Follows new.state (with_line given (events_of before)) told_now
+    → refusal_of old.bad_lines (old.read.lines + 1) old.state.latest given ≡ None → (note : Note) → NoteIs line note → TakesNote old new note → MissesNote old new note → Follows new.state (with_line given (events_of before)) told_now
     → ReadsLines new (line ∷ before) told_now
 unfolding events_of lines_read
-reads-more old new given line before told told_now is reads same read taken note noted takes follows = record {
+reads-more old new given line before told told_now is reads same read taken note noted takes misses follows = record {
   unrefused = ap (λ (p : BadLines). refused p (line ∷ before)) same
       ∙ refused-more old.bad_lines line before given (old.read.lines + 1) old.state.latest reads.unrefused is (ap (λ (r : LinesRead). r.lines + 1) reads.read) reads.state.last ∙ taken;
   read = read ∙ ap (λ (r : LinesRead). read-more r given) reads.read ∙ ap (read-more (lines_read before)) (sym is) ∙ sym (lines-more line before);
   notes = note ∷ reads.notes;
   noted = (noted, reads.noted);
   losses = takes reads.notes reads.losses (ap (λ (r : LinesRead). r.lines + 1) reads.read ∙ add-one (length before) ∙ ap suc (sym (as-many before reads.notes reads.noted)));
+  misses = misses reads.notes (subst (CountsEvents old.state.lines.items) (sym (passed-is before reads.notes reads.noted)) reads.state.counts) reads.misses;
   state = subst (λ (g : Result Line LineFault). Follows new.state (with_line g (events_of before)) told_now) (sym is) follows;
 }
 
@@ -159,11 +193,13 @@ skips-bad policy number last fault is = ap (λ (p : BadLines). refusal_of p numb
 
 -- why an event was not taken
 pub too-many : (old : Reading) (line : List ℕ) (before : List (List ℕ)) (told : List Dispatch) (fault : WaitsFault) → ReadsLines old before told
-    → (fault ≡ faults.Memory) ⊎ ((fault ≡ faults.TooLong) × ((events : List Traced) (told : List Dispatch) → Follows old.state events told → IsNumbered events))
+    → (fault ≡ faults.Memory) ⊎ ((fault ≡ faults.TooLong) × ((notes : List Note) (told : List Dispatch) → Follows old.state (passed notes) told → Misses old.state notes → IsNumbered (passed notes)))
     → FailsAt old.bad_lines (line ∷ before) fault
 too-many old line before told fault reads (inl memory) = inl memory
 too-many old line before told fault reads (inr full) =
-    let most = full.1 (events_of before) told reads.state in
+    let same = passed-is before reads.notes reads.noted in
+    let most : number_limit ≤ length (events_of before) =
+    subst (λ (es : List Traced). number_limit ≤ length es) same (full.1 reads.notes told (subst (λ (es : List Traced). Follows old.state es told) (sym same) reads.state) reads.misses) in
     let fits = all-fit before in
     inr (inl (full.0, omega (arith, most, fits)))
 

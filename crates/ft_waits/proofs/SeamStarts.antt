@@ -1,28 +1,33 @@
--- Which switches are missing in a part behind the events before it.
+-- Which switches are missing in a part behind the notes before it.
 use Rattle.std.specs.Prelude.{◌≡◌, ◌≤◌, ◌+◌, ◌==◌, ◌&&◌, min, ℕ, ℤ, Bool, true, false, List, [], ◌∷◌, ◌++◌, length, reverse, Option, Some, None, option_map, if◌then◌else◌}
 use Rattle.std.specs.Option.{option_or, is_none}
 use Rattle.std.specs.List.{AllByRecursion}
 use Rattle.std.proofs.Common.{refl, sym, ap, ◌∙◌, arith, cond}
 use Rattle.std.proofs.lemmas.List.{append-nil, reverse-append, length-append}
+use Rattle.ft_event.specs.declared.mark.Mark.TheVariants as marks
 use Rattle.ft_fields.specs.Traced.{Traced, last_cpu}
 use Rattle.ft_fields.specs.declared.pos.Pos.{Pos}
 use Rattle.ft_dispatch.specs.Joining.{place_behind}
-use Rattle.ft_waits.specs.Missing.{running, runs_after, is_other, with_event, missing_in}
+use Rattle.ft_losses.specs.Notes.{Note, Passed, Marked, Silent}
+use Rattle.ft_losses.specs.Telling.{IsOnCpu}
+use Rattle.ft_waits.specs.Missing.{passed, running, running_after, runs_after, is_other, with_event, missing_in}
 use Rattle.ft_waits.specs.Reading.{place_after, number_limit, CountsEvents}
 use Rattle.ft_waits.specs.inner.Starts.{most, started, start_of, starts_of, Seam, with_start, seam_after, seam, missing_with}
 use Rattle.ft_waits.specs.declared.missing.Missing.{Missing}
+use Rattle.ft_waits.specs.declared.ran.Ran.{Ran}
+use Rattle.ft_waits.specs.declared.ran.Ran.TheVariants as rans
 use Rattle.ft_waits.specs.declared.starts.Start.{Start}
-use Rattle.ft_waits.proofs.Noticing.{at-most}
+use Rattle.ft_waits.proofs.Noticing.{at-most, passed-both}
 use Rattle.ft_waits.proofs.Shifted.{place-behind-is}
 
 -- one event more
-one-start : (ran : Option ℤ) (start : Start) (starts : List Start) → reverse (started ran start ++ starts) ≡ reverse starts ++ started ran start
+one-start : (ran : Option Ran) (start : Start) (starts : List Start) → reverse (started ran start ++ starts) ≡ reverse starts ++ started ran start
 one-start None start starts = reverse-append (start ∷ []) starts
 one-start (Some pid) start starts = sym (append-nil (reverse starts))
 
-pub starts-more : (before : List Traced) (event : Traced) → reverse (starts_of (event ∷ before)) ≡ reverse (starts_of before) ++ started (running event.cpu before) (start_of event.pid (place_after before event) (missing_in before))
+pub starts-more : (before : List Note) (event : Traced) → reverse (starts_of (Passed event ∷ before)) ≡ reverse (starts_of before) ++ started (running event.cpu before) (start_of event.pid (place_after (passed before) event) (missing_in before))
 unfolding starts_of
-starts-more before event = one-start (running event.cpu before) (start_of event.pid (place_after before event) (missing_in before)) (starts_of before)
+starts-more before event = one-start (running event.cpu before) (start_of event.pid (place_after (passed before) event) (missing_in before)) (starts_of before)
 
 -- ---- options
 
@@ -81,23 +86,23 @@ module _ (move : Pos → Pos) (pid : ℤ) (place behind : Pos) (own whole : Miss
       (λ i. record { switches = count i; first = first i })
 
 -- what is taken of one event more, by the tasks that its CPU ran before it in the part, and before the part
-abbrev pub taken : Option ℤ → Option ℤ → Pos → Start → Seam → Seam
+abbrev pub taken : Option Ran → Option Ran → Pos → Start → Seam → Seam
 taken None ran place start before = seam_after ran place start before
 taken (Some own) ran place start before = before
 
-taken-is : (ran : ℕ → Option ℤ) (move : Pos → Pos) (before : Seam) (own : Option ℤ) (start : Start) (starts : List Start)
+taken-is : (ran : ℕ → Option Ran) (move : Pos → Pos) (before : Seam) (own : Option Ran) (start : Start) (starts : List Start)
     → seam ran move before (started own start ++ starts) ≡ taken own (ran start.place.cpu) (move start.place) start (seam ran move before starts)
 unfolding seam
 taken-is ran move before None start starts = refl
 taken-is ran move before (Some pid) start starts = refl
 
-one-missing : (move : Pos → Pos) (pid : ℤ) (place behind : Pos) (own whole : Missing) (before : Seam) → whole ≡ missing_with move before.missing own → behind ≡ move place → whole.switches + 1 ≤ most → (ran ran_before : Option ℤ)
+one-missing : (move : Pos → Pos) (pid : ℤ) (place behind : Pos) (own whole : Missing) (before : Seam) → whole ≡ missing_with move before.missing own → behind ≡ move place → whole.switches + 1 ≤ most → (ran ran_before : Option Ran)
     → with_event (is_other (option_or ran ran_before) pid) behind whole ≡ missing_with move (taken ran ran_before (move place) (start_of pid place own) before).missing (with_event (is_other ran pid) place own)
 one-missing move pid place behind own whole before is at fits (Some r) ran_before = event-both move pid place behind own whole before is at fits (is_other (Some r) pid)
 one-missing move pid place behind own whole before is at fits None None = is
 one-missing move pid place behind own whole before is at fits None (Some r) = start-both move pid place behind own whole before is at fits (is_other (Some r) pid)
 
-one-started : (move : Pos → Pos) (pid : ℤ) (place behind : Pos) (own whole : Missing) (before : Seam) (starts : List Start) → whole ≡ missing_with move before.missing own → behind ≡ move place → reverse starts ≡ before.starts → (ran ran_before : Option ℤ)
+one-started : (move : Pos → Pos) (pid : ℤ) (place behind : Pos) (own whole : Missing) (before : Seam) (starts : List Start) → whole ≡ missing_with move before.missing own → behind ≡ move place → reverse starts ≡ before.starts → (ran ran_before : Option Ran)
     → reverse starts ++ started (option_or ran ran_before) (start_of pid behind whole) ≡ (taken ran ran_before (move place) (start_of pid place own) before).starts
 one-started move pid place behind own whole before starts is at same (Some r) ran_before = append-nil (reverse starts) ∙ same
 one-started move pid place behind own whole before starts is at same None (Some r) = append-nil (reverse starts) ∙ same
@@ -108,20 +113,34 @@ one-started move pid place behind own whole before starts is at same None None =
 
 -- ---- running tasks
 
-run-or : (b : Bool) (ran : ℤ) (own before : Option ℤ) → cond b (Some ran) (option_or own before) ≡ option_or (cond b (Some ran) own) before
+run-or : (b : Bool) (ran : Ran) (own before : Option Ran) → cond b (Some ran) (option_or own before) ≡ option_or (cond b (Some ran) own) before
 run-or true ran own before = refl
 run-or false ran own before = refl
 
-pub running-behind : (cpu : ℕ) (part before : List Traced) → running cpu (part ++ before) ≡ option_or (running cpu part) (running cpu before)
+note-or : (cpu : ℕ) (note : Note) (own before : Option Ran) → running_after cpu note (option_or own before) ≡ option_or (running_after cpu note own) before
+note-or cpu (Passed event) own before = run-or (event.cpu == cpu) (rans.Task (runs_after event)) own before
+note-or cpu (Marked (marks.Lost of count)) own before = run-or (of == cpu) rans.Lost own before
+note-or cpu (Marked (marks.Started of)) own before = run-or (of == cpu) rans.Lost own before
+note-or cpu (Marked (marks.Overwritten of count)) own before = refl
+note-or cpu (Marked (marks.Written held written)) own before = refl
+note-or cpu Silent own before = refl
+
+pub running-behind : (cpu : ℕ) (part before : List Note) → running cpu (part ++ before) ≡ option_or (running cpu part) (running cpu before)
 unfolding running
 running-behind cpu [] before = refl
-running-behind cpu (event ∷ part) before =
-    ap (cond (event.cpu == cpu) (Some (runs_after event))) (running-behind cpu part before)
-    ∙ run-or (event.cpu == cpu) (runs_after event) (running cpu part) (running cpu before)
+running-behind cpu (note ∷ part) before = ap (running_after cpu note) (running-behind cpu part before) ∙ note-or cpu note (running cpu part) (running cpu before)
+
+-- a part without events
+pub nothing-missing : (before part : List Note) → passed part ≡ [] → (missing_in (part ++ before) ≡ missing_in before) × (starts_of (part ++ before) ≡ starts_of before)
+unfolding missing_in starts_of passed
+nothing-missing before [] none = (refl, refl)
+nothing-missing before (Passed event ∷ part) none = absurd cc
+nothing-missing before (Marked mark ∷ part) none = nothing-missing before part none
+nothing-missing before (Silent ∷ part) none = nothing-missing before part none
 
 -- ---- the whole part
 
-module _ (counts : List ℕ) (before : List Traced) (counted : CountsEvents counts before) where
+module _ (counts : List ℕ) (before : List Note) (counted : CountsEvents counts (passed before)) where
   abbrev pub move : Pos → Pos
   move = place_behind counts
 
@@ -129,12 +148,41 @@ module _ (counts : List ℕ) (before : List Traced) (counted : CountsEvents coun
   abbrev pub first_seam : Seam
   first_seam = record { missing = missing_in before; starts = reverse (starts_of before) }
 
-  abbrev pub seam_of : List Traced → Seam
+  abbrev pub seam_of : List Note → Seam
   seam_of part = seam (λ cpu. running cpu before) move first_seam (starts_of part)
 
-  pub missing-joined : (part : List Traced) → length part + length before ≤ number_limit → AllByRecursion (λ (e : Traced). e.cpu ≤ last_cpu) part
-      → (missing_in (part ++ before) ≡ missing_with move (seam_of part).missing (missing_in part)) × (reverse (starts_of (part ++ before)) ≡ (seam_of part).starts)
-  unfolding missing_in starts_of seam
+  -- what is missing in the notes of a part and those before it, and the first events of CPUs
+  abbrev AreBoth : List Note → Type 0
+  AreBoth part = (missing_in (part ++ before) ≡ missing_with move (seam_of part).missing (missing_in part)) × (reverse (starts_of (part ++ before)) ≡ (seam_of part).starts)
+
+  one-event : (event : Traced) (part : List Note) → length (event ∷ passed part) + length (passed before) ≤ number_limit → event.cpu ≤ last_cpu → AreBoth part → AreBoth (Passed event ∷ part)
+  unfolding missing_in starts_of
+  one-event event part fits low rest =
+      let whole = missing_in (part ++ before) in
+      let own = missing_in part in
+      let so_far = seam_of part in
+      let both = passed-both part before in
+      let place = place_after (passed part) event in
+      let behind = place_after (passed (part ++ before)) event in
+      let at : behind ≡ move place = ap (λ (es : List Traced). place_after es event) both ∙ sym (place-behind-is counts (passed before) (passed part) event counted low fits) in
+      let few = at-most (part ++ before) in
+      let size = ap (λ (es : List Traced). length es) both ∙ length-append (passed part) (passed before) in
+      let room : whole.switches + 1 ≤ most = omega (arith, few, size, fits) in
+      let start = start_of event.pid place own in
+      let ran = running-behind event.cpu part before in
+      let is_taken : seam_of (Passed event ∷ part) ≡ taken (running event.cpu part) (running event.cpu before) (move place) start so_far =
+      taken-is (λ cpu. running cpu before) move first_seam (running event.cpu part) start (starts_of part) in (
+        ap (λ (o : Option Ran). with_event (is_other o event.pid) behind whole) ran
+            ∙ one-missing move event.pid place behind own whole so_far rest.0 at room (running event.cpu part) (running event.cpu before)
+            ∙ ap (λ (s : Seam). missing_with move s.missing (with_event (is_other (running event.cpu part) event.pid) place own)) (sym is_taken),
+        starts-more (part ++ before) event
+            ∙ ap (λ (o : Option Ran). reverse (starts_of (part ++ before)) ++ started o (start_of event.pid behind whole)) ran
+            ∙ one-started move event.pid place behind own whole so_far (starts_of (part ++ before)) rest.0 at rest.1 (running event.cpu part) (running event.cpu before)
+            ∙ ap (λ (s : Seam). s.starts) (sym is_taken),
+      )
+
+  pub missing-joined : (part : List Note) → length (passed part) + length (passed before) ≤ number_limit → AllByRecursion IsOnCpu part → AreBoth part
+  unfolding missing_in starts_of seam passed
   missing-joined [] fits cpus =
       let few = at-most before in
       let m = missing_in before in
@@ -144,27 +192,8 @@ module _ (counts : List ℕ) (before : List Traced) (counted : CountsEvents coun
       or-none : (o : Option Pos) → option_or o None ≡ o
       or-none None = refl
       or-none (Some x) = refl
-  missing-joined (event ∷ part) fits cpus =
-      let less : length part + length before ≤ number_limit = omega (arith, fits) in
-      let rest = missing-joined part less cpus.1 in
-      let whole = missing_in (part ++ before) in
-      let own = missing_in part in
-      let so_far = seam_of part in
-      let place = place_after part event in
-      let behind = place_after (part ++ before) event in
-      let at : behind ≡ move place = sym (place-behind-is counts before part event counted cpus.0 fits) in
-      let few = at-most (part ++ before) in
-      let size = length-append part before in
-      let room : whole.switches + 1 ≤ most = omega (arith, few, size, less) in
-      let start = start_of event.pid place own in
-      let ran = running-behind event.cpu part before in
-      let is_taken : seam_of (event ∷ part) ≡ taken (running event.cpu part) (running event.cpu before) (move place) start so_far =
-      taken-is (λ cpu. running cpu before) move first_seam (running event.cpu part) start (starts_of part) in (
-        ap (λ (o : Option ℤ). with_event (is_other o event.pid) behind whole) ran
-            ∙ one-missing move event.pid place behind own whole so_far rest.0 at room (running event.cpu part) (running event.cpu before)
-            ∙ ap (λ (s : Seam). missing_with move s.missing (with_event (is_other (running event.cpu part) event.pid) place own)) (sym is_taken),
-        starts-more (part ++ before) event
-            ∙ ap (λ (o : Option ℤ). reverse (starts_of (part ++ before)) ++ started o (start_of event.pid behind whole)) ran
-            ∙ one-started move event.pid place behind own whole so_far (starts_of (part ++ before)) rest.0 at rest.1 (running event.cpu part) (running event.cpu before)
-            ∙ ap (λ (s : Seam). s.starts) (sym is_taken),
-      )
+  missing-joined (Passed event ∷ part) fits cpus =
+      let less : length (passed part) + length (passed before) ≤ number_limit = omega (arith, fits) in
+      one-event event part fits cpus.0 (missing-joined part less cpus.1)
+  missing-joined (Marked mark ∷ part) fits cpus = missing-joined part fits cpus.1
+  missing-joined (Silent ∷ part) fits cpus = missing-joined part fits cpus.1

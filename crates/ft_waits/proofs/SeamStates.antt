@@ -1,5 +1,5 @@
 -- The state after a part and the events before it.
-use Rattle.std.specs.Prelude.{◌≡◌, ◌≤◌, ◌<◌, ◌+◌, min, ℕ, ℤ, List, [], ◌∷◌, ◌++◌, length, reverse, take, map as list_map, Option, Some, None, is_some, unwrap_or, slice_index, slice_index_or}
+use Rattle.std.specs.Prelude.{◌≡◌, ◌≤◌, ◌<◌, ◌+◌, min, ℕ, List, [], ◌∷◌, ◌++◌, length, reverse, take, map as list_map, Option, Some, None, is_some, unwrap_or, slice_index, slice_index_or}
 use Rattle.std.specs.List.{AllByRecursion}
 use Rattle.std.specs.Option.{option_or}
 use Rattle.std.proofs.Common.{refl, sym, ap, subst, ◌∙◌, arith, get_or}
@@ -14,31 +14,33 @@ use Rattle.ft_fields.specs.Traced.{Traced, last_cpu}
 use Rattle.ft_fields.specs.declared.pos.Pos.{Pos}
 use Rattle.ft_dispatch.specs.Acts.{Act}
 use Rattle.ft_dispatch.specs.Joining.{place_behind, has_one, all_completed, AreOfTasks, Joins}
-use Rattle.ft_dispatch.specs.declared.act.PlacedAct.{PlacedAct}
 use Rattle.ft_dispatch.specs.declared.dispatch.Dispatch.{Dispatch}
-use Rattle.ft_dispatch.specs.declared.tasks.Tasks.{Tasks}
 use Rattle.ft_waits.specs.LeftOut.{left_out_of}
-use Rattle.ft_waits.specs.Missing.{running, missing_in}
-use Rattle.ft_waits.specs.Reading.{place_after, acts_of, first_stamp, latest}
-use Rattle.ft_waits.specs.inner.Known.{Settles, Orders, Follows, left_out_by}
+use Rattle.ft_losses.specs.Notes.{Note, Passed, Marked, Silent}
+use Rattle.ft_losses.specs.Telling.{IsOnCpu}
+use Rattle.ft_waits.specs.Missing.{passed, running, missing_in}
+use Rattle.ft_waits.specs.Reading.{place_after, acts_of, first_stamp, latest, CountsEvents, number_limit}
+use Rattle.ft_waits.specs.inner.Known.{Settles, Orders, Follows, Misses, left_out_by}
 use Rattle.ft_waits.specs.inner.Starts.{started, start_of, starts_of, Seam, seam_after, seam, missing_with}
-use Rattle.ft_waits.specs.inner.Seams.{held_behind, left_out_with, Meets, told_behind}
+use Rattle.ft_waits.specs.inner.Seams.{JoinsMisses, JoinsStates, held_behind, left_out_with, Meets, ShowsBoth, told_behind}
+use Rattle.ft_waits.specs.declared.kept.KeptActs.{KeptActs}
 use Rattle.ft_waits.specs.declared.left_out.LeftOut.{LeftOut}
 use Rattle.ft_waits.specs.declared.left_out.Without.{Without}
 use Rattle.ft_waits.specs.declared.missing.Missing.{Missing}
+use Rattle.ft_waits.specs.declared.ran.Ran.{Ran}
 use Rattle.ft_waits.specs.declared.starts.Start.{Start}
 use Rattle.ft_waits.specs.declared.state.State.{State}
 use Rattle.ft_waits.proofs.Ordering.{settled}
 use Rattle.ft_waits.proofs.Places.{acts-distinct}
 use Rattle.ft_waits.proofs.ReadingLines.{first-or}
-use Rattle.ft_waits.proofs.SeamStarts.{running-behind, missing-joined}
+use Rattle.ft_waits.proofs.SeamStarts.{running-behind, missing-joined, nothing-missing}
 use Rattle.ft_waits.proofs.Shifted.{acts-behind, acts-numbered, acts-pass, counts-behind, first-behind, latest-behind, no-events, left-out-behind}
 use Rattle.ft_waits.proofs.Together.{orders-joined}
 
 -- ---- the first events of CPUs
 
 -- one more
-pub seam-more : (ran : ℕ → Option ℤ) (move : Pos → Pos) (first : Seam) (starts : List Start) (i : ℕ) (one : Start) → i < length starts → one ≡ get_or starts i one
+pub seam-more : (ran : ℕ → Option Ran) (move : Pos → Pos) (first : Seam) (starts : List Start) (i : ℕ) (one : Start) → i < length starts → one ≡ get_or starts i one
     → seam ran move first (reverse (take (i + 1) starts)) ≡ seam_after (ran one.place.cpu) (move one.place) one (seam ran move first (reverse (take i starts)))
 unfolding seam
 seam-more ran move first starts i one within is =
@@ -47,22 +49,24 @@ seam-more ran move first starts i one within is =
     ∙ ap (λ (s : Start). seam_after (ran s.place.cpu) (move s.place) s (seam ran move first (reverse (take i starts)))) (sym is)
 
 -- the same of tasks that run on CPUs that there can be
-same-seam : (ran other : ℕ → Option ℤ) (move : Pos → Pos) (first : Seam) → ((cpu : ℕ) → cpu ≤ last_cpu → ran cpu ≡ other cpu) → (starts : List Start) → AllByRecursion (λ (s : Start). s.place.cpu ≤ last_cpu) starts
+same-seam : (ran other : ℕ → Option Ran) (move : Pos → Pos) (first : Seam) → ((cpu : ℕ) → cpu ≤ last_cpu → ran cpu ≡ other cpu) → (starts : List Start) → AllByRecursion (λ (s : Start). s.place.cpu ≤ last_cpu) starts
     → seam ran move first starts ≡ seam other move first starts
 unfolding seam
 same-seam ran other move first same [] cpus = refl
 same-seam ran other move first same (start ∷ starts) cpus =
-    ap (λ (o : Option ℤ). seam_after o (move start.place) start (seam ran move first starts)) (same start.place.cpu cpus.0)
+    ap (λ (o : Option Ran). seam_after o (move start.place) start (seam ran move first starts)) (same start.place.cpu cpus.0)
     ∙ ap (seam_after (other start.place.cpu) (move start.place) start) (same-seam ran other move first same starts cpus.1)
 
-one-start-on : (ran : Option ℤ) (start : Start) (starts : List Start) → start.place.cpu ≤ last_cpu → AllByRecursion (λ (s : Start). s.place.cpu ≤ last_cpu) starts → AllByRecursion (λ (s : Start). s.place.cpu ≤ last_cpu) (started ran start ++ starts)
+one-start-on : (ran : Option Ran) (start : Start) (starts : List Start) → start.place.cpu ≤ last_cpu → AllByRecursion (λ (s : Start). s.place.cpu ≤ last_cpu) starts → AllByRecursion (λ (s : Start). s.place.cpu ≤ last_cpu) (started ran start ++ starts)
 one-start-on None start starts here rest = (here, rest)
-one-start-on (Some pid) start starts here rest = rest
+one-start-on (Some ran) start starts here rest = rest
 
-starts-on : (events : List Traced) → AllByRecursion (λ (e : Traced). e.cpu ≤ last_cpu) events → AllByRecursion (λ (s : Start). s.place.cpu ≤ last_cpu) (starts_of events)
+starts-on : (notes : List Note) → AllByRecursion IsOnCpu notes → AllByRecursion (λ (s : Start). s.place.cpu ≤ last_cpu) (starts_of notes)
 unfolding starts_of
 starts-on [] cpus = tt
-starts-on (event ∷ before) cpus = one-start-on (running event.cpu before) (start_of event.pid (place_after before event) (missing_in before)) (starts_of before) cpus.0 (starts-on before cpus.1)
+starts-on (Passed event ∷ before) cpus = one-start-on (running event.cpu before) (start_of event.pid (place_after (passed before) event) (missing_in before)) (starts_of before) cpus.0 (starts-on before cpus.1)
+starts-on (Marked mark ∷ before) cpus = starts-on before cpus.1
+starts-on (Silent ∷ before) cpus = starts-on before cpus.1
 
 -- ---- what is left out
 
@@ -94,11 +98,12 @@ last-after (event ∷ before) first is all = all.0
 
 -- what the code does with a part that has events
 pub record Together (old part new : State) (out out_now : List Dispatch) (ones ones_now : List Dispatch) (first : ℕ) : Type 0 where
-  pub tasks : Tasks
+  pub before : KeptActs
   pub starts_with : part.first ≡ Some first
-  pub settles : Settles old.held.items old.tasks old.sums out tasks new.sums out_now
-  pub joins : Joins (place_behind old.lines.items) tasks part.tasks ones new.tasks ones_now
-  pub held : new.held.items ≡ list_map (held_behind (place_behind old.lines.items)) part.held.items
+  pub settles : Settles old.acts old.sums out before new.sums out_now
+  pub shows : ShowsBoth old.lines.items before part.acts new.acts
+  pub joins : Joins (place_behind old.lines.items) before.tasks part.acts.tasks ones new.acts.tasks ones_now
+  pub held : new.acts.held.items ≡ list_map (held_behind (place_behind old.lines.items)) part.acts.held.items
   pub seam_missing : Missing
   pub seam_is : ◌≡◌ {A = Seam} (record { missing = seam_missing; starts = new.starts.items })
       (seam (λ cpu. slice_index_or old.running.items cpu None) (place_behind old.lines.items) (record { missing = old.missing; starts = old.starts.items }) (reverse part.starts.items))
@@ -143,49 +148,60 @@ module _ (old part new : State) (out out_now ones ones_now : List Dispatch) (fir
     abbrev counts : List ℕ
     counts = old.lines.items
 
-    seam-is : ◌≡◌ {A = Seam} (record { missing = does.seam_missing; starts = new.starts.items })
-        (seam (λ cpu. running cpu before) (place_behind counts) (record { missing = missing_in before; starts = reverse (starts_of before) }) (starts_of own))
-    seam-is =
-        let ran : ℕ → Option ℤ = λ cpu. slice_index_or old.running.items cpu None in
-        does.seam_is
-        ∙ ap (seam ran (place_behind counts) (record { missing = old.missing; starts = old.starts.items })) (ap reverse follows_own.starts ∙ reverse-reverse (starts_of own))
-        ∙ (λ i. seam ran (place_behind counts) (record { missing = follows.missing i; starts = follows.starts i }) (starts_of own))
-        ∙ same-seam ran (λ cpu. running cpu before) (place_behind counts) (record { missing = missing_in before; starts = reverse (starts_of before) }) follows.runs (starts_of own) (starts-on own meets.cpus)
-
-    joined_orders : Orders new.tasks new.sums (list_map (held_behind (place_behind counts)) part.held.items) part.latest (acts_of all (own ++ before)) ((told ++ out_now) ++ told_behind counts all before apart)
+    joined_orders : Orders new.acts new.sums part.latest (own ++ before) (acts_of all (own ++ before)) ((told ++ out_now) ++ told_behind counts all before apart)
         × (ones_now ≡ told_behind counts all before ones)
     joined_orders =
         let later : latest before < first = first-passes (λ n. latest before < n) own first first_own meets.later in
-        let settled_first : Orders does.tasks new.sums [] first (acts_of all before) (told ++ out_now) =
-        settled old.tasks does.tasks old.sums new.sums old.held.items old.latest first (acts_of all before) told out out_now (omega (arith, follows.last, later)) does.settles follows.orders in
-        let orders_own : Orders part.tasks part.sums part.held.items part.latest (acts_of all own) apart =
-        subst (λ (ws : List Without). Orders part.tasks part.sums part.held.items part.latest (acts_of ws own) apart) (sym same) follows_own.orders in
+        let settled_first : Orders does.before new.sums first before (acts_of all before) (told ++ out_now) =
+        settled old.acts does.before old.sums new.sums old.latest first before (acts_of all before) told out out_now (omega (arith, follows.last, later)) does.settles follows.orders in
+        let orders_own : Orders part.acts part.sums part.latest own (acts_of all own) apart =
+        subst (λ (ws : List Without). Orders part.acts part.sums part.latest own (acts_of ws own) apart) (sym same) follows_own.orders in
         let rises = meets.rises first first_own in
         let last : first ≤ part.latest = omega (arith, follows_own.last, last-after own first first_own rises) in
-        orders-joined counts does.tasks part.tasks new.tasks new.sums part.sums new.sums part.held.items first part.latest (acts_of all before) (acts_of all own) (acts_of all (own ++ before)) (told ++ out_now) apart ones ones_now
-        settled_first orders_own (does.settles.sums.wanted ∙ ap is_some unsummed) does.joins of (acts-behind counts before follows.counts all own meets.fits meets.cpus) (acts-distinct all (own ++ before))
+        orders-joined counts does.before part.acts new.acts new.sums part.sums new.sums first part.latest before own (acts_of all before) (acts_of all own) (acts_of all (own ++ before)) (told ++ out_now) apart ones ones_now
+        settled_first does.settles.none orders_own (omega (arith, later)) does.shows does.held (does.settles.sums.wanted ∙ ap is_some unsummed) does.joins of (acts-behind counts before follows.counts all own meets.fits meets.cpus) (acts-distinct all (own ++ before))
         (acts-numbered counts before follows.counts all own meets.fits meets.cpus) (acts-pass (λ n. first ≤ n) all own rises) last
 
     pub follows-joined : Follows new (own ++ before) ((told ++ out_now) ++ told_behind counts all before apart) × (ones_now ≡ told_behind counts all before ones) × (left_out_by new.left_out.items ≡ all) × (is_some new.sums ≡ is_some old.sums)
-    follows-joined =
-        let both = missing-joined counts before follows.counts own meets.fits meets.cpus in
-        let seam_own = seam (λ cpu. running cpu before) (place_behind counts) (record { missing = missing_in before; starts = reverse (starts_of before) }) (starts_of own) in (
-          record {
-            counts = counts-behind counts part.lines.items new.lines.items before own follows.counts follows_own.counts meets.fits does.lines;
-            first = does.first_is ∙ first-or old.first first ∙ ap (λ (o : Option ℕ). option_or o (Some first)) follows.first ∙ ap (option_or (first_stamp before)) (sym first_own) ∙ sym (first-behind own before);
-            last = does.latest_is ∙ follows_own.last ∙ sym (latest-behind own before first first_own);
-            runs = λ cpu low. does.running cpu low ∙ (λ i. option_or (follows_own.runs cpu low i) (follows.runs cpu low i)) ∙ sym (running-behind cpu own before);
-            missing = does.missing ∙ (λ i. missing_with (place_behind counts) (seam-is i).missing (follows_own.missing i)) ∙ sym both.0;
-            starts = ap (λ (s : Seam). s.starts) seam-is ∙ sym both.1;
-            left_out = left_out_is ∙ ap (list_map (left_out_of (own ++ before))) (sym by_is);
-            orders = subst (λ (ws : List Without). Orders new.tasks new.sums new.held.items new.latest (acts_of ws (own ++ before)) ((told ++ out_now) ++ told_behind counts all before apart)) (sym by_is)
-                (subst (λ (held : List PlacedAct). Orders new.tasks new.sums held new.latest (acts_of all (own ++ before)) ((told ++ out_now) ++ told_behind counts all before apart)) (sym does.held)
-                (subst (λ (n : ℕ). Orders new.tasks new.sums (list_map (held_behind (place_behind counts)) part.held.items) n (acts_of all (own ++ before)) ((told ++ out_now) ++ told_behind counts all before apart)) (sym does.latest_is) joined_orders.0));
-          },
-          joined_orders.1,
-          by_is,
-          does.settles.sums.wanted,
-        )
+    follows-joined = (
+      record {
+        counts = counts-behind counts part.lines.items new.lines.items before own follows.counts follows_own.counts meets.fits does.lines;
+        first = does.first_is ∙ first-or old.first first ∙ ap (λ (o : Option ℕ). option_or o (Some first)) follows.first ∙ ap (option_or (first_stamp before)) (sym first_own) ∙ sym (first-behind own before);
+        last = does.latest_is ∙ follows_own.last ∙ sym (latest-behind own before first first_own);
+        left_out = left_out_is ∙ ap (list_map (left_out_of (own ++ before))) (sym by_is);
+        orders = subst (λ (ws : List Without). Orders new.acts new.sums new.latest (own ++ before) (acts_of ws (own ++ before)) ((told ++ out_now) ++ told_behind counts all before apart)) (sym by_is)
+            (subst (λ (n : ℕ). Orders new.acts new.sums n (own ++ before) (acts_of all (own ++ before)) ((told ++ out_now) ++ told_behind counts all before apart)) (sym does.latest_is) joined_orders.0);
+      },
+      joined_orders.1,
+      by_is,
+      does.settles.sums.wanted,
+    )
+
+  module _ (before own : List Note) (counted : CountsEvents old.lines.items (passed before)) (misses : Misses old before) (misses_own : Misses part own)
+      (fits : length (passed own) + length (passed before) ≤ number_limit) (cpus : AllByRecursion IsOnCpu own) where
+    seam-is : ◌≡◌ {A = Seam} (record { missing = does.seam_missing; starts = new.starts.items })
+        (seam (λ cpu. running cpu before) (place_behind old.lines.items) (record { missing = missing_in before; starts = reverse (starts_of before) }) (starts_of own))
+    seam-is =
+        let ran : ℕ → Option Ran = λ cpu. slice_index_or old.running.items cpu None in
+        does.seam_is
+        ∙ ap (seam ran (place_behind old.lines.items) (record { missing = old.missing; starts = old.starts.items })) (ap reverse misses_own.starts ∙ reverse-reverse (starts_of own))
+        ∙ (λ i. seam ran (place_behind old.lines.items) (record { missing = misses.missing i; starts = misses.starts i }) (starts_of own))
+        ∙ same-seam ran (λ cpu. running cpu before) (place_behind old.lines.items) (record { missing = missing_in before; starts = reverse (starts_of before) }) misses.runs (starts_of own) (starts-on own cpus)
+
+    pub misses-joined : Misses new (own ++ before)
+    misses-joined =
+        let both = missing-joined old.lines.items before counted own fits cpus in
+        record {
+          runs = λ cpu low. does.running cpu low ∙ (λ i. option_or (misses_own.runs cpu low i) (misses.runs cpu low i)) ∙ sym (running-behind cpu own before);
+          missing = does.missing ∙ (λ i. missing_with (place_behind old.lines.items) (seam-is i).missing (misses_own.missing i)) ∙ sym both.0;
+          starts = ap (λ (s : Seam). s.starts) seam-is ∙ sym both.1;
+        }
+
+  pub all-joined : JoinsStates old part out ones new out_now ones_now × JoinsMisses old part new
+  all-joined = (
+    λ before own told apart follows follows_own same unsummed meets of. follows-joined before own told apart follows follows_own same unsummed meets of,
+    λ before own counted is misses misses_own fits cpus. misses-joined before own counted misses misses_own fits cpus,
+  )
 
 -- ---- nothing of it
 
@@ -210,8 +226,8 @@ pub nothing-joined : (old part : State) (out ones : List Dispatch) → part.firs
 unfolding acts_of all_completed
 nothing-joined old part out ones none before own told apart follows follows_own of =
     let empty : own ≡ [] = no-events own (sym follows_own.first ∙ none) in
-    let orders = subst (λ (es : List Traced). Orders part.tasks part.sums part.held.items part.latest (acts_of (left_out_by part.left_out.items) es) apart) empty follows_own.orders in
-    let untold : apart ≡ [] = orders.tells.tells ∙ ap (λ (es : List (Pos × Act)). dispatches (reverse es)) (nothing-done orders.done (entries_of part.held.items) orders.all) ∙ no-dispatches in
+    let orders = subst (λ (es : List Traced). Orders part.acts part.sums part.latest es (acts_of (left_out_by part.left_out.items) es) apart) empty follows_own.orders in
+    let untold : apart ≡ [] = orders.tells.tells ∙ ap (λ (es : List (Pos × Act)). dispatches (reverse es)) (nothing-done orders.done (entries_of part.acts.held.items) orders.all) ∙ no-dispatches in
     let unshown : ones ≡ [] = none-of ones (λ pid. of pid ∙ ap (has_one pid) untold) in
     let behind : (ds : List Dispatch) → ds ≡ [] → told_behind old.lines.items (left_out_by old.left_out.items) before ds ≡ [] = λ ds is. ap (told_behind old.lines.items (left_out_by old.left_out.items) before) is in (
       subst (λ (es : List Traced). Follows old (es ++ before) ((told ++ out) ++ told_behind old.lines.items (left_out_by old.left_out.items) before apart)) (sym empty)
@@ -220,3 +236,12 @@ nothing-joined old part out ones none before own told apart follows follows_own 
       refl,
       refl,
     )
+
+pub nothing-missed : (old part new : State) → ((cpu : ℕ) → cpu ≤ last_cpu → slice_index_or new.running.items cpu None ≡ option_or (slice_index_or part.running.items cpu None) (slice_index_or old.running.items cpu None)) → new.missing ≡ old.missing → new.starts.items ≡ old.starts.items → (before own : List Note) → passed own ≡ [] → Misses old before → Misses part own → Misses new (own ++ before)
+nothing-missed old part new runs missing starts before own none misses misses_own =
+    let both = nothing-missing before own none in
+    record {
+      runs = λ cpu low. runs cpu low ∙ (λ i. option_or (misses_own.runs cpu low i) (misses.runs cpu low i)) ∙ sym (running-behind cpu own before);
+      missing = missing ∙ misses.missing ∙ sym both.0;
+      starts = starts ∙ misses.starts ∙ ap reverse (sym both.1);
+    }

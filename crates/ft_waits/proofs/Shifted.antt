@@ -12,7 +12,7 @@ use Rattle.ft_dispatch.specs.Joining.{place_behind, act_behind}
 use Rattle.ft_waits.specs.LeftOut.{act_without, has_name, leaves_out, left_out_of}
 use Rattle.ft_waits.specs.Reading.{place_after, act_at, acts_of, first_stamp, latest, number_limit, CountsEvents}
 use Rattle.ft_waits.specs.inner.Known.{most_counted}
-use Rattle.ft_waits.specs.inner.Seams.{left_out_with}
+use Rattle.ft_waits.specs.inner.Seams.{HasNumber, left_out_with}
 use Rattle.ft_waits.specs.declared.left_out.Without.{Without}
 use Rattle.ft_waits.proofs.Counting.{of_cpu}
 
@@ -37,10 +37,6 @@ place-behind-is counts before part event counted cpu fits =
 said-behind : (move : Pos → Pos) (place : Pos) (act : Option Act) → act_at (move place) act ≡ list_map (act_behind move) (act_at place act)
 said-behind move place None = refl
 said-behind move place (Some act) = refl
-
--- an act whose line has a number behind
-abbrev pub HasNumber : List ℕ → Pos × Act → Type 0
-HasNumber counts entry = entry.0.line + slice_index counts entry.0.cpu ≤ 4294967295
 
 module _ (counts : List ℕ) (before : List Traced) (counted : CountsEvents counts before) (without : List Without) where
   -- what a part and the events before it say

@@ -1,5 +1,5 @@
 -- What was read so far, and events that are left out of a text of which nothing was read.
-use Rattle.std.specs.Prelude.{◌≡◌, ◌==◌, ◌+◌, ℕ, ℤ, Bool, true, false, List, [], ◌∷◌, ◌++◌, length, reverse, take, map, Vec, Option, Some, None, is_some, option_map, IsPermutation, if◌then◌else◌}
+use Rattle.std.specs.Prelude.{◌≡◌, ◌==◌, ◌+◌, ℕ, Bool, true, false, List, [], ◌∷◌, ◌++◌, length, reverse, take, map, Vec, Option, Some, None, is_some, option_map, IsPermutation, if◌then◌else◌}
 use Rattle.std.specs.List.{list_any}
 use Rattle.std.specs.declared.alloc.Global.{Global}
 use Rattle.std.proofs.Common.{refl, sym, ap, subst, ◌∙◌, arith}
@@ -8,9 +8,7 @@ use Rattle.std.proofs.lemmas.List.Sorted.{length_permutation}
 use Rattle.ft_text.specs.Lines.{lines_of, onto_first, ended_lines, onto_ended}
 use Rattle.ft_dispatch.specs.Acts.{Act}
 use Rattle.ft_dispatch.specs.Telling.{entries_of}
-use Rattle.ft_dispatch.specs.declared.act.PlacedAct.{PlacedAct}
 use Rattle.ft_dispatch.specs.declared.dispatch.Dispatch.{Dispatch}
-use Rattle.ft_dispatch.specs.declared.tasks.Tasks.{Tasks}
 use Rattle.ft_fields.specs.declared.pos.Pos.{Pos}
 use Rattle.ft_losses.specs.Telling.{Keeps}
 use Rattle.ft_summary.specs.Telling.{Tells as Sums}
@@ -23,9 +21,11 @@ use Rattle.ft_waits.specs.Streams.{HasRead, HasReadBy, counts_kept, last_kept}
 use Rattle.ft_waits.specs.declared.fault.LinesRead.{LinesRead}
 use Rattle.ft_waits.specs.declared.fault.WaitsFault.{WaitsFault}
 use Rattle.ft_waits.specs.declared.fault.BadLines.{BadLines}
+use Rattle.ft_waits.specs.declared.kept.KeptActs.{KeptActs}
 use Rattle.ft_waits.specs.declared.left_out.LeftOut.{LeftOut}
 use Rattle.ft_waits.specs.declared.left_out.Without.{Without}
 use Rattle.ft_waits.specs.declared.reading.Reading.{Reading}
+use Rattle.ft_waits.specs.declared.ran.Ran.{Ran}
 use Rattle.ft_waits.specs.declared.starts.Start.{Start}
 use Rattle.ft_waits.specs.declared.stream.Waits.{Waits}
 use Rattle.ft_waits.specs.inner.Known.{left_out_by, Orders}
@@ -128,8 +128,7 @@ pub record CountsAnew (old new : Reading) : Type 0 where
   pub lines : new.state.lines ≡ old.state.lines
   pub first : new.state.first ≡ old.state.first
   pub latest : new.state.latest ≡ old.state.latest
-  pub held : new.state.held ≡ old.state.held
-  pub tasks : new.state.tasks ≡ old.state.tasks
+  pub acts : new.state.acts ≡ old.state.acts
   pub running : new.state.running ≡ old.state.running
   pub missing : new.state.missing ≡ old.state.missing
   pub starts : new.state.starts ≡ old.state.starts
@@ -148,20 +147,21 @@ added-lines old new without told same is reads =
       notes = reads.notes;
       noted = reads.noted;
       losses = subst (λ (losses : Losses). Keeps losses reads.notes) (sym same.losses) reads.losses;
+      misses = record {
+        runs = subst (λ (running : Vec (Option Ran) Global). RunsTasks running.items reads.notes) (sym same.running) reads.misses.runs;
+        missing = same.missing ∙ reads.misses.missing;
+        starts = ap (λ (starts : Vec Start Global). starts.items) same.starts ∙ reads.misses.starts;
+      };
       state = record {
         counts = subst (λ (lines : Vec ℕ Global). CountsEvents lines.items []) (sym same.lines) reads.state.counts;
         first = same.first ∙ reads.state.first;
         last = same.latest ∙ reads.state.last;
-        runs = subst (λ (running : Vec (Option ℤ) Global). RunsTasks running.items []) (sym same.running) reads.state.runs;
-        missing = same.missing ∙ reads.state.missing;
-        starts = ap (λ (starts : Vec Start Global). starts.items) same.starts ∙ reads.state.starts;
         left_out = is ∙ ap (λ (cs : List LeftOut). cs ++ one ∷ []) reads.state.left_out
             ∙ sym (ap (λ (cs : List LeftOut). map (left_out_of []) (left_out_by cs)) is ∙ ap (map (left_out_of [])) by ∙ map-append (left_out_of []) (left_out_by counts) (without ∷ []));
         orders =
-            subst (λ (tasks : Tasks). Orders tasks new.state.sums new.state.held.items new.state.latest [] told) (sym same.tasks)
-            (subst (λ (sums : Option Summary). Orders old.state.tasks sums new.state.held.items new.state.latest [] told) (sym same.sums)
-            (subst (λ (held : Vec PlacedAct Global). Orders old.state.tasks old.state.sums held.items new.state.latest [] told) (sym same.held)
-            (subst (λ (latest : ℕ). Orders old.state.tasks old.state.sums old.state.held.items latest [] told) (sym same.latest) reads.state.orders)));
+            subst (λ (kept : KeptActs). Orders kept new.state.sums new.state.latest [] [] told) (sym same.acts)
+            (subst (λ (sums : Option Summary). Orders old.state.acts sums new.state.latest [] [] told) (sym same.sums)
+            (subst (λ (latest : ℕ). Orders old.state.acts old.state.sums latest [] [] told) (sym same.latest) reads.state.orders));
       };
     }
 
@@ -196,8 +196,7 @@ pub record SumsAnew (old new : Reading) : Type 0 where
   pub lines : new.state.lines ≡ old.state.lines
   pub first : new.state.first ≡ old.state.first
   pub latest : new.state.latest ≡ old.state.latest
-  pub held : new.state.held ≡ old.state.held
-  pub tasks : new.state.tasks ≡ old.state.tasks
+  pub acts : new.state.acts ≡ old.state.acts
   pub running : new.state.running ≡ old.state.running
   pub missing : new.state.missing ≡ old.state.missing
   pub starts : new.state.starts ≡ old.state.starts
@@ -210,8 +209,8 @@ nothing-done done held all =
     let parts = length-append done held in
     nil_from_length done (omega (arith, size, parts))
 
-orders-summed : (tasks : Tasks) (sums : Option Summary) (summary : Summary) (held : List PlacedAct) (latest : ℕ) (told : List Dispatch) → Sums summary [] → Orders tasks sums held latest [] told → Orders tasks (Some summary) held latest [] told
-orders-summed tasks sums summary held latest told tells orders = record {
+orders-summed : (kept : KeptActs) (sums : Option Summary) (summary : Summary) (latest : ℕ) (told : List Dispatch) → Sums summary [] → Orders kept sums latest [] [] told → Orders kept (Some summary) latest [] [] told
+orders-summed kept sums summary latest told tells orders = record {
   done = orders.done;
   sorted = orders.sorted;
   earlier = orders.earlier;
@@ -219,7 +218,8 @@ orders-summed tasks sums summary held latest told tells orders = record {
   all = orders.all;
   distinct = orders.distinct;
   tells = orders.tells;
-  sums = subst (λ (done : List (Pos × Act)). Sums summary (reverse done)) (sym (nothing-done orders.done (entries_of held) orders.all)) tells;
+  shows = orders.shows;
+  sums = subst (λ (done : List (Pos × Act)). Sums summary (reverse done)) (sym (nothing-done orders.done (entries_of kept.held.items) orders.all)) tells;
 }
 
 summed-lines : (old new : Reading) (summary : Summary) (told : List Dispatch) → SumsAnew old new → new.state.sums ≡ Some summary → Sums summary [] → ReadsLines old [] told → ReadsLines new [] told
@@ -230,20 +230,21 @@ summed-lines old new summary told same is tells reads = record {
   notes = reads.notes;
   noted = reads.noted;
   losses = subst (λ (losses : Losses). Keeps losses reads.notes) (sym same.losses) reads.losses;
+  misses = record {
+    runs = subst (λ (running : Vec (Option Ran) Global). RunsTasks running.items reads.notes) (sym same.running) reads.misses.runs;
+    missing = same.missing ∙ reads.misses.missing;
+    starts = ap (λ (starts : Vec Start Global). starts.items) same.starts ∙ reads.misses.starts;
+  };
   state = record {
     counts = subst (λ (lines : Vec ℕ Global). CountsEvents lines.items []) (sym same.lines) reads.state.counts;
     first = same.first ∙ reads.state.first;
     last = same.latest ∙ reads.state.last;
-    runs = subst (λ (running : Vec (Option ℤ) Global). RunsTasks running.items []) (sym same.running) reads.state.runs;
-    missing = same.missing ∙ reads.state.missing;
-    starts = ap (λ (starts : Vec Start Global). starts.items) same.starts ∙ reads.state.starts;
     left_out = subst (λ (counts : Vec LeftOut Global). counts.items ≡ map (left_out_of []) (left_out_by counts.items)) (sym same.left_out) reads.state.left_out;
     orders =
-        subst (λ (tasks : Tasks). Orders tasks new.state.sums new.state.held.items new.state.latest [] told) (sym same.tasks)
-        (subst (λ (sums : Option Summary). Orders old.state.tasks sums new.state.held.items new.state.latest [] told) (sym is)
-        (subst (λ (held : Vec PlacedAct Global). Orders old.state.tasks (Some summary) held.items new.state.latest [] told) (sym same.held)
-        (subst (λ (latest : ℕ). Orders old.state.tasks (Some summary) old.state.held.items latest [] told) (sym same.latest)
-        (orders-summed old.state.tasks old.state.sums summary old.state.held.items old.state.latest told tells reads.state.orders))));
+        subst (λ (kept : KeptActs). Orders kept new.state.sums new.state.latest [] [] told) (sym same.acts)
+        (subst (λ (sums : Option Summary). Orders old.state.acts sums new.state.latest [] [] told) (sym is)
+        (subst (λ (latest : ℕ). Orders old.state.acts (Some summary) latest [] [] told) (sym same.latest)
+        (orders-summed old.state.acts old.state.sums summary old.state.latest told tells reads.state.orders)));
   };
 }
 

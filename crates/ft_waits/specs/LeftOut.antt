@@ -26,7 +26,7 @@ act_unless false act = act
 
 -- what an event says of who runs, unless it is left out by one of these
 abbrev pub act_without : List Without → Traced → Option Act
-act_without all event = act_unless (is_left_out all event) (act_of event.body)
+act_without all event = act_unless (is_left_out all event) (act_of event.pid event.body)
 
 -- how many events have the name, and how many of them are left out by this
 abbrev pub left_out_of : List Traced → Without → LeftOut

@@ -3,6 +3,7 @@ pub mod LeftOut
 pub mod Reading
 pub mod Missing
 pub mod Moving
+pub mod Lost
 pub mod Streams
 pub mod Joining
 pub mod Summing

@@ -3,22 +3,28 @@
 ghost use Rattle.std.specs.Prelude.{◌≡◌, ◌≤◌, ◌++◌, ◌∷◌, [], ℕ, List, None, reverse, nat_lt, is_some, OnOk, IfOk, IfErr, vec_len, ◌⊎◌};
 ghost use Rattle.ft_fields.specs.Borrowed.{event_told, owned_body};
 ghost use Rattle.ft_fields.specs.Traced.{Traced};
+ghost use Rattle.ft_losses.specs.Notes.{Note, Passed};
+ghost use Rattle.ft_waits.specs.Missing.{passed};
 ghost use Rattle.ft_dispatch.specs.Acts.{Act, act_of};
 ghost use Rattle.ft_waits.specs.LeftOut.{act_unless};
 ghost use Rattle.ft_waits.specs.Reading.{place_after, act_at, in_order, acts_of, CountsEvents};
 ghost use Rattle.ft_dispatch.specs.Dispatches.{dispatches};
-ghost use Rattle.ft_waits.specs.inner.Known.{Follows, IsNumbered, Orders, SumsTell, left_out_by};
+ghost use Rattle.ft_dispatch.specs.Showings.{showings};
+ghost use Rattle.ft_waits.specs.inner.Known.{Follows, IsNumbered, Misses, Orders, SumsTell, left_out_by};
 ghost use Rattle.ft_dispatch.specs.Telling.{entries_of};
+ghost use Rattle.ft_windows.specs.Telling.{Keeps as KeepsWindows};
 
 use crate::fault::WaitsFault;
+use crate::kept::KeptActs;
 use crate::left_out::count_left_out;
 use crate::missing::{Missing, none_running, notice};
 use crate::starts::note_start;
 use crate::state::{CPUS, State};
 use crate::steps::settle;
-use ft_dispatch::{Dispatch, PlacedAct, Tasks};
-use ft_fields::{BodyRef, EventRef, Pos};
+use ft_dispatch::{Dispatch, PlacedAct, Shown, Tasks};
+use ft_fields::{EventRef, Pos};
 use ft_summary::Summary;
+use ft_windows::Windows;
 use std::alloc::{AllocError, Global};
 
 /// No events of any CPU.
@@ -55,24 +61,35 @@ fn count(lines: &mut Vec<u32>, event: &EventRef<'_>) -> Result<Pos, WaitsFault>
     })
 }
 
+/// No acts.
+fn no_acts(alloc: Global) -> Result<KeptActs, AllocError>
+    ensures { IfOk result (λ acts. Orders acts None 0 [] [] []) }
+{
+    Ok(KeptActs {
+        held: Vec::new(alloc),
+        tasks: Tasks::new(alloc),
+        shown: Shown::new(alloc),
+        windows: Windows::new(alloc)?,
+    })
+}
+
 /// Goes on to a stamp: if it is a later one, the acts of the one before are taken in their order, and
 /// their dispatches added.
 #[inline(always)]
 fn advance(
     is_later: bool,
-    tasks: &mut Tasks,
+    acts: &mut KeptActs,
     sums: &mut Option<Summary>,
-    held: &mut Vec<PlacedAct>,
     out: &mut Vec<Dispatch>,
 ) -> Result<(), AllocError>
     ensures orders { OnOk result ((latest stamp : ℕ) → latest ≤ stamp → is_later ≡ nat_lt latest stamp
-        → (acts : List (Pos × Act)) (told : List Dispatch)
-        → Orders tasks.old sums.old held.old.items latest acts (told ++ out.old.items)
-        → Orders tasks.new sums.new held.new.items stamp acts (told ++ out.new.items)) }
+        → (events : List Traced) (entries : List (Pos × Act)) (told : List Dispatch)
+        → Orders acts.old sums.old latest events entries (told ++ out.old.items)
+        → Orders acts.new sums.new stamp events entries (told ++ out.new.items)) }
     ensures sums { OnOk result (is_some sums.new ≡ is_some sums.old) }
 {
     if is_later {
-        settle(tasks, sums, held, out)?;
+        settle(acts, sums, out)?;
     }
     Ok(())
 }
@@ -82,16 +99,16 @@ fn advance(
 fn hold(
     held: &mut Vec<PlacedAct>,
     is_left_out: bool,
-    body: &BodyRef<'_>,
+    event: &EventRef<'_>,
     place: Pos,
 ) -> Result<(), AllocError>
     ensures { OnOk result (entries_of held.new.items
-        ≡ entries_of held.old.items ++ act_at place (act_unless is_left_out (act_of (owned_body body.now)))) }
+        ≡ entries_of held.old.items ++ act_at place (act_unless is_left_out (act_of event.now.pid (owned_body event.now.body)))) }
 {
     if is_left_out {
         return Ok(());
     }
-    match PlacedAct::of(body, place) {
+    match PlacedAct::of(event.pid, &event.body, place) {
         Some(one) => held.push(one)?,
         None => {}
     }
@@ -102,6 +119,7 @@ impl State {
     /// No events.
     pub(crate) fn new(alloc: Global) -> Result<State, AllocError>
         ensures follows { IfOk result (λ state. Follows state [] []) }
+        ensures misses { IfOk result (λ state. Misses state []) }
         ensures left_out { IfOk result (λ state. state.left_out.items ≡ []) }
         ensures sums { IfOk result (λ state. state.sums ≡ None) }
     {
@@ -109,8 +127,7 @@ impl State {
             lines: no_lines(alloc)?,
             first: None,
             latest: 0,
-            held: Vec::new(alloc),
-            tasks: Tasks::new(alloc),
+            acts: no_acts(alloc)?,
             sums: None,
             running: none_running(alloc)?,
             starts: Vec::new(alloc),
@@ -131,8 +148,11 @@ impl State {
         ensures follows { OnOk result ((events : List Traced) (told : List Dispatch)
             → Follows self.old events (told ++ out.old.items)
             → Follows self.new (event_told event.now ∷ events) (told ++ out.new.items)) }
+        ensures misses { OnOk result ((notes : List Note) → CountsEvents self.old.lines.items (passed notes)
+            → Misses self.old notes → Misses self.new (Passed (event_told event.now) ∷ notes)) }
         ensures fails { IfErr result (λ fault. (fault ≡ WaitsFault.Memory) ⊎ ((fault ≡ WaitsFault.TooLong)
-            × ((events : List Traced) (told : List Dispatch) → Follows self.old events told → IsNumbered events))) }
+            × ((notes : List Note) (told : List Dispatch) → Follows self.old (passed notes) told → Misses self.old notes
+            → IsNumbered (passed notes)))) }
         ensures left_out { OnOk result (left_out_by self.new.left_out.items ≡ left_out_by self.old.left_out.items) }
         ensures sums { OnOk result (is_some self.new.sums ≡ is_some self.old.sums) }
     {
@@ -140,17 +160,12 @@ impl State {
         note_start(&mut self.starts, &self.running, &self.missing, event, place)?;
         notice(&mut self.running, &mut self.missing, event, place)?;
         let is_later = self.latest < event.stamp;
-        advance(
-            is_later,
-            &mut self.tasks,
-            &mut self.sums,
-            &mut self.held,
-            out,
-        )?;
+        advance(is_later, &mut self.acts, &mut self.sums, out)?;
         self.first = Some(self.first.unwrap_or(event.stamp));
         self.latest = event.stamp;
         let is_left_out = count_left_out(&mut self.left_out, event)?;
-        hold(&mut self.held, is_left_out, &event.body, place)?;
+        hold(&mut self.acts.held, is_left_out, event, place)?;
+        self.acts.windows.take(event)?;
         Ok(())
     }
 
@@ -163,12 +178,16 @@ impl State {
             → Follows self.old events (told ++ out.old.items)
             → SumsTell self.new.sums (reverse (in_order (acts_of (left_out_by self.old.left_out.items) events)))) }
         ensures wanted { OnOk result (is_some self.new.sums ≡ is_some self.old.sums) }
+        ensures windows { OnOk result ((events : List Traced) (told : List Dispatch)
+            → Follows self.old events (told ++ out.old.items)
+            → KeepsWindows self.new.acts.windows events
+            (showings (reverse (in_order (acts_of (left_out_by self.old.left_out.items) events))))) }
         ensures missing { self.new.missing ≡ self.old.missing }
         ensures first { self.new.first ≡ self.old.first }
         ensures latest { self.new.latest ≡ self.old.latest }
         ensures lines { self.new.lines ≡ self.old.lines }
         ensures left_out { self.new.left_out ≡ self.old.left_out }
     {
-        settle(&mut self.tasks, &mut self.sums, &mut self.held, out)
+        settle(&mut self.acts, &mut self.sums, out)
     }
 }

@@ -54,7 +54,7 @@ pub struct TextRead {
     pub left_out: Vec<LeftOut>,
     /// The sums of the acts of its events, if they were requested.
     pub sums: Option<Sums>,
-    /// Where events were lost.
+    /// Where events were lost: as lines report it, and as events show it though no line does.
     pub losses: LossesRead,
 }
 

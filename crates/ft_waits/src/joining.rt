@@ -3,18 +3,22 @@
 ghost use Rattle.std.specs.Prelude.{◌≡◌, ◌≤◌, ◌<◌, ◌+◌, ◌++◌, min, ℕ, ℤ, List, None, reverse, length, get_or, map as list_map, option_map, OnOk, IfOk, vec_len, slice_index, slice_index_or};
 ghost use Rattle.std.specs.Option.{option_or};
 ghost use Rattle.ft_fields.specs.Traced.{last_cpu};
-ghost use Rattle.ft_dispatch.specs.Joining.{place_behind};
+ghost use Rattle.ft_dispatch.specs.Joining.{place_behind, Joins};
 ghost use Rattle.ft_waits.specs.Missing.{is_other};
 ghost use Rattle.ft_waits.specs.inner.Starts.{Seam, with_start, seam_after, seam, missing_with};
-ghost use Rattle.ft_waits.specs.inner.Seams.{held_behind, left_out_with, JoinsStates};
+ghost use Rattle.ft_waits.specs.inner.Seams.{held_behind, left_out_with, JoinsMisses, JoinsStates, ShowsBoth};
 
+use crate::kept::KeptActs;
 use crate::left_out::LeftOut;
 use crate::missing::{Missing, is_other};
+use crate::ran::Ran;
+use crate::showing::show_part;
 use crate::starts::{Start, running_on};
 use crate::state::{CPUS, State};
 use crate::steps::settle;
-use ft_dispatch::{Dispatch, PlacedAct};
+use ft_dispatch::{Dispatch, PlacedAct, first_wakings_join, showings_move};
 use ft_fields::Pos;
+use ft_windows::showings_in_any_order;
 use std::alloc::AllocError;
 
 /// A place of a part, behind so many events of each CPU.
@@ -52,6 +56,34 @@ fn add_held(held: &mut Vec<PlacedAct>, counts: &[u32], part: &[PlacedAct]) -> Re
     Ok(())
 }
 
+/// Joins the acts of a part, behind those events, if no act before is held. Completes the dispatches of the part,
+/// and gives what its first wakings show to the windows.
+fn join_acts(
+    acts: &mut KeptActs,
+    part: KeptActs,
+    counts: &[u32],
+    ones: &mut [Dispatch],
+) -> Result<(), AllocError>
+    ensures joins { OnOk result (Joins (place_behind counts.now) acts.old.tasks part.tasks ones.old acts.new.tasks ones.new) }
+    ensures held { OnOk result (acts.new.held.items
+        ≡ acts.old.held.items ++ list_map (held_behind (place_behind counts.now)) part.held.items) }
+    ensures shows { OnOk result (ShowsBoth counts.now acts.old part acts.new) }
+{
+    first_wakings_join();
+    showings_move();
+    showings_in_any_order();
+    let KeptActs {
+        held,
+        tasks,
+        shown,
+        windows,
+    } = part;
+    show_part(acts, &shown.firsts, windows)?;
+    acts.tasks.join(tasks, counts, ones)?;
+    add_held(&mut acts.held, counts, &held)?;
+    Ok(())
+}
+
 impl Missing {
     /// Counts the first event of a CPU in a part, if another task runs than before the part.
     fn count_start(&mut self, other: bool, is_clear: bool, place: Pos)
@@ -78,11 +110,11 @@ impl Missing {
     }
 }
 
-/// Takes the first event of a CPU in a part, by the task that the CPU ran before the part.
+/// Takes the first event of a CPU in a part, by what the CPU ran before the part.
 fn take_start(
     missing: &mut Missing,
     starts: &mut Vec<Start>,
-    ran: Option<i32>,
+    ran: Option<Ran>,
     place: Pos,
     start: &Start,
 ) -> Result<(), AllocError>
@@ -114,7 +146,7 @@ fn start_at(part: &[Start], number: usize) -> Start
 fn take_starts(
     missing: &mut Missing,
     starts: &mut Vec<Start>,
-    running: &[Option<i32>],
+    running: &[Option<Ran>],
     counts: &[u32],
     part: &[Start],
 ) -> Result<(), AllocError>
@@ -131,8 +163,8 @@ fn take_starts(
     Ok(())
 }
 
-/// Puts the tasks that CPUs run after a part over those before it.
-fn put_running(running: &mut Vec<Option<i32>>, part: &[Option<i32>])
+/// Puts what CPUs run after a part over what they ran before it.
+fn put_running(running: &mut Vec<Option<Ran>>, part: &[Option<Ran>])
     requires { vec_len running.old ≡ 8192 }
     ensures len { vec_len running.new ≡ 8192 }
     ensures at { (cpu : ℕ) → cpu ≤ last_cpu → slice_index_or running.new.items cpu None
@@ -196,14 +228,15 @@ impl State {
         ones: &mut [Dispatch],
     ) -> Result<(), AllocError>
         requires { length self.old.left_out.items ≡ length part.left_out.items }
-        ensures { OnOk result (JoinsStates self.old part out.old.items ones.old self.new out.new.items ones.new) }
+        ensures { OnOk result (JoinsStates self.old part out.old.items ones.old self.new out.new.items ones.new
+            × JoinsMisses self.old part self.new) }
     {
         let Some(first) = part.first else {
+            put_running(&mut self.running, &part.running);
             return Ok(());
         };
-        settle(&mut self.tasks, &mut self.sums, &mut self.held, out)?;
-        self.tasks.join(part.tasks, &self.lines, ones)?;
-        add_held(&mut self.held, &self.lines, &part.held)?;
+        settle(&mut self.acts, &mut self.sums, out)?;
+        join_acts(&mut self.acts, part.acts, &self.lines, ones)?;
         take_starts(
             &mut self.missing,
             &mut self.starts,

@@ -9,5 +9,5 @@ ghost use Rattle.ft_waits.specs.Reading.{place_after, act_at, acts_of};
 pub fn nothing_left_out()
     ensures none { acts_of [] [] ≡ [] }
     ensures more { (event : Traced) (before : List Traced)
-        → acts_of [] (event ∷ before) ≡ act_at (place_after before event) (act_of event.body) ++ acts_of [] before }
+        → acts_of [] (event ∷ before) ≡ act_at (place_after before event) (act_of event.pid event.body) ++ acts_of [] before }
 {}

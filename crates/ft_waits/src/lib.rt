@@ -17,21 +17,24 @@
 //!
 //! # Contracts
 //!
-//! - `Waits::new`, `feed`, `finish`: what was told of the pieces is what the whole text tells,
-//!   however it is cut: `dispatches_in` (`specs/Reading.antt`). Events count in the order of stamp,
-//!   CPU and line, as in the desk; `ft_dispatch` says what a dispatch is. `finish` reports how many
-//!   lines there are, how many of them can't be read, and the first of these (`lines_read`); and
-//!   how many switches are missing, as far as events show it by the task that ran (`missing_in`,
-//!   `specs/Missing.antt`). A text is refused at the first line that can't be read, unless such
-//!   lines are skipped, or whose stamp is before the last event's (`refused`); otherwise it fails
-//!   only for memory, and for more than 4,294,967,295 lines. A stream that failed answers the same
-//!   from then on. Lets through: running out of memory at any time; how early a dispatch is told,
-//!   and which are told before a failure.
+//! - `Waits::new`, `feed`, `finish`: what was told of the pieces is what the whole text tells, however
+//!   it is cut: `dispatches_in` (`specs/Reading.antt`). Events count in the order of stamp, CPU and
+//!   line, as in the desk; `ft_dispatch` says what a dispatch is. `finish` reports how many lines there
+//!   are, how many of them can't be read, and the first of these (`lines_read`); how many switches are
+//!   missing, as far as events show it by the task that ran, and no line reports a loss (`missing_in`,
+//!   `specs/Missing.antt`); and where events were lost, as lines report it, and as events show it
+//!   though no line does: the holes of `ft_losses` and of `ft_windows` (`AreAllLosses`,
+//!   `specs/Lost.antt`). A text is refused at the first line that can't be read, unless such lines are
+//!   skipped, or whose stamp is before the last event's (`refused`); otherwise it fails only for
+//!   memory, and for more than 4,294,967,295 lines. A stream that failed answers the same from then on.
+//!   Lets through: running out of memory at any time; how early a dispatch is told, and which are told
+//!   before a failure.
 //! - `Waits::leave_out`: events of a name that pass a filter say nothing of who runs (`acts_of`, by
-//!   `specs/LeftOut.antt`): the dispatches are those of `dispatches_in` without them, and all else is
-//!   told of the whole text. `finish` reports how many events have the name, and how many of them pass
-//!   (`left_out_of`). Refused once bytes of the text were read, and for memory. Law `nothing_left_out`:
-//!   with no filters each event says what it says.
+//!   `specs/LeftOut.antt`): the dispatches are those of `dispatches_in` without them, what shows that a
+//!   task ran unseen is what the other acts show, and all else is told of the whole text. `finish`
+//!   reports how many events have the name, and how many of them pass (`left_out_of`). Refused once
+//!   bytes of the text were read, and for memory. Law `nothing_left_out`: with no filters each event
+//!   says what it says.
 //! - `Waits::sum_up`: `finish` reports what the acts sum up to as well, those whose dispatches are told:
 //!   `task_sums` and `cpu_sums` of `ft_summary`, and nothing if it was not asked for (`specs/Summing.antt`).
 //!   Refused once bytes of the text were read. Lets through: figures past the greatest `u64`, as there.
@@ -54,14 +57,17 @@
 mod events;
 mod fault;
 mod joining;
+mod kept;
 pub mod laws;
 mod left_out;
 mod missing;
 mod moving;
 mod owned;
 mod pieces;
+mod ran;
 mod reading;
 mod seam;
+mod showing;
 mod so_far;
 mod starts;
 mod state;

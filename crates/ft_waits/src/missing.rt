@@ -1,13 +1,16 @@
 //! Switches that are missing.
 
-ghost use Rattle.std.specs.Prelude.{◌≡◌, ◌+◌, ◌∷◌, [], List, OnOk, IfOk, IfErr, vec_len};
+ghost use Rattle.std.specs.Prelude.{◌≡◌, ◌≤◌, ◌==◌, ◌+◌, ◌∷◌, [], ℕ, List, Some, None, slice_index_or, if◌then◌else◌, OnOk, IfOk, IfErr, vec_len};
 ghost use Rattle.ft_fields.specs.Borrowed.{event_told};
-ghost use Rattle.ft_fields.specs.Traced.{Traced};
-ghost use Rattle.ft_waits.specs.Missing.{runs_after, is_other, with_event, running as running_on};
+ghost use Rattle.ft_fields.specs.Traced.{last_cpu};
+ghost use Rattle.ft_losses.specs.Notes.{Note, Passed, quiet_note};
+ghost use Rattle.ft_waits.specs.Missing.{runs_after, running_after_mark, is_other, with_event, running as running_on};
 ghost use Rattle.ft_waits.specs.inner.Running.{RunsTasks};
 
 use crate::fault::WaitsFault;
+use crate::ran::Ran;
 use crate::state::CPUS;
+use ft_event::Mark;
 use ft_fields::{BodyRef, EventRef, Pos};
 use std::alloc::{AllocError, Global};
 
@@ -15,7 +18,7 @@ use std::alloc::{AllocError, Global};
 #[derive(Clone, Copy, Debug, PartialEq, Eq)]
 pub struct Missing {
     /// How many events show that a switch is missing before them: another task runs than the one
-    /// that the CPU's event before shows.
+    /// that the CPU's event before shows, and no line between reports a loss.
     pub switches: u64,
     /// The place of the first of these events.
     pub first: Option<Pos>,
@@ -23,7 +26,7 @@ pub struct Missing {
 
 /// It is not known of any CPU what it runs.
 #[tactic(auto, unfolding(crate::specs::Missing::running))]
-pub(crate) fn none_running(alloc: Global) -> Result<Vec<Option<i32>>, AllocError>
+pub(crate) fn none_running(alloc: Global) -> Result<Vec<Option<Ran>>, AllocError>
     ensures len { IfOk result (λ running. vec_len running ≡ 8192) }
     ensures none { IfOk result (λ running. RunsTasks running.items []) }
 {
@@ -43,14 +46,56 @@ fn runs_after(event: &EventRef<'_>) -> i32
     }
 }
 
-/// Whether another task runs than the one that ran last.
+/// Whether another task runs than the one that ran last, if it is known which did.
 #[inline(always)]
-pub(crate) fn is_other(ran: Option<i32>, pid: i32) -> bool
+pub(crate) fn is_other(ran: Option<Ran>, pid: i32) -> bool
     ensures { result ≡ is_other ran pid }
 {
     match ran {
-        Some(ran) => ran != pid,
+        Some(Ran::Task(ran)) => ran != pid,
+        Some(Ran::Lost) => false,
         None => false,
+    }
+}
+
+/// Takes note of a CPU's loss: it isn't known then what the CPU runs.
+fn lose(running: &mut Vec<Option<Ran>>, cpu: u16)
+    requires { vec_len running.old ≡ 8192 }
+    ensures len { vec_len running.new ≡ 8192 }
+    ensures at { (other : ℕ) → other ≤ last_cpu → slice_index_or running.new.items other None
+        ≡ if cpu == other then Some Ran.Lost else slice_index_or running.old.items other None }
+{
+    let cpu = usize::from(cpu);
+    if cpu < CPUS {
+        running[cpu] = Some(Ran::Lost);
+    }
+}
+
+/// Takes note of a mark: what a CPU runs that it says has lost events.
+fn lose_by(running: &mut Vec<Option<Ran>>, mark: Mark)
+    requires { vec_len running.old ≡ 8192 }
+    ensures len { vec_len running.new ≡ 8192 }
+    ensures at { (cpu : ℕ) → cpu ≤ last_cpu → slice_index_or running.new.items cpu None
+        ≡ running_after_mark cpu mark (slice_index_or running.old.items cpu None) }
+{
+    match mark {
+        Mark::Lost { cpu, .. } => lose(running, cpu),
+        Mark::Started { cpu } => lose(running, cpu),
+        Mark::Overwritten { .. } => {}
+        Mark::Written { .. } => {}
+    }
+}
+
+/// Takes note of a line that has no event, and of the mark that it is, if it is one.
+pub(crate) fn notice_mark(running: &mut Vec<Option<Ran>>, mark: Option<Mark>)
+    requires { vec_len running.old ≡ 8192 }
+    ensures len { vec_len running.new ≡ 8192 }
+    ensures running { (before : List Note) → RunsTasks running.old.items before
+        → RunsTasks running.new.items (quiet_note mark ∷ before) }
+{
+    match mark {
+        Some(mark) => lose_by(running, mark),
+        None => {}
     }
 }
 
@@ -84,21 +129,21 @@ impl Missing {
 /// runs then.
 #[inline(always)]
 pub(crate) fn notice(
-    running: &mut Vec<Option<i32>>,
+    running: &mut Vec<Option<Ran>>,
     missing: &mut Missing,
     event: &EventRef<'_>,
     place: Pos,
 ) -> Result<(), WaitsFault>
     requires { vec_len running.old ≡ 8192 }
     ensures len { vec_len running.new ≡ 8192 }
-    ensures running { OnOk result ((before : List Traced) → RunsTasks running.old.items before
-        → RunsTasks running.new.items (event_told event.now ∷ before)) }
-    ensures missing { OnOk result ((before : List Traced) → RunsTasks running.old.items before
+    ensures running { OnOk result ((before : List Note) → RunsTasks running.old.items before
+        → RunsTasks running.new.items (Passed (event_told event.now) ∷ before)) }
+    ensures missing { OnOk result ((before : List Note) → RunsTasks running.old.items before
         → missing.new ≡ with_event (is_other (running_on event.now.cpu before) event.now.pid) place missing.old) }
     ensures full { IfErr result (λ fault. (fault ≡ WaitsFault.TooLong) × (missing.old.switches ≡ 18446744073709551615)) }
 {
     let cpu = event.cpu as usize;
     missing.count(is_other(running[cpu], event.pid), place)?;
-    running[cpu] = Some(runs_after(event));
+    running[cpu] = Some(Ran::Task(runs_after(event)));
     Ok(())
 }

@@ -3,6 +3,12 @@
 ghost use Rattle.std.specs.Prelude.{◌≡◌, ◌==◌, ◌<◌, ◌-◌, ◌++◌, ◌∷◌, [], List, ℕ, false, length, take, OnOk, OnErr, IfOk, IfErr, IfSome, IfNone, Some, None, ◌≢◌};
 ghost use Rattle.std.specs.List.{list_any};
 ghost use Rattle.ft_event.specs.Line.{line_of};
+ghost use Rattle.ft_fields.specs.Traced.{Traced};
+ghost use Rattle.ft_dispatch.specs.declared.showing.Showing.{Showing};
+ghost use Rattle.ft_losses.specs.Notes.{Note};
+ghost use Rattle.ft_losses.specs.Telling.{Keeps};
+ghost use Rattle.ft_windows.specs.Telling.{Keeps as KeepsWindows};
+ghost use Rattle.ft_waits.specs.Lost.{AreAllLosses};
 ghost use Rattle.ft_waits.specs.Choice.{Choice, all_events, and_sums, and_without};
 ghost use Rattle.ft_waits.specs.Reading.{history, FailsAt, Fails};
 ghost use Rattle.ft_waits.specs.Streams.{HasRead, AreDispatches};
@@ -15,7 +21,9 @@ use crate::so_far::last_stamp;
 use crate::stream::Waits;
 use crate::summing::sums_of;
 use ft_dispatch::Dispatch;
+use ft_losses::{Losses, LossesRead};
 use ft_summary::Summary;
+use ft_windows::Windows;
 use memchr::memchr;
 use std::alloc::{AllocError, Global};
 
@@ -150,6 +158,16 @@ fn take_last(
     reading.take_line(unended, out)
 }
 
+/// What was lost of a text: as its lines report it, and as no line reports it. Fails only for memory.
+fn all_losses(alloc: Global, losses: Losses, windows: &Windows) -> Result<LossesRead, AllocError>
+    ensures { IfOk result (λ read. (notes : List Note) (events : List Traced) (shown : List Showing)
+        → Keeps losses notes → KeepsWindows windows.now events shown → AreAllLosses notes events shown read) }
+{
+    let mut read = losses.finish(alloc)?;
+    windows.add_to(alloc, &mut read.holes)?;
+    Ok(read)
+}
+
 /// Ends the text: what has not ended is its last line, and its last microsecond is over.
 fn end(
     alloc: Global,
@@ -174,6 +192,7 @@ fn end(
         state,
         ..
     } = reading;
+    let losses = all_losses(alloc, losses, &state.acts.windows)?;
     Ok(TextRead {
         lines: read,
         first: state.first,
@@ -182,7 +201,7 @@ fn end(
         missing: state.missing,
         left_out: state.left_out,
         sums: sums_of(alloc, &state.sums)?,
-        losses: losses.finish(alloc)?,
+        losses,
     })
 }
 
@@ -274,7 +293,7 @@ impl Waits {
 
     /// Takes the line that has not ended, if there is one, as the last, and adds the dispatches that are
     /// left. Answers how many lines there were and which can't be read, which switches are missing, and
-    /// where events were lost.
+    /// where events were lost, as lines report it and as events show it.
     ///
     /// Fails as `feed` does.
     pub fn finish(self, alloc: Global, out: &mut Vec<Dispatch>) -> Result<TextRead, WaitsFault>

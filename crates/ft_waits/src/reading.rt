@@ -10,6 +10,7 @@ ghost use Rattle.ft_waits.specs.inner.Streams.{choice_of, ReadsLines, TakesLine,
 ghost use Rattle.ft_losses.specs.Notes.{Silent, quiet_note};
 
 use crate::fault::{BadLine, BadLines, LinesRead, WaitsFault};
+use crate::missing::notice_mark;
 use crate::state::State;
 use ft_dispatch::Dispatch;
 use ft_event::{LineFault, Mark, mark_of, read_cut_line};
@@ -94,6 +95,7 @@ impl Reading {
         let number = one_more(self.read.lines)?;
         self.read.lines = number;
         self.losses.skip(number, mark);
+        notice_mark(&mut self.state.running, mark);
         Ok(())
     }
 

@@ -4,6 +4,7 @@ ghost use Rattle.std.specs.Prelude.{◌≡◌, ◌++◌, None, OnOk, slice_index
 ghost use Rattle.ft_waits.specs.inner.Starts.{started, start_of};
 
 use crate::missing::Missing;
+use crate::ran::Ran;
 use ft_fields::{EventRef, Pos};
 use std::alloc::AllocError;
 
@@ -18,9 +19,9 @@ pub(crate) struct Start {
     pub(crate) is_clear: bool,
 }
 
-/// The task that a CPU runs, if it is known.
+/// What a CPU runs, if a line says anything of it.
 #[inline(always)]
-pub(crate) fn running_on(running: &[Option<i32>], cpu: u16) -> Option<i32>
+pub(crate) fn running_on(running: &[Option<Ran>], cpu: u16) -> Option<Ran>
     ensures { result ≡ slice_index_or running.now cpu None }
 {
     match running.get(usize::from(cpu)) {
@@ -29,11 +30,12 @@ pub(crate) fn running_on(running: &[Option<i32>], cpu: u16) -> Option<i32>
     }
 }
 
-/// Takes note of an event at its place, if it is the first one of its CPU.
+/// Takes note of an event at its place, if it is the first one of its CPU, and no line before says that the CPU
+/// lost events.
 #[inline(always)]
 pub(crate) fn note_start(
     starts: &mut Vec<Start>,
-    running: &[Option<i32>],
+    running: &[Option<Ran>],
     missing: &Missing,
     event: &EventRef<'_>,
     place: Pos,

@@ -2,10 +2,11 @@
 
 ghost use Rattle.std.specs.Prelude.{◌≡◌, vec_len};
 
+use crate::kept::KeptActs;
 use crate::left_out::LeftOut;
 use crate::missing::Missing;
+use crate::ran::Ran;
 use crate::starts::Start;
-use ft_dispatch::{PlacedAct, Tasks};
 use ft_summary::Summary;
 
 /// How many CPUs there can be.
@@ -20,15 +21,13 @@ pub(crate) struct State {
     pub(crate) first: Option<u64>,
     /// The last event's stamp.
     pub(crate) latest: u64,
-    /// The acts at that stamp, in the order of the text: others of the same microsecond may come.
-    pub(crate) held: Vec<PlacedAct>,
-    /// Since when each task is runnable, by the acts before that stamp.
-    pub(crate) tasks: Tasks,
+    /// Its acts, and what is known by the acts before it.
+    pub(crate) acts: KeptActs,
     /// What the acts before that stamp sum up to, if that is wanted.
     pub(crate) sums: Option<Summary>,
-    /// The task that each CPU runs, if it is known.
-    pub(crate) running: Vec<Option<i32>>,
-    /// The first event of each CPU, in the order of the text.
+    /// What each CPU runs, if a line says anything of it.
+    pub(crate) running: Vec<Option<Ran>>,
+    /// The first event of each CPU, in the order of the text, if no line before says that the CPU lost events.
     pub(crate) starts: Vec<Start>,
     /// Switches that are missing.
     pub(crate) missing: Missing,

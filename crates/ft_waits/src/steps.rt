@@ -1,12 +1,14 @@
 //! Acts of one microsecond.
 
-ghost use Rattle.std.specs.Prelude.{◌≡◌, [], OnOk, IsPermutation};
+ghost use Rattle.std.specs.Prelude.{OnOk, IsPermutation};
 ghost use Rattle.std.specs.List.Sorted.{IsSortedByKey};
 ghost use Rattle.ft_fields.specs.Places.{pos_cmp};
 ghost use Rattle.ft_waits.specs.inner.Known.{Settles};
 
+use crate::kept::KeptActs;
+use crate::showing::give;
 use crate::summing::sum_up;
-use ft_dispatch::{Dispatch, PlacedAct, Tasks};
+use ft_dispatch::{Dispatch, PlacedAct};
 use ft_summary::Summary;
 use std::alloc::AllocError;
 
@@ -19,21 +21,20 @@ fn sort(held: &mut Vec<PlacedAct>)
     held.sort_unstable_by_key(|one| one.place);
 }
 
-/// Takes held acts in the order of their places, adds their dispatches, and sums them up, if that is
-/// wanted: none is held then.
+/// Takes held acts in the order of their places, adds their dispatches, gives what they show to the windows, and
+/// sums them up, if that is wanted: none is held then.
 #[inline(always)]
 pub(crate) fn settle(
-    tasks: &mut Tasks,
+    acts: &mut KeptActs,
     sums: &mut Option<Summary>,
-    held: &mut Vec<PlacedAct>,
     out: &mut Vec<Dispatch>,
 ) -> Result<(), AllocError>
-    ensures none { OnOk result (held.new.items ≡ []) }
-    ensures settles { OnOk result (Settles held.old.items tasks.old sums.old out.old.items tasks.new sums.new out.new.items) }
+    ensures { OnOk result (Settles acts.old sums.old out.old.items acts.new sums.new out.new.items) }
 {
-    sort(held);
-    tasks.take_all(held, out)?;
-    sum_up(sums, held)?;
-    held.clear();
+    sort(&mut acts.held);
+    acts.tasks.take_all(&acts.held, out, &mut acts.shown)?;
+    give(&mut acts.windows, &mut acts.shown)?;
+    sum_up(sums, &acts.held)?;
+    acts.held.clear();
     Ok(())
 }

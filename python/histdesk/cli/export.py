@@ -34,9 +34,10 @@ attached in order, and the answer of the last one is written:
 Timestamps and latencies are in microseconds. The line of an event is its number among the events
 of its CPU in the whole trace, counted from 1. The task that a switch runs is comm, pid and prio, as
 for a waking, and also next_comm, next_pid and next_prio, as in the trace. A column is empty (null)
-if an event has no such field. doubtful is true if events were lost between the two. Names can be
-read back: in JSON they are strings, and bytes that aren't UTF-8 are \\udc80 to \\udcff. In CSV, such
-bytes and control characters are \\xNN, and a backslash is doubled; histdesk.unescaped reverses this.
+if an event has no such field. doubtful is true if events between the two may be missing. Names can
+be read back: in JSON they are strings, and bytes that aren't UTF-8 are \\udc80 to \\udcff. In CSV,
+such bytes and control characters are \\xNN, and a backslash is doubled; histdesk.unescaped reverses
+this.
 pandas takes some names for missing values, unless you use read_csv(PATH, keep_default_na=False)."""
 
 

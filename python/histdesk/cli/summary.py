@@ -16,9 +16,10 @@ DESCRIPTION = """How long each task ran and waited for a processor, and how ofte
 moved to another CPU, put to sleep and blocked: a row for each task over all kinds of waits, the one
 that waited longest in all first. --by name adds up the tasks of a name; --by cpu prints how long
 each CPU was busy and idle, and idle while some task, queued on whatever CPU, waited: `longest` is
-the most of this in one run of the idle task, which began at `longest_from`. Times are in
-microseconds. TRACE is the text of the kernel's trace file, compressed by gzip or not, or a
-recording of perf or trace-cmd; - is standard input. TRACE may be of any length.
+the most of this in one run of the idle task, which began at `longest_from`. For the time `unknown`,
+it isn't known what the CPU ran. Times are in microseconds. TRACE is the text of the kernel's trace
+file, compressed by gzip or not, or a recording of perf or trace-cmd; - is standard input. TRACE may
+be of any length.
 
 A run counts if both of its switches were recorded, and a wait as in tools/waits, which also prints
 the waits by kind. p99 is a percentile by nearest rank: the least wait of the row such that at least

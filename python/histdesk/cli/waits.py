@@ -21,7 +21,8 @@ compressed by gzip or not, or a recording of perf or trace-cmd; - is standard in
 of any length.
 
 The kind of a wait (woken, new, preempted) depends on the event that it begins with. A wait is
-doubtful, and left out, if lost events may have made it false; REFERENCE.md, Waits, has the rules.
+doubtful, and left out, if it may be false or too long, because events of its time may be missing;
+REFERENCE.md, Waits, has the rules.
 Percentiles are by nearest rank: p99 is the least wait of the row such that at least 99 % of its
 waits aren't longer, and so on.
 The columns `at` and `where` are the timestamp and the CPU:LINE of the switch that ended the

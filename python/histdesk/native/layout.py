@@ -96,11 +96,12 @@ class TaskSum(ctypes.Structure):
 
 
 class CpuSum(ctypes.Structure):
-    """What a text sums up to for a CPU. `idle`, `idle_with_waiters` and `longest`, the most of it in one idle run, are in
-    microseconds; `longest_from` is the stamp at which the first such run began."""
+    """What a text sums up to for a CPU. `idle`, `unknown`, `idle_with_waiters` and `longest`, the most of that in one idle run,
+    are in microseconds; `longest_from` is the stamp at which the first such run began."""
 
     _fields_ = [
         ("idle", ctypes.c_uint64),
+        ("unknown", ctypes.c_uint64),
         ("idle_with_waiters", ctypes.c_uint64),
         ("longest", ctypes.c_uint64),
         ("longest_from", ctypes.c_uint64),
@@ -135,7 +136,7 @@ class Hole(ctypes.Structure):
     _fields_ = [
         *((name, ctypes.c_uint64) for name in ["line", "after", "before", "count"]),
         ("cpu", ctypes.c_uint32),
-        *((name, ctypes.c_bool) for name in ["has_after", "has_before", "has_count"]),
+        *((name, ctypes.c_bool) for name in ["has_after", "has_before", "has_count", "has_cpu"]),
     ]
 
 
@@ -186,9 +187,9 @@ EVENT_FIELDS = [
     *(field for name in ["task", "comm", "prev_comm", "prev_state"] for field in [(name, "S31"), (f"{name}_length", "u1")]),
 ]
 WAIT_FIELDS = [
-    *((f"{at}_{name}", kind) for at in ["ended", "began", "awoken"] for name, kind in PLACE_FIELDS),
+    *((f"{at}_{name}", kind) for at in ["ended", "began"] for name, kind in PLACE_FIELDS),
     *((name, "=i4") for name in ["pid", "prio"]),
-    *((name, "=u4") for name in ["cause", "awoken_cause", "doubt", "zero"]),
+    *((name, "=u4") for name in ["cause", "doubt", "slept", "zero"]),
     ("name", "S31"),
     ("name_length", "u1"),
 ]

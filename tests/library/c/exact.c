@@ -100,12 +100,10 @@ static uint32_t losses_in(const char *text, histdesk_losses_read *read) {
         return holds;                                                                                      \
     }
 
-/* The bytes after the last field of an event, or of a hole, mean nothing. */
+/* The bytes after the last field of an event mean nothing. */
 static bool is_same(const void *one, const void *other, size_t size) {
     if (size == sizeof(histdesk_event))
         size = offsetof(histdesk_event, prev_state) + sizeof(histdesk_name);
-    if (size == sizeof(histdesk_hole))
-        size = offsetof(histdesk_hole, has_count) + sizeof(bool);
     return memcmp(one, other, size) == 0;
 }
 

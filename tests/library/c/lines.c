@@ -43,9 +43,9 @@ static const struct {
 enum { LINES = sizeof known / sizeof *known, HOLES = 3 };
 
 static const histdesk_hole holes[HOLES] = {
-    {4, 2000100, 1000100, 5, 1, true, true, true},
-    {12, 3000000, 0, 0, 0, true, true, false},
-    {2, 0, 0, 0, 3, false, false, false},
+    {4, 2000100, 1000100, 5, 1, true, true, true, true},
+    {12, 3000000, 0, 0, 0, true, true, false, true},
+    {2, 0, 0, 0, 3, false, false, false, true},
 };
 
 static char text[2048];

@@ -1,8 +1,8 @@
 /* parts: a text is read in parts, each by a stream of its own desk, and the parts are joined in order. The text is random:
  * tasks are woken, created and switched on three CPUs, many events have one stamp, some events are lost, and some lines
  * can't be read. It is cut at random into 2 to 5 parts where the stamp changes. What the parts and the joins tell, at places
- * that are moved as the header says, is compared with what one stream tells of the whole text: each wait once, and all that
- * was read. Each reason for which a part isn't joined comes, except that of 4,294,967,295 lines, and both streams go on as
+ * that are moved as the header says, is compared with what one stream tells of the whole text: each wait once, all holes, and
+ * all that was read. Each reason for which a part isn't joined comes, except that of 4,294,967,295 lines, and both streams go on as
  * before; each growth of memory is refused in turn; and the parts are read side by side in threads. What is wrong is printed
  * with its line in this file; the last line says how many of the tests hold. */
 #include "heap.h"
@@ -19,7 +19,7 @@
 heap_state heap;
 #endif
 
-enum { LINES = 400, CPUS = 3, TASKS = 9, PARTS = 5, MOST_WAITS = LINES, EVERY_CPU = 8192 };
+enum { LINES = 400, CPUS = 3, TASKS = 9, PARTS = 5, MOST_WAITS = LINES, MOST_HOLES = 2 * LINES, EVERY_CPU = 8192 };
 
 /* ---- A text. */
 
@@ -56,14 +56,16 @@ static void write_text(uint32_t number) {
         else {
             to += sprintf(to, "t-%" PRIu32 " [%03" PRIu32 "] %" PRIu64 ".%06" PRIu64 ": ", running[cpu], cpu, stamp / 1000000,
                           stamp % 1000000);
-            if (kind < 9)
+            if (kind < 8)
                 to += sprintf(to, "sched_waking: comm=t%" PRIu32 " pid=%" PRIu32 " prio=9 target_cpu=000\n", task, task);
+            else if (kind == 8)
+                to += sprintf(to, "sched_wakeup: comm=t%" PRIu32 " pid=%" PRIu32 " prio=9 target_cpu=000\n", task, task);
             else if (kind == 9)
                 to += sprintf(to, "sched_wakeup_new: comm=t%" PRIu32 " pid=%" PRIu32 " prio=9 target_cpu=000\n", task, task);
             else {
                 uint32_t next = below(4) ? task : 0;
                 to += sprintf(to, "sched_switch: prev_comm=t prev_pid=%" PRIu32 " prev_prio=9 prev_state=%s ==> ", running[cpu],
-                              below(2) ? "R" : "S");
+                              (const char *[]){"R", "R+", "S"}[below(3)]);
                 to += sprintf(to, "next_comm=t%" PRIu32 " next_pid=%" PRIu32 " next_prio=9\n", next, next);
                 running[cpu] = next;
             }
@@ -77,6 +79,7 @@ static void write_text(uint32_t number) {
 typedef struct {
     histdesk_wait waits[MOST_WAITS];
     size_t count;
+    histdesk_hole holes[MOST_HOLES];
     histdesk_waits_read read;
 } answer;
 
@@ -105,7 +108,11 @@ static uint32_t feeds(histdesk *desk, size_t from, size_t end, size_t cut, answe
 static uint32_t ends(histdesk *desk, answer *own) {
     uint64_t count;
     uint32_t code = histdesk_waits_finish(desk, &own->read, &count);
-    return code == HISTDESK_OK && !takes(desk, count, own) ? HISTDESK_CLOSED : code;
+    if (code != HISTDESK_OK)
+        return code;
+    memset(own->holes, 0, sizeof own->holes);
+    bool has_holes = histdesk_waits_holes(desk, 0, own->holes, MOST_HOLES) == own->read.holes;
+    return has_holes && takes(desk, count, own) ? HISTDESK_OK : HISTDESK_CLOSED;
 }
 
 /* Leaves some wakings out, if that is wanted. */
@@ -155,8 +162,6 @@ static void move_behind(answer *own, const uint32_t *before) {
         histdesk_wait *wait = &own->waits[at];
         wait->ended.line += before[wait->ended.cpu];
         wait->began.line += before[wait->began.cpu];
-        if (wait->awoken_cause)
-            wait->awoken.line += before[wait->awoken.cpu];
     }
 }
 
@@ -238,11 +243,11 @@ static bool is_same_read(const histdesk_waits_read *a, const histdesk_waits_read
            a->holes == b->holes && a->has_first == b->has_first && a->first == b->first && a->last == b->last;
 }
 
-/* Whether an answer has the same waits, in whatever order, and the same was read. */
+/* Whether an answer has the same waits, in whatever order, and the same was read, with the same holes. */
 static bool is_same(answer *own, const answer *whole) {
     qsort(own->waits, own->count, sizeof *own->waits, by_end);
     return own->count == whole->count && memcmp(own->waits, whole->waits, own->count * sizeof *own->waits) == 0 &&
-           is_same_read(&own->read, &whole->read);
+           is_same_read(&own->read, &whole->read) && memcmp(own->holes, whole->holes, sizeof own->holes) == 0;
 }
 
 static answer whole, joined;

@@ -1,8 +1,9 @@
 /* waits: the text of a recording with each kind of wait, hole and odd line, read by a stream. What is wanted was worked out
  * by hand. The text is cut into pieces of each size; lines that can't be read are skipped or refused; each code comes, except
  * that of 4,294,967,295 lines; waits and holes are copied into room of each size, with nothing written beside it; each growth
- * of memory is refused in turn; and two threads read with a desk each. What is wrong is printed with its line in this file;
- * the last line says how many of the tests hold. */
+ * of memory is refused in turn; and two threads read with a desk each. Short texts have holes that no line reports, and a wait
+ * that begins before a sleep. What is wrong is printed with its line in this file; the last line says how many of the tests
+ * hold. */
 #include "heap.h"
 #include "histdesk.h"
 #include "holds.h"
@@ -24,40 +25,43 @@ heap_state heap;
     IDLE "0] 1.000100: sched_waking: comm=w pid=42 prio=120 target_cpu=000\n" \
     IDLE "0] 1.000150: " SWITCH "s prev_pid=0 prev_prio=120 prev_state=R ==> next_comm=w next_pid=42 next_prio=19\n" \
     "w-42 [000] 1.000200: sched_wakeup_new: comm=n pid=43 prio=120 target_cpu=000\n" \
-    "w-42 [000] 1.000300: " SWITCH "w prev_pid=42 prev_prio=19 prev_state=R ==> next_comm=n next_pid=43 next_prio=120\n" \
+    "w-42 [000] 1.000300: " SWITCH "w prev_pid=42 prev_prio=19 prev_state=R+ ==> next_comm=n next_pid=43 next_prio=120\n" \
     "CPU:0 [LOST 5 EVENTS]\n" \
     "n-43 [000] 1.000400: sched_waking: comm=w pid=42 prio=19 target_cpu=000\n"
 #define BACK \
-    "n-43 [000] 1.000500: " SWITCH "n prev_pid=43 prev_prio=120 prev_state=S ==> next_comm=w next_pid=42 next_prio=19\n" \
+    "n-43 [000] 1.000500: " SWITCH "n prev_pid=43 prev_prio=120 prev_state=R ==> next_comm=w next_pid=42 next_prio=19\n" \
     IDLE "1] 1.000500: sched_waking: comm=x pid=44 prio=5 target_cpu=001\n" \
     "CPU:1 [LOST EVENTS]\n" \
     "w-42 [000] 1.000600: sched_waking: comm=y pid=45 prio=1 target_cpu=000\n" \
     IDLE "1] 1.000700: " SWITCH "s prev_pid=0 prev_prio=120 prev_state=R ==> next_comm=x next_pid=44 next_prio=5\n" \
-    "w-42 [000] 1.000800: " SWITCH "w prev_pid=42 prev_prio=19 prev_state=S ==> next_comm=y next_pid=45 next_prio=1\n" \
+    "w-42 [000] 1.000800: " SWITCH "w prev_pid=42 prev_prio=19 prev_state=S ==> next_comm=n next_pid=43 next_prio=1\n" \
     "z-77 [001] 1.000900: x: y\n" \
     "# CPU 1: 0 events overwritten\n" \
     "CPU:1 [LOST 3 EVENTS]"
+#define SWITCHED(task, cpu, us, comm, pid, state, next_comm, next_pid) \
+    task " [00" cpu "] 1.0000" us ": " SWITCH comm " prev_pid=" pid " prev_prio=9 prev_state=" state " ==> next_comm=" next_comm \
+    " next_pid=" next_pid " next_prio=9\n"
 static const char text[] = FRONT "not a line\n" BACK;
 static const char good_text[] = FRONT BACK; /* as a desk loads it */
 
 enum { WAITS = 5, HOLES = 3, BAD_LINE = 8, CPUS = 8192 };
 
 static const histdesk_wait wanted[WAITS] = {
-    {{1000150, 0, 2}, {1000100, 0, 1}, {0, 0, 0}, 42, 19, HISTDESK_WOKEN, 0, 0, 0, {"w", 1}},
-    {{1000300, 0, 4}, {1000200, 0, 3}, {0, 0, 0}, 43, 120, HISTDESK_CREATED, 0, 0, 0, {"n", 1}},
-    {{1000500, 0, 6}, {1000300, 0, 4}, {1000400, 0, 5}, 42, 19, HISTDESK_PREEMPTED, HISTDESK_WOKEN, 0, 0, {"w", 1}},
-    {{1000700, 1, 2}, {1000500, 1, 1}, {0, 0, 0}, 44, 5, HISTDESK_WOKEN, 0, 0, 0, {"x", 1}},
-    {{1000800, 0, 8}, {1000600, 0, 7}, {0, 0, 0}, 45, 1, HISTDESK_WOKEN, 0, 0, 0, {"y", 1}},
+    {{1000150, 0, 2}, {1000100, 0, 1}, 42, 19, HISTDESK_WOKEN, 0, 0, 0, {"w", 1}},
+    {{1000300, 0, 4}, {1000200, 0, 3}, 43, 120, HISTDESK_CREATED, 0, 0, 0, {"n", 1}},
+    {{1000500, 0, 6}, {1000400, 0, 5}, 42, 19, HISTDESK_WOKEN, 0, 0, 0, {"w", 1}},
+    {{1000700, 1, 2}, {1000500, 1, 1}, 44, 5, HISTDESK_WOKEN, 0, 0, 0, {"x", 1}},
+    {{1000800, 0, 8}, {1000500, 0, 6}, 43, 1, HISTDESK_PREEMPTED, 0, 0, 0, {"n", 1}},
 };
 static const uint32_t doubts[WAITS] = {HISTDESK_SURE, HISTDESK_SURE, HISTDESK_SURE, HISTDESK_DOUBTFUL, HISTDESK_LIKELY};
 static const histdesk_hole holes[HOLES] = {
-    {6, 1000300, 1000400, 5, 0, true, true, true},
-    {11, 1000500, 1000700, 0, 1, true, true, false},
-    {17, 1000900, 0, 3, 1, true, false, true},
+    {6, 1000300, 1000400, 5, 0, true, true, true, true},
+    {11, 1000500, 1000700, 0, 1, true, true, false, true},
+    {17, 1000900, 0, 3, 1, true, false, true, true},
 };
 /* The wait of task 42 if nothing wakes it: it was left while it could run, and runs again. */
 static const histdesk_wait unwoken = {
-    {1000500, 0, 6}, {1000300, 0, 4}, {0, 0, 0}, 42, 19, HISTDESK_PREEMPTED, 0, 0, 0, {"w", 1},
+    {1000500, 0, 6}, {1000300, 0, 4}, 42, 19, HISTDESK_PREEMPTED, 0, 0, 0, {"w", 1},
 };
 static const histdesk_waits_read wanted_read = {
     .lines = 17, .bad = 1, .bad_line = BAD_LINE, .bad_fault = 1, .missing = 1, .missing_at = {1000900, 1, 3}, .holes = HOLES,
@@ -79,7 +83,7 @@ typedef struct {
 static bool is_same_hole(const histdesk_hole *a, const histdesk_hole *b) {
     return a->line == b->line && a->after == b->after && a->before == b->before && a->count == b->count &&
            a->cpu == b->cpu && a->has_after == b->has_after && a->has_before == b->has_before &&
-           a->has_count == b->has_count;
+           a->has_count == b->has_count && a->has_cpu == b->has_cpu;
 }
 
 static bool is_same_read(const histdesk_waits_read *a, const histdesk_waits_read *b) {
@@ -153,9 +157,14 @@ static void doubted(histdesk *desk) {
     for (size_t at = 0; at < WAITS; at++) {
         histdesk_wait want = wanted[at];
         want.doubt = doubts[at];
-        if (want.cause == HISTDESK_PREEMPTED) /* events were lost since then, and none since it was woken */
-            want.began = want.awoken, want.cause = want.awoken_cause;
         HOLDS(memcmp(&waits[at], &want, sizeof want) == 0);
+    }
+    for (size_t at = 0; at < WAITS; at++) { /* what began before a sleep is likely at most */
+        histdesk_wait want = wanted[at];
+        waits[at].doubt = 0;
+        waits[at].slept = want.slept = at == 0 ? 1 : UINT32_MAX;
+        want.doubt = doubts[at] == HISTDESK_SURE ? HISTDESK_LIKELY : doubts[at];
+        HOLDS(histdesk_waits_doubt(desk, &waits[at], 1) == HISTDESK_OK && memcmp(&waits[at], &want, sizeof want) == 0);
     }
     waits[0] = wanted[3];
     waits[0].cause = 4; /* no cause */
@@ -211,9 +220,9 @@ static void rooms(histdesk *desk) {
 /* Only the header says that CPUs that begin late may have lost events, and a line says of one of them that it has lost none. */
 static void late(histdesk *desk) {
     static const char lines[] = "# entries-in-buffer/entries-written: 3/9\na-1 [005] 1.000100: x: y\n"
-                                "a-1 [002] 1.000100: x: y\na-1 [001] 1.000200: x: y\na-1 [000] 1.000300: x: y\n"
+                                "b-2 [002] 1.000100: x: y\nc-3 [001] 1.000200: x: y\nd-4 [000] 1.000300: x: y\n"
                                 "# CPU 1: 0 events overwritten\n";
-    static const histdesk_hole want = {1, 0, 1000300, 0, 0, false, true, false};
+    static const histdesk_hole want = {1, 0, 1000300, 0, 0, false, true, false, true};
     histdesk_hole found[2];
     histdesk_waits_read read;
     uint64_t count;
@@ -221,6 +230,45 @@ static void late(histdesk *desk) {
     HOLDS(histdesk_waits_feed(desk, (const uint8_t *)lines, sizeof lines - 1, &count) == HISTDESK_OK);
     HOLDS(histdesk_waits_finish(desk, &read, &count) == HISTDESK_OK && read.holes == 1);
     HOLDS(histdesk_waits_holes(desk, 0, found, 2) == 1 && is_same_hole(found, &want));
+}
+
+/* Whether these lines have this one wait, as sure as its `doubt` says, and this hole, or none. */
+static bool tells(histdesk *desk, const char *lines, histdesk_wait want, const histdesk_hole *hole) {
+    histdesk_wait wait[2];
+    histdesk_hole found[2];
+    histdesk_waits_read read;
+    uint64_t count, holes = hole ? 1 : 0;
+    uint32_t doubt = want.doubt;
+    bool holds = histdesk_waits_new(desk, false) == HISTDESK_OK;
+    holds &= histdesk_waits_feed(desk, (const uint8_t *)lines, strlen(lines), &count) == HISTDESK_OK && count == 0;
+    holds &= histdesk_waits_finish(desk, &read, &count) == HISTDESK_OK && count == 1 && read.holes == holes;
+    want.doubt = 0;
+    holds &= histdesk_waits_copy(desk, 0, wait, 2) == 1 && memcmp(wait, &want, sizeof want) == 0;
+    want.doubt = doubt;
+    holds &= histdesk_waits_doubt(desk, wait, 1) == HISTDESK_OK && memcmp(wait, &want, sizeof want) == 0;
+    return holds && histdesk_waits_holes(desk, 0, found, 2) == holes && (!hole || is_same_hole(found, hole));
+}
+
+#define WAKES(us, pid) "a-1 [000] 1.0000" us ": sched_waking: comm=p pid=" pid " prio=9 target_cpu=000\n"
+
+/* Holes that no line reports, and a wait that begins before a sleep. */
+static void unreported(histdesk *desk) {
+    /* Task 22 is woken twice, so it ran in between; CPU 1 begins with a task that was woken before; and task 21 goes to sleep. */
+    static const char unseen[] = WAKES("10", "22") WAKES("20", "21") WAKES("30", "22")
+        SWITCHED("a-1", "0", "40", "a", "1", "R", "p", "21");
+    static const char begun[] = WAKES("10", "21") WAKES("20", "2") SWITCHED("b-2", "1", "30", "b", "2", "S", "c", "3")
+        SWITCHED("a-1", "0", "40", "a", "1", "R", "p", "21");
+    static const char asleep[] = WAKES("10", "21") SWITCHED("p-21", "0", "20", "p", "21", "S", "a", "1")
+        SWITCHED("a-1", "0", "40", "a", "1", "R", "p", "21");
+    static const histdesk_hole unknown = {0, 1000010, 1000030, 0, 0, true, true, false, false};
+    static const histdesk_hole beginning = {0, 0, 1000030, 0, 1, false, true, false, true};
+    histdesk_wait want = {{1000040, 0, 4}, {1000020, 0, 2}, 21, 9, HISTDESK_WOKEN, HISTDESK_LIKELY, 0, 0, {"p", 1}};
+    HOLDS(tells(desk, unseen, want, &unknown));
+    want.began = (histdesk_place){1000010, 0, 1};
+    want.ended.line = 3;
+    HOLDS(tells(desk, begun, want, &beginning));
+    want.slept = 1;
+    HOLDS(tells(desk, asleep, want, NULL));
 }
 
 static void events(histdesk *desk) {
@@ -315,9 +363,6 @@ static void without_refused(histdesk *desk) {
 
 /* ---- What a text sums up to. */
 
-#define SWITCHED(task, cpu, us, comm, pid, state, next_comm, next_pid) \
-    task " [00" cpu "] 1.0000" us ": " SWITCH comm " prev_pid=" pid " prev_prio=9 prev_state=" state " ==> next_comm=" next_comm \
-    " next_pid=" next_pid " next_prio=9\n"
 #define WOKEN(us) "b-2 [001] 1.0000" us ": sched_waking: comm=a pid=1 prio=9 target_cpu=000\n"
 /* CPU 0 idles for 30 microseconds, in which task 1 waits from the waking on, and again for 30, in which it waits for 10. */
 #define IDLE_TEXT(woken) \
@@ -350,15 +395,15 @@ static bool are_summed_up(histdesk *desk, const histdesk_task_sum *tasks, size_t
 }
 
 static void summed_up(histdesk *desk) {
-    static const histdesk_task_sum all[] = {{450, 2, 1, 1, 0, 0, 42, 0}, {200, 1, 0, 1, 0, 0, 43, 0}, {0, 1, 0, 0, 0, 0, 44, 0},
-                                            {0, 1, 0, 0, 0, 0, 45, 0}};
+    static const histdesk_task_sum all[] = {{450, 2, 1, 1, 0, 0, 42, 0}, {200, 2, 1, 0, 0, 0, 43, 0}, {0, 1, 0, 0, 0, 0, 44, 0},
+                                            {0, 0, 0, 0, 0, 0, 45, 0}};
     static const histdesk_task_sum some[] = {{0, 0, 0, 0, 0, 0, 42, 0}, {0, 0, 0, 0, 0, 0, 43, 0}, {0, 0, 0, 0, 0, 0, 44, 0},
                                              {0, 0, 0, 0, 0, 0, 45, 0}};
-    static const histdesk_cpu_sum two[] = {{0, 0, 0, 0, 0, 0}, {0, 0, 0, 0, 1, 0}};
+    static const histdesk_cpu_sum two[] = {{0, 0, 0, 0, 0, 0, 0}, {0, 0, 0, 0, 0, 1, 0}};
     /* The longer idle time with waiters is that of the first run, is the same in both, and is that of the second run. */
-    static const histdesk_cpu_sum idle[][2] = {{{60, 30, 20, 1000000, 0, 0}, {0, 0, 0, 0, 1, 0}},
-                                               {{60, 20, 10, 1000000, 0, 0}, {0, 0, 0, 0, 1, 0}},
-                                               {{60, 15, 10, 1000040, 0, 0}, {0, 0, 0, 0, 1, 0}}};
+    static const histdesk_cpu_sum idle[][2] = {{{60, 0, 30, 20, 1000000, 0, 0}, {0, 0, 0, 0, 0, 1, 0}},
+                                               {{60, 0, 20, 10, 1000000, 0, 0}, {0, 0, 0, 0, 0, 1, 0}},
+                                               {{60, 0, 15, 10, 1000040, 0, 0}, {0, 0, 0, 0, 0, 1, 0}}};
     static const histdesk_task_sum moved[] = {{10, 2, 0, 1, 1, 1, 1, 0}, {0, 1, 0, 0, 0, 0, 3, 0}};
     answer own;
     size_t wrong = 0;
@@ -651,6 +696,7 @@ int main(void) {
     events(&desk);
     so_far(&desk);
     late(&desk);
+    unreported(&desk);
     without(&desk);
     without_refused(&desk);
     summed_up(&desk);

@@ -16,9 +16,9 @@ use Rattle.ft_losses.specs.declared.stretches.Stretch.{Stretch}
 abbrev pub stretch_on : Option ℕ → Hole → Stretch
 stretch_on cpu hole = record { start = record { cpu = cpu; after = hole.after }; before = hole.before }
 
--- the stretches of a hole
+-- the stretches of a hole, on its CPU, if that is known, and on any
 abbrev pub stretches_of : Hole → List Stretch
-stretches_of hole = stretch_on (Some hole.cpu) hole ∷ stretch_on None hole ∷ []
+stretches_of hole = stretch_on hole.cpu hole ∷ stretch_on None hole ∷ []
 
 -- whether a stretch is on a CPU, or on any
 abbrev pub is_on : Option ℕ → Stretch → Bool

@@ -118,24 +118,36 @@ abbrev pub idled : ℕ → ℕ → ℕ → CpuSum → CpuSum
 idled begun lasted waited sum = record {
   cpu = sum.cpu;
   idle = summed sum.idle lasted;
+  unknown = sum.unknown;
   idle_with_waiters = summed sum.idle_with_waiters waited;
   longest = max sum.longest waited;
   longest_from = if nat_lt sum.longest waited then begun else sum.longest_from;
 }
 
+-- a switch is missing, so that it isn't known what ran for so long
+abbrev pub not_known : ℕ → CpuSum → CpuSum
+not_known lasted sum = record {
+  cpu = sum.cpu;
+  idle = sum.idle;
+  unknown = summed sum.unknown lasted;
+  idle_with_waiters = sum.idle_with_waiters;
+  longest = sum.longest;
+  longest_from = sum.longest_from;
+}
+
 -- what is added up once a switch left a task
 abbrev pub cpu_summed : Cpu → PlacedAct → ℕ → CpuSum
 cpu_summed cpu turn waited =
-    if int_eq cpu.pid turn.prev_pid && int_eq turn.prev_pid (pos 0)
-    then idled cpu.stamp (turn.place.stamp - cpu.stamp) (waited - cpu.waited) cpu.sum
-    else cpu.sum
+    if int_eq cpu.pid turn.prev_pid
+    then (if int_eq turn.prev_pid (pos 0) then idled cpu.stamp (turn.place.stamp - cpu.stamp) (waited - cpu.waited) cpu.sum else cpu.sum)
+    else not_known (turn.place.stamp - cpu.stamp) cpu.sum
 
 -- a CPU that went to another task, once some task waited so long
 abbrev pub cpu_turned : Cpu → PlacedAct → ℕ → Cpu
 cpu_turned cpu turn waited = record { pid = turn.pid; stamp = turn.place.stamp; waited = waited; sum = cpu_summed cpu turn waited }
 
 abbrev pub cpu_from : Option Cpu → PlacedAct → ℕ → Cpu
-cpu_from None turn waited = record { pid = turn.pid; stamp = turn.place.stamp; waited = waited; sum = record { cpu = turn.place.cpu; idle = 0; idle_with_waiters = 0; longest = 0; longest_from = 0 } }
+cpu_from None turn waited = record { pid = turn.pid; stamp = turn.place.stamp; waited = waited; sum = record { cpu = turn.place.cpu; idle = 0; unknown = 0; idle_with_waiters = 0; longest = 0; longest_from = 0 } }
 cpu_from (Some cpu) turn waited = cpu_turned cpu turn waited
 
 -- ---- a switch

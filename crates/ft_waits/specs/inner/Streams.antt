@@ -11,7 +11,7 @@ use Rattle.ft_losses.specs.Telling.{Keeps}
 use Rattle.ft_text.specs.Lines.{lines_of}
 use Rattle.ft_waits.specs.Choice.{Choice}
 use Rattle.ft_waits.specs.Reading.{events_of, history, lines_read, refused, FailsAt, Fails}
-use Rattle.ft_waits.specs.inner.Known.{Follows, left_out_by}
+use Rattle.ft_waits.specs.inner.Known.{Follows, Misses, left_out_by}
 use Rattle.ft_dispatch.specs.declared.dispatch.Dispatch.{Dispatch}
 use Rattle.ft_waits.specs.declared.fault.WaitsFault.{WaitsFault}
 use Rattle.ft_waits.specs.declared.reading.Reading.{Reading}
@@ -23,6 +23,7 @@ pub record ReadsLines (reading : Reading) (lines : List (List ℕ)) (told : List
   pub notes : List Note
   pub noted : AreNotes lines notes
   pub losses : Keeps reading.losses notes
+  pub misses : Misses reading.state notes
   pub state : Follows reading.state (events_of lines) told
 
 -- a line reads as another one does, and is the same line if the other one is skipped

@@ -1,5 +1,7 @@
 use Rattle.std.proofs.Common.{sym, ap, subst, ◌∙◌, ◌≡◌, ℕ, Bool, List, Vec, Global, Option, map}
 use Rattle.std.specs.Prelude.{option_map}
+use Rattle.ft_dispatch.specs.Showings.{showings}
+use Rattle.ft_windows.specs.Telling.{Keeps}
 use Rattle.ft_waits.specs.Reading.{dispatches_of_lines, events_of, history, latest, refused, CountsEvents}
 use Rattle.ft_waits.specs.Choice.{Choice}
 use Rattle.ft_waits.specs.Summing.{acts_in, AreSumsIf}
@@ -25,13 +27,14 @@ returns-clause-reads c = λ choice text told reads.
           ∙ last-known (events_of (history text));
       events = subst (λ (lines : Vec ℕ Global). CountsEvents lines.items (events_of (history text))) (sym c.in_ok-finish.ensures.lines) ends.reads.state.counts;
       cpus = sym c.finish.new.self.lines.ok.0 ∙ c.finish.new.self.all_cpus;
-      missing = c.in_ok-finish.ensures.missing ∙ ends.reads.state.missing;
+      missing = c.in_ok-finish.ensures.missing ∙ ends.reads.misses.missing;
       left_out = ap (λ (counts : Vec LeftOut Global). counts.items) c.in_ok-finish.ensures.left_out ∙ ends.reads.state.left_out ∙ ap (λ (without : List Without). map (left_out_of events) without) same;
       sums = subst (λ (by : Choice). AreSumsIf by.sums (acts_in by.without text) c.in_ok-sums_of.field-0) ends.by_choice
           (subst (λ (wanted : Bool). AreSumsIf wanted (acts_in (left_out_by c.take_last.new.reading.state.left_out.items) text) c.in_ok-sums_of.field-0) c.in_ok-finish.ensures.wanted
           (c.in_ok-sums_of.ensures (acts_in (left_out_by c.take_last.new.reading.state.left_out.items) text) (c.in_ok-finish.ensures.sums events told ends.reads.state)));
       notes = ends.reads.notes;
       noted = ends.reads.noted;
-      losses = c.in_ok-finish-2.ensures ends.reads.notes ends.reads.losses;
+      losses = c.in_ok-losses.ensures ends.reads.notes events (showings (acts_in choice.without text)) ends.reads.losses
+          (subst (λ (without : List Without). Keeps c.finish.new.self.acts.windows events (showings (acts_in without text))) same (c.in_ok-finish.ensures.windows events told ends.reads.state));
       unrefused = ap (λ (by : Choice). refused by.bad_lines (history text)) (sym ends.by_choice) ∙ ends.reads.unrefused;
     }

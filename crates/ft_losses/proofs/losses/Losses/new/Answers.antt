@@ -1,7 +1,7 @@
-use Rattle.std.proofs.Common.{refl, ap, subst, sym, ◌≤◌}
+use Rattle.std.proofs.Common.{refl, ap, subst, sym}
 use Rattle.std.specs.List.{AllByRecursion}
-use Rattle.ft_fields.specs.Traced.{last_cpu}
 use Rattle.ft_losses.specs.Holes.{first_stamp, last_stamp, lost_since, overwritten, ended_holes, beginning}
+use Rattle.ft_losses.specs.Telling.{IsCpu}
 use Rattle.ft_losses.specs.declared.hole.Hole.{Hole}
 use Rattle.ft_losses.specs.declared.lanes.Lane.{Lane}
 use Rattle.ft_losses.proofs.losses.Losses.new.Goals as goal
@@ -14,7 +14,7 @@ returns c = record {
   lost = λ cpu fits. ap (λ (l : Lane). l.lost) (c.in_ok-no_lanes.ensures.none cpu);
   overwritten = λ cpu fits. ap (λ (l : Lane). l.overwritten) (c.in_ok-no_lanes.ensures.none cpu);
   ended = c.new.ensures.items;
-  within = subst (AllByRecursion (λ (hole : Hole). hole.cpu ≤ last_cpu)) (sym c.new.ensures.items) tt;
+  within = subst (AllByRecursion (λ (hole : Hole). IsCpu hole.cpu)) (sym c.new.ensures.items) tt;
   begun = refl;
   cpus = tt;
 }

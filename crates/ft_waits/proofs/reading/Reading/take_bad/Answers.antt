@@ -2,7 +2,7 @@ use Rattle.std.proofs.Common.{refl, ap, sym, arith, Err, Some, ◌∙◌, ◌+�
 use Rattle.std.proofs.lemmas.Result.{err_from_is_err_and}
 use Rattle.ft_waits.specs.declared.fault.WaitsFault.TheVariants as faults
 use Rattle.ft_losses.specs.Notes.{Silent}
-use Rattle.ft_waits.proofs.ReadingLines.{reads-more, fails-more, too-long, lines-full, bad-full, loud, refuses-bad, skips-bad}
+use Rattle.ft_waits.proofs.ReadingLines.{misses-silent, reads-more, fails-more, too-long, lines-full, bad-full, loud, refuses-bad, skips-bad}
 use Rattle.ft_waits.proofs.reading.Reading.take_bad.Goals as goal
 
 pub returns-in_err-line-clause-err : goal.returns-in_err-line-clause-err
@@ -31,4 +31,4 @@ pub returns-clause-ok : goal.returns-clause-ok
 returns-clause-ok c = λ line before told is noted reads.
     reads-more c.args.self.now _ (Err c.args.fault) line before told told is reads refl
     (loud c.args.self.now.read c.in_ok-line.line c.in_ok-self.field-0 c.args.fault c.unwrap_or.result c.in_ok-line.ensures.ok c.in_ok-self.ensures.ok c.unwrap_or.ensures)
-    (skips-bad c.args.self.now.bad_lines (c.args.self.now.read.lines + 1) c.args.self.now.state.latest c.args.fault c.in_ok-skip.ensures.ok) Silent noted (λ notes keeps number. c.skip-2.ensures notes keeps (c.in_ok-line.ensures.ok ∙ number)) reads.state
+    (skips-bad c.args.self.now.bad_lines (c.args.self.now.read.lines + 1) c.args.self.now.state.latest c.args.fault c.in_ok-skip.ensures.ok) Silent noted (λ notes keeps number. c.skip-2.ensures notes keeps (c.in_ok-line.ensures.ok ∙ number)) (λ notes counts misses. misses-silent c.args.self.now.state notes misses) reads.state

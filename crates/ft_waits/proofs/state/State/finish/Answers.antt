@@ -6,11 +6,15 @@ use Rattle.ft_waits.proofs.state.State.finish.Goals as goal
 
 pub returns-clause-told : goal.returns-clause-told
 returns-clause-told c = on_ok_weaker c.settle.result (λ settles events told follows.
-    (all-settled c.args.self.now.tasks c.settle.new.tasks c.args.self.now.sums c.settle.new.sums c.args.self.now.held.items c.args.self.now.latest (acts_of (left_out_by c.args.self.now.left_out.items) events) told c.args.out.now.items c.settle.new.out.items settles follows.orders).0) c.settle.ensures.settles
+    (all-settled c.args.self.now.acts c.settle.new.acts c.args.self.now.sums c.settle.new.sums c.args.self.now.latest events (acts_of (left_out_by c.args.self.now.left_out.items) events) told c.args.out.now.items c.settle.new.out.items settles follows.orders).0) c.settle.ensures
 
 pub returns-clause-sums : goal.returns-clause-sums
 returns-clause-sums c = on_ok_weaker c.settle.result (λ settles events told follows.
-    (all-settled c.args.self.now.tasks c.settle.new.tasks c.args.self.now.sums c.settle.new.sums c.args.self.now.held.items c.args.self.now.latest (acts_of (left_out_by c.args.self.now.left_out.items) events) told c.args.out.now.items c.settle.new.out.items settles follows.orders).1) c.settle.ensures.settles
+    (all-settled c.args.self.now.acts c.settle.new.acts c.args.self.now.sums c.settle.new.sums c.args.self.now.latest events (acts_of (left_out_by c.args.self.now.left_out.items) events) told c.args.out.now.items c.settle.new.out.items settles follows.orders).1) c.settle.ensures
 
 pub returns-clause-wanted : goal.returns-clause-wanted
-returns-clause-wanted c = on_ok_weaker c.settle.result (λ settles. settles.sums.wanted) c.settle.ensures.settles
+returns-clause-wanted c = on_ok_weaker c.settle.result (λ settles. settles.sums.wanted) c.settle.ensures
+
+pub returns-clause-windows : goal.returns-clause-windows
+returns-clause-windows c = on_ok_weaker c.settle.result (λ settles events told follows.
+    (all-settled c.args.self.now.acts c.settle.new.acts c.args.self.now.sums c.settle.new.sums c.args.self.now.latest events (acts_of (left_out_by c.args.self.now.left_out.items) events) told c.args.out.now.items c.settle.new.out.items settles follows.orders).2) c.settle.ensures

@@ -10,5 +10,5 @@ returns-in-Ok-clause-adds c = λ choice text told read.
     let well = begun.failed refl in (
       begun.no refl choice text told read,
       well-read (and_without choice c.args.without) _ text told well
-          (added choice c.args.self.now _ c.args.without text told (record { bad_lines = refl; read = refl; losses = refl; lines = refl; first = refl; latest = refl; held = refl; tasks = refl; running = refl; missing = refl; starts = refl; sums = refl }) (begun.lines refl) c.in-Ok.ensures.ok (read-well choice c.args.self.now text told well read)),
+          (added choice c.args.self.now _ c.args.without text told (record { bad_lines = refl; read = refl; losses = refl; lines = refl; first = refl; latest = refl; acts = refl; running = refl; missing = refl; starts = refl; sums = refl }) (begun.lines refl) c.in-Ok.ensures.ok (read-well choice c.args.self.now text told well read)),
     )

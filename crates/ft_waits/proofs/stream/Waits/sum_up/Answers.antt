@@ -10,5 +10,5 @@ returns-clause-adds c = λ choice text told read.
     let well = begun.failed refl in (
       begun.no refl choice text told read,
       well-read (and_sums choice) _ text told well
-          (summed choice c.args.self.now _ c.new.result text told (record { bad_lines = refl; read = refl; losses = refl; lines = refl; first = refl; latest = refl; held = refl; tasks = refl; running = refl; missing = refl; starts = refl; left_out = refl }) (begun.lines refl) refl c.new.ensures (read-well choice c.args.self.now text told well read)),
+          (summed choice c.args.self.now _ c.new.result text told (record { bad_lines = refl; read = refl; losses = refl; lines = refl; first = refl; latest = refl; acts = refl; running = refl; missing = refl; starts = refl; left_out = refl }) (begun.lines refl) refl c.new.ensures (read-well choice c.args.self.now text told well read)),
     )

@@ -5,7 +5,7 @@ use Rattle.ft_losses.specs.declared.hole.Hole.{Hole}
 use Rattle.ft_losses.specs.declared.stretches.Stretch.{Stretch}
 use Rattle.ft_losses.specs.inner.Stretches.{stretches_of, Indexes}
 use Rattle.ft_losses.proofs.Spanning.{holes-any}
-use Rattle.ft_losses.proofs.index.Doubts.any_spans.Goals as goal
+use Rattle.ft_losses.proofs.index.Doubts.any.Goals as goal
 
 pub returns : goal.returns
 returns c =

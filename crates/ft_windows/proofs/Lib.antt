@@ -1,0 +1,5 @@
+mod Noting
+mod Keeping
+mod Stretches
+mod Below
+mod Behind
