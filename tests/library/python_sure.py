@@ -27,7 +27,8 @@ TOOL = os.path.realpath(os.path.join(HERE, "..", "..", "tools", "waits"))
 sys.path[:0] = [os.path.realpath(os.path.join(HERE, "..", "..", "python")), os.path.join(HERE, "..", "model")]
 
 import histdesk
-from histdesk import LossWarning, _text
+from histdesk import LossWarning
+from histdesk.trace import text as trace_text
 from python_jobs import Counting, cut_at, starts_of, waits_of
 from python_runner import main
 from recordings import line, stamp, switch, text_of
@@ -162,7 +163,8 @@ class Sure(unittest.TestCase):
             self.assertTrue(trace.why and trace.text)
             stamps = [float(found) for found in STAMP.findall(trace.text)]
             self.assertEqual(stamps, sorted(stamps))
-            self.assertGreaterEqual(len(stamps) + trace.has_loss, trace.text.count(b"\n"))
+            counts = trace.text.count(b"events overwritten\n")
+            self.assertGreaterEqual(len(stamps) + trace.has_loss + counts, trace.text.count(b"\n"))
 
     def test_whole(self):
         for trace in self.each():
@@ -189,7 +191,7 @@ class Sure(unittest.TestCase):
     def test_in_pieces(self):
         for trace in self.each():
             for size in (*range(1, 33), *range(33, len(trace.text) + 29, 29)):
-                with mock.patch.object(_text, "PIECE", size):
+                with mock.patch.object(trace_text, "PIECE", size):
                     self.assertEqual(told(waits_of(trace.text, 1)), trace.waits, size)
 
     def test_held(self):

@@ -9,7 +9,7 @@ use Rattle.std.proofs.lemmas.List.Folds.{list_any-append}
 use Rattle.ft_dispatch.specs.Joining.{has_one, first_ones, firsts, other_ones, others}
 use Rattle.ft_dispatch.specs.Holding.{has_task, Holds, TakesOn}
 use Rattle.ft_dispatch.specs.declared.dispatch.Dispatch.{Dispatch}
-use Rattle.ft_dispatch.specs.declared.tasks.Task.{Task}
+use Rattle.ft_dispatch.specs.declared.holding.Task.{Task}
 use Rattle.ft_dispatch.specs.declared.holding.FirstOnes.{FirstOnes}
 use Rattle.ft_dispatch.proofs.Firsts.{has-reverse}
 use Rattle.ft_dispatch.proofs.Written.{same-pid}

@@ -1,7 +1,6 @@
 -- A loop that completes dispatches by what is known of their tasks, and forgets that.
 use Rattle.std.specs.Prelude.{◌≡◌, ◌+◌, ◌<◌, ◌≤◌, ℕ, suc, ℤ, Bool, true, false, ◌||◌, List, [], ◌∷◌, ◌++◌, length, reverse, take, drop}
 use Rattle.std.specs.Ordering.{int_eq}
-use Rattle.std.specs.BTreeMap.{BTreeMap}
 use Rattle.std.proofs.Common.{refl, sym, ap, ◌∙◌, append_assoc, cond, get_or, set, arith}
 use Rattle.std.proofs.lemmas.List.{append-nil, reverse-append, length-reverse, length-take-le, take_more, take_all, drop_more, drop_all, get_or-append-add}
 use Rattle.std.proofs.Math.Seq.{set-append_seam}
@@ -9,15 +8,15 @@ use Rattle.ft_dispatch.specs.Joining.{has_one, completed_by, completed, all_comp
 use Rattle.ft_dispatch.specs.Telling.{unknown, known}
 use Rattle.ft_dispatch.specs.declared.dispatch.Dispatch.{Dispatch}
 use Rattle.ft_dispatch.specs.declared.dispatch.Since.{Since}
-use Rattle.ft_dispatch.specs.declared.tasks.Task.{Task}
+use Rattle.ft_dispatch.specs.declared.tasks.Known.{Known}
 use Rattle.ft_dispatch.proofs.Behind.{over-unknown}
 
 -- so many first dispatches are completed and the others stand, and what was known of the tasks of the first is forgotten
-pub record LeftOver (tasks : BTreeMap Task Since) (told : List Dispatch) (n : ℕ) (now : BTreeMap Task Since) (behind : List Dispatch) : Type 0 where
+pub record LeftOver (tasks : Known) (told : List Dispatch) (n : ℕ) (now : Known) (behind : List Dispatch) : Type 0 where
   pub done : behind ≡ joined (known tasks) (take n told) ++ drop n told
   pub knows : (pid : ℤ) → known now pid ≡ left_over (known tasks) (take n told) pid
 
-pub none-left-over : (tasks : BTreeMap Task Since) (told : List Dispatch) → LeftOver tasks told 0 tasks told
+pub none-left-over : (tasks : Known) (told : List Dispatch) → LeftOver tasks told 0 tasks told
 unfolding all_completed
 none-left-over tasks told = record { done = refl; knows = λ pid. refl }
 
@@ -35,7 +34,7 @@ forgotten : (a b : Bool) (before : Since) → cond a unknown (cond b unknown bef
 forgotten true b before = refl
 forgotten false b before = refl
 
-pub left-over-more : (tasks : BTreeMap Task Since) (told : List Dispatch) (i : ℕ) (now next : BTreeMap Task Since) (behind : List Dispatch) (one new : Dispatch)
+pub left-over-more : (tasks : Known) (told : List Dispatch) (i : ℕ) (now next : Known) (behind : List Dispatch) (one new : Dispatch)
     → LeftOver tasks told i now behind → i < length told → one ≡ get_or behind i one
     → new ≡ completed_by (known now one.pid) one → ((pid : ℤ) → known next pid ≡ cond (int_eq one.pid pid) unknown (known now pid))
     → LeftOver tasks told (i + 1) next (set behind i new)
@@ -67,7 +66,7 @@ left-over-more tasks told i now next behind one new inv within is completes forg
           ∙ ap (λ (ds : List Dispatch). cond (has_one pid ds) unknown (K pid)) (sym more);
     }
 
-pub all-left-over : (tasks : BTreeMap Task Since) (told : List Dispatch) (n : ℕ) (now : BTreeMap Task Since) (behind : List Dispatch) → LeftOver tasks told n now behind → length told ≤ n
+pub all-left-over : (tasks : Known) (told : List Dispatch) (n : ℕ) (now : Known) (behind : List Dispatch) → LeftOver tasks told n now behind → length told ≤ n
     → (behind ≡ joined (known tasks) told) × ((pid : ℤ) → known now pid ≡ left_over (known tasks) told pid)
 all-left-over tasks told n now behind inv past =
     let all = take_all n told past in (

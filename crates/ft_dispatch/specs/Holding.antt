@@ -5,7 +5,7 @@ use Rattle.std.specs.Ordering.{int_cmp}
 use Rattle.ft_dispatch.specs.Joining.{has_one, firsts, others}
 use Rattle.ft_dispatch.specs.declared.dispatch.Dispatch.{Dispatch}
 use Rattle.ft_dispatch.specs.declared.holding.FirstOnes.{FirstOnes}
-use Rattle.ft_dispatch.specs.declared.tasks.Task.{Task}
+use Rattle.ft_dispatch.specs.declared.holding.Task.{Task}
 
 -- whether a task is among some
 abbrev pub has_task : ℤ → BTreeSet Task → Bool

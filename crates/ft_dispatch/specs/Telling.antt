@@ -1,10 +1,9 @@
 -- What a map of tasks tells after acts: since when each task is runnable, and the dispatches so far.
-use Rattle.std.specs.Prelude.{◌≡◌, ℤ, pos, false, List, ◌++◌, reverse, None, map as list_map}
-use Rattle.std.specs.Option.{unwrap_or}
+use Rattle.std.specs.Prelude.{◌≡◌, ℤ, pos, false, List, ◌++◌, reverse, Option, Some, None, map as list_map}
 use Rattle.std.specs.List.{flat_map}
-use Rattle.std.specs.Map.{lookup}
-use Rattle.std.specs.Ordering.{int_cmp, int_eq, is_eq}
-use Rattle.std.specs.BTreeMap.{BTreeMap}
+use Rattle.std.specs.Ordering.{int_eq}
+use Rattle.ft_pids.specs.Entries.{entry_in}
+use Rattle.ft_pids.specs.Numbers.{number_of}
 use Rattle.ft_fields.specs.declared.pos.Pos.{Pos}
 use Rattle.ft_dispatch.specs.Acts.{Act, Waking, Creation, Wakeup, Switch, Handover}
 use Rattle.ft_dispatch.specs.Dispatches.{runnable_since, dispatches}
@@ -17,7 +16,8 @@ use Rattle.ft_dispatch.specs.declared.dispatch.Since.{Since}
 use Rattle.ft_dispatch.specs.declared.showing.FirstWaking.{FirstWaking}
 use Rattle.ft_dispatch.specs.declared.showing.Showing.{Showing}
 use Rattle.ft_dispatch.specs.declared.showing.Shown.{Shown}
-use Rattle.ft_dispatch.specs.declared.tasks.Task.{Task}
+use Rattle.ft_dispatch.specs.declared.tasks.Entry.{Entry}
+use Rattle.ft_dispatch.specs.declared.tasks.Known.{Known}
 use Rattle.ft_dispatch.specs.declared.tasks.Tasks.{Tasks}
 
 -- ---- tasks
@@ -26,9 +26,18 @@ use Rattle.ft_dispatch.specs.declared.tasks.Tasks.{Tasks}
 abbrev pub unknown : Since
 unknown = record { woken = None; created = None; left = None; seen = None; roused = None }
 
+-- the task of an entry
+abbrev pub task_of : Entry → ℤ
+task_of entry = entry.pid
+
+-- what the entry of a task says of it; nothing, if there is none
+abbrev pub said : Option Entry → Since
+said None = unknown
+said (Some entry) = entry.since
+
 -- what is known of a task
-abbrev pub known : BTreeMap Task Since → ℤ → Since
-known tasks pid = unwrap_or (lookup (λ task. is_eq (int_cmp pid task.pid)) tasks.entries) unknown
+abbrev pub known : Known → ℤ → Since
+known tasks pid = said (entry_in task_of (number_of tasks.numbers) tasks.entries.items pid)
 
 -- ---- acts at their places
 

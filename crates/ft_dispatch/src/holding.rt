@@ -5,9 +5,14 @@ ghost use Rattle.std.specs.Ordering.{int_eq};
 ghost use Rattle.ft_dispatch.specs.Holding.{has_task, Holds, TakesOn};
 
 use crate::dispatch::Dispatch;
-use crate::tasks::Task;
 use std::alloc::{AllocError, Global};
 use std::collections::BTreeSet;
+
+/// A task.
+#[derive(Clone, Copy, Debug, PartialEq, Eq, PartialOrd, Ord)]
+pub(crate) struct Task {
+    pub(crate) pid: i32,
+}
 
 /// The first dispatch of each task, of dispatches that come in any number of calls.
 #[derive(Drop)]

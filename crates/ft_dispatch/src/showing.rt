@@ -8,10 +8,9 @@ ghost use Rattle.ft_dispatch.specs.Telling.{known, act_from, Shows, ShowsFirsts}
 use crate::act::{Kind, PlacedAct};
 use crate::began::is_later;
 use crate::dispatch::{Left, Since};
-use crate::tasks::{Task, Tasks, unknown};
+use crate::tasks::{Known, Tasks};
 use ft_fields::Pos;
 use std::alloc::{AllocError, Global};
-use std::collections::BTreeMap;
 
 /// A stretch of time in which a task must have run though no event says so.
 #[derive(Clone, Copy, Debug, PartialEq, Eq)]
@@ -116,17 +115,6 @@ impl Since {
     }
 }
 
-/// What is known of a task.
-#[inline(always)]
-fn known_of(tasks: &BTreeMap<Task, Since>, pid: i32) -> Since
-    ensures { result ≡ known tasks.now pid }
-{
-    match tasks.get(&Task { pid }) {
-        Some(since) => *since,
-        None => unknown(),
-    }
-}
-
 impl Shown {
     /// Nothing is shown.
     pub fn new(alloc: Global) -> Shown
@@ -183,11 +171,7 @@ impl Shown {
 
 /// Adds what an act shows.
 #[inline(always)]
-pub(crate) fn show(
-    tasks: &BTreeMap<Task, Since>,
-    act: &PlacedAct,
-    shown: &mut Shown,
-) -> Result<(), AllocError>
+pub(crate) fn show(tasks: &Known, act: &PlacedAct, shown: &mut Shown) -> Result<(), AllocError>
     ensures showings { OnOk result (shown.new.showings.items ≡ shown.old.showings.items
         ++ showing_of act.now.place (act_from act.now.kind act.now) (known tasks.now)) }
     ensures firsts { OnOk result (shown.new.firsts.items ≡ shown.old.firsts.items
@@ -201,7 +185,7 @@ pub(crate) fn show(
             if act.by == act.pid {
                 return Ok(());
             }
-            shown.take(act.place.stamp, act.pid, known_of(tasks, act.pid))
+            shown.take(act.place.stamp, act.pid, tasks.of(act.pid))
         }
         Kind::Creation | Kind::Wakeup | Kind::Switch => Ok(()),
     }
@@ -210,26 +194,18 @@ pub(crate) fn show(
 /// Adds what a first waking of a part shows, by what is known of its task, and the waking, if it is the first one of
 /// all acts.
 #[inline(always)]
-fn show_first(
-    tasks: &BTreeMap<Task, Since>,
-    first: &FirstWaking,
-    shown: &mut Shown,
-) -> Result<(), AllocError>
+fn show_first(tasks: &Known, first: &FirstWaking, shown: &mut Shown) -> Result<(), AllocError>
     ensures showings { OnOk result (shown.new.showings.items
         ≡ shown.old.showings.items ++ shown_by (known tasks.now) first.now) }
     ensures firsts { OnOk result (shown.new.firsts.items
         ≡ shown.old.firsts.items ++ first_by (known tasks.now) first.now) }
 {
-    shown.take(first.at, first.pid, known_of(tasks, first.pid))
+    shown.take(first.at, first.pid, tasks.of(first.pid))
 }
 
 /// Adds what the first wakings of a part show, by what is known of their tasks, and those that are first wakings of
 /// all acts.
-fn show_all(
-    tasks: &BTreeMap<Task, Since>,
-    firsts: &[FirstWaking],
-    shown: &mut Shown,
-) -> Result<(), AllocError>
+fn show_all(tasks: &Known, firsts: &[FirstWaking], shown: &mut Shown) -> Result<(), AllocError>
     ensures { OnOk result ((shown.new.showings.items
         ≡ shown.old.showings.items ++ flat_map (shown_by (known tasks.now)) firsts.now)
         × (shown.new.firsts.items

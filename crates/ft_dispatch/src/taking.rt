@@ -9,9 +9,8 @@ ghost use Rattle.ft_dispatch.specs.inner.Changes.{after, changed, leaving, seen_
 use crate::act::{Kind, PlacedAct};
 use crate::dispatch::{Dispatch, Left, Since};
 use crate::showing::{Shown, show};
-use crate::tasks::{Change, Task, Tasks, run, set};
+use crate::tasks::{Change, Known, Tasks, run, set};
 use std::alloc::{AllocError, Global};
-use std::collections::BTreeMap;
 
 /// Where a switch leaves a task, and how.
 #[inline(always)]
@@ -67,7 +66,7 @@ fn dispatch(turn: &PlacedAct, since: Since, out: &mut Vec<Dispatch>) -> Result<(
 
 /// Takes an act on a task's line: the task runs.
 #[inline(always)]
-fn see(tasks: &mut BTreeMap<Task, Since>, act: &PlacedAct) -> Result<(), AllocError>
+fn see(tasks: &mut Known, act: &PlacedAct) -> Result<(), AllocError>
     ensures { OnOk result ((pid : ℤ) → known tasks.new pid
         ≡ seen_if (int_eq act.now.by pid) act.now.place (known tasks.old pid)) }
 {
@@ -76,11 +75,7 @@ fn see(tasks: &mut BTreeMap<Task, Since>, act: &PlacedAct) -> Result<(), AllocEr
 
 /// Takes an act that a task's line says of another task.
 #[inline(always)]
-fn change(
-    tasks: &mut BTreeMap<Task, Since>,
-    act: &PlacedAct,
-    change: Change,
-) -> Result<(), AllocError>
+fn change(tasks: &mut Known, act: &PlacedAct, change: Change) -> Result<(), AllocError>
     ensures { OnOk result ((pid : ℤ) → known tasks.new pid
         ≡ if int_eq act.now.pid pid then changed change (seen_if (int_eq act.now.by pid) act.now.place (known tasks.old pid))
         else seen_if (int_eq act.now.by pid) act.now.place (known tasks.old pid)) }
@@ -91,7 +86,7 @@ fn change(
 
 /// Takes a switch on the line of a task that it neither leaves nor runs: that task runs.
 #[inline(always)]
-fn see_another(tasks: &mut BTreeMap<Task, Since>, turn: &PlacedAct) -> Result<(), AllocError>
+fn see_another(tasks: &mut Known, turn: &PlacedAct) -> Result<(), AllocError>
     ensures { OnOk result ((pid : ℤ) → known tasks.new pid
         ≡ if int_eq turn.now.pid pid || int_eq turn.now.prev_pid pid then known tasks.old pid
         else seen_if (int_eq turn.now.by pid) turn.now.place (known tasks.old pid)) }
@@ -108,11 +103,7 @@ fn see_another(tasks: &mut BTreeMap<Task, Since>, turn: &PlacedAct) -> Result<()
 
 /// Takes a switch, and adds its dispatch.
 #[inline(always)]
-fn switch(
-    tasks: &mut BTreeMap<Task, Since>,
-    turn: &PlacedAct,
-    out: &mut Vec<Dispatch>,
-) -> Result<(), AllocError>
+fn switch(tasks: &mut Known, turn: &PlacedAct, out: &mut Vec<Dispatch>) -> Result<(), AllocError>
     ensures knows { OnOk result ((pid : ℤ) → known tasks.new pid
         ≡ after pid turn.now.place (act_from Kind.Switch turn.now) (known tasks.old pid)) }
     ensures out { OnOk result (out.new.items ≡ out.old.items
@@ -126,11 +117,7 @@ fn switch(
 
 /// Takes an act, and adds its dispatch, if it is a switch to a task.
 #[inline(always)]
-fn take(
-    tasks: &mut BTreeMap<Task, Since>,
-    act: &PlacedAct,
-    out: &mut Vec<Dispatch>,
-) -> Result<(), AllocError>
+fn take(tasks: &mut Known, act: &PlacedAct, out: &mut Vec<Dispatch>) -> Result<(), AllocError>
     ensures knows { OnOk result ((pid : ℤ) → known tasks.new pid
         ≡ after pid act.now.place (act_from act.now.kind act.now) (known tasks.old pid)) }
     ensures out { OnOk result (out.new.items ≡ out.old.items
@@ -150,7 +137,7 @@ impl Tasks {
         ensures { Tells result [] [] }
     {
         Tasks {
-            since: BTreeMap::new(alloc),
+            since: Known::new(alloc),
         }
     }
 

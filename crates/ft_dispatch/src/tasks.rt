@@ -1,28 +1,38 @@
 //! Since when each task is runnable.
 
-ghost use Rattle.std.specs.Prelude.{◌≡◌, ℤ, if◌then◌else◌, OnOk, IfOk};
+ghost use Rattle.std.specs.Prelude.{◌≡◌, ◌<◌, ℤ, true, length, slice_get, if◌then◌else◌, OnOk, IfOk};
 ghost use Rattle.std.specs.Option.{is_some, option_or};
 ghost use Rattle.std.specs.Ordering.{int_eq};
-ghost use Rattle.ft_dispatch.specs.Telling.{unknown, known};
+ghost use Rattle.ft_pids.specs.Entries.{own};
+ghost use Rattle.ft_dispatch.specs.Telling.{unknown, known, task_of};
 ghost use Rattle.ft_dispatch.specs.Joining.{over};
 ghost use Rattle.ft_dispatch.specs.inner.Changes.{changed, ran_at};
 
 use crate::dispatch::{Left, Since};
 use ft_fields::Pos;
-use std::alloc::AllocError;
-use std::collections::BTreeMap;
+use ft_pids::Numbers;
+use std::alloc::{AllocError, Global};
 use std::mem;
 
-/// A task.
-#[derive(Clone, Copy, Debug, PartialEq, Eq, PartialOrd, Ord)]
-pub(crate) struct Task {
+/// What is known of a task.
+#[derive(Clone, Copy)]
+pub(crate) struct Entry {
     pub(crate) pid: i32,
+    pub(crate) since: Since,
+}
+
+/// What is known of each task. The entry of a task stands at the number of its PID; at the number of a
+/// PID of which nothing is known, there is none, or that of another task.
+#[derive(Drop)]
+pub(crate) struct Known {
+    pub(crate) numbers: Numbers,
+    pub(crate) entries: Vec<Entry>,
 }
 
 /// Since when each task is runnable, after some acts.
 #[derive(Drop)]
 pub struct Tasks {
-    pub(crate) since: BTreeMap<Task, Since>,
+    pub(crate) since: Known,
 }
 
 /// Nothing made a task runnable.
@@ -65,24 +75,79 @@ pub(crate) fn over(part: Since, before: Since) -> Since
     }
 }
 
-/// Adds what is known of a task.
-#[inline(never)]
-fn add(tasks: &mut BTreeMap<Task, Since>, pid: i32, since: Since) -> Result<(), AllocError>
-    ensures ok { OnOk result ((q : ℤ) → known tasks.new q ≡ if int_eq pid q then since else known tasks.old q) }
+/// Whether the entry at a number is that of a task.
+#[inline(always)]
+pub(crate) fn is_of(entries: &[Entry], number: usize, pid: i32) -> bool
+    ensures is { result ≡ is_some (own task_of pid (slice_get entries.now number)) }
+    ensures within { result ≡ true → number < length entries.now }
 {
-    tasks.insert(Task { pid }, since)?;
-    Ok(())
+    match entries.get(number) {
+        Some(entry) => entry.pid == pid,
+        None => false,
+    }
 }
 
-/// Takes what is known of a task: nothing is known of it then.
-#[inline(always)]
-pub(crate) fn forget(tasks: &mut BTreeMap<Task, Since>, pid: i32) -> Since
-    ensures was { result ≡ known tasks.old pid }
-    ensures forgets { (q : ℤ) → known tasks.new q ≡ if int_eq pid q then unknown else known tasks.old q }
-{
-    match tasks.get_mut(&Task { pid }) {
-        Some(known) => mem::replace(known, unknown()),
-        None => unknown(),
+impl Known {
+    /// Nothing is known of any task.
+    pub(crate) fn new(alloc: Global) -> Known
+        ensures { (pid : ℤ) → known result pid ≡ unknown }
+    {
+        Known {
+            numbers: Numbers::new(alloc),
+            entries: Vec::new(alloc),
+        }
+    }
+
+    /// What is known of a task.
+    #[inline(always)]
+    pub(crate) fn of(&self, pid: i32) -> Since
+        ensures { result ≡ known self.now pid }
+    {
+        let number = self.numbers.get(pid);
+        if is_of(&self.entries, number, pid) {
+            self.entries[number].since
+        } else {
+            unknown()
+        }
+    }
+
+    /// Adds the entry of a task.
+    #[inline(never)]
+    fn add(&mut self, pid: i32, since: Since) -> Result<(), AllocError>
+        ensures { OnOk result ((q : ℤ) → known self.new q ≡ if int_eq pid q then since else known self.old q) }
+    {
+        let number = self.entries.len();
+        self.entries.push(Entry { pid, since })?;
+        self.numbers.put(pid, number)
+    }
+
+    /// Puts what is known of a task, in place of what was known.
+    #[inline(always)]
+    pub(crate) fn replace(&mut self, pid: i32, since: Since) -> Result<Since, AllocError>
+        ensures was { IfOk result (λ was. was ≡ known self.old pid) }
+        ensures is { OnOk result ((q : ℤ) → known self.new q ≡ if int_eq pid q then since else known self.old q) }
+    {
+        let number = self.numbers.get(pid);
+        if is_of(&self.entries, number, pid) {
+            Ok(mem::replace(&mut self.entries[number].since, since))
+        } else {
+            self.add(pid, since)?;
+            Ok(unknown())
+        }
+    }
+
+    /// Takes what is known of a task: nothing is known of it then.
+    #[inline(always)]
+    pub(crate) fn forget(&mut self, pid: i32) -> Since
+        ensures was { result ≡ known self.old pid }
+        ensures forgets { (q : ℤ) → known self.new q ≡ if int_eq pid q then unknown else known self.old q }
+    {
+        let number = self.numbers.get(pid);
+        if is_of(&self.entries, number, pid) {
+            mem::replace(&mut self.entries[number].since, unknown())
+        } else {
+            unknown()
+        }
     }
 }
 
@@ -102,21 +167,11 @@ fn ran_at(place: Pos) -> Since
 
 /// Takes what was known of a task that runs here.
 #[inline(always)]
-pub(crate) fn run(
-    tasks: &mut BTreeMap<Task, Since>,
-    pid: i32,
-    place: Pos,
-) -> Result<Since, AllocError>
+pub(crate) fn run(tasks: &mut Known, pid: i32, place: Pos) -> Result<Since, AllocError>
     ensures was { IfOk result (λ since. since ≡ known tasks.old pid) }
     ensures ran { OnOk result ((q : ℤ) → known tasks.new q ≡ if int_eq pid q then ran_at place else known tasks.old q) }
 {
-    match tasks.get_mut(&Task { pid }) {
-        Some(known) => Ok(mem::replace(known, ran_at(place))),
-        None => {
-            add(tasks, pid, ran_at(place))?;
-            Ok(unknown())
-        }
-    }
+    tasks.replace(pid, ran_at(place))
 }
 
 /// What an act changes of what is known of a task.
@@ -158,23 +213,17 @@ impl Since {
 
 /// Changes what is known of a task.
 #[inline(always)]
-pub(crate) fn set(
-    tasks: &mut BTreeMap<Task, Since>,
-    pid: i32,
-    change: Change,
-) -> Result<(), AllocError>
+pub(crate) fn set(tasks: &mut Known, pid: i32, change: Change) -> Result<(), AllocError>
     ensures { OnOk result ((q : ℤ) → known tasks.new q ≡ if int_eq pid q
         then changed change (known tasks.old q) else known tasks.old q) }
 {
-    match tasks.get_mut(&Task { pid }) {
-        Some(known) => {
-            known.set(change);
-            Ok(())
-        }
-        None => {
-            let mut since = unknown();
-            since.set(change);
-            add(tasks, pid, since)
-        }
+    let number = tasks.numbers.get(pid);
+    if is_of(&tasks.entries, number, pid) {
+        tasks.entries[number].since.set(change);
+        Ok(())
+    } else {
+        let mut since = unknown();
+        since.set(change);
+        tasks.add(pid, since)
     }
 }

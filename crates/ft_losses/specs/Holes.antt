@@ -1,6 +1,6 @@
 -- Where a CPU's events were lost: between two of its events, if a line between them reports it; or before its first event, if only the header says that events were overwritten and another CPU begins earlier. Notes stand newest first.
 use Rattle.std.specs.Prelude.{ℕ, zero, suc, ◌+◌, ◌==◌, ◌&&◌, Bool, true, false, not, min, nat_lt, List, [], ◌∷◌, ◌++◌, length, Option, Some, None, option_map, if◌then◌else◌}
-use Rattle.std.specs.Option.{option_or, option_and_then, is_none}
+use Rattle.std.specs.Option.{option_or, option_and_then, is_some, is_none}
 use Rattle.std.specs.List.{flat_map, list_any}
 use Rattle.ft_event.specs.Marks.{last_count}
 use Rattle.ft_event.specs.declared.mark.Mark.{Mark}
@@ -108,6 +108,10 @@ overwritten_after cpu Silent before = before
 unfoldable pub overwritten : ℕ → List Note → Option ℕ
 overwritten cpu [] = None
 overwritten cpu (note ∷ before) = overwritten_after cpu note (overwritten cpu before)
+
+-- whether a line tells how many events of a CPU were overwritten before its first one
+abbrev pub is_told : ℕ → List Note → Bool
+is_told cpu notes = is_some (overwritten cpu notes)
 
 -- ---- holes
 

@@ -1,5 +1,5 @@
 -- What is kept of the notes so far, newest first.
-use Rattle.std.specs.Prelude.{◌≡◌, ◌≤◌, ⊤, ℕ, List, Option, Some, None}
+use Rattle.std.specs.Prelude.{◌≡◌, ◌≤◌, ⊤, ℕ, Bool, false, List, Option, Some, None, slice_index_or}
 use Rattle.std.specs.List.{AllByRecursion}
 use Rattle.ft_fields.specs.Traced.{last_cpu}
 use Rattle.ft_losses.specs.Notes.{Note, Passed, Marked, Silent}
@@ -41,3 +41,11 @@ Keeps losses notes = IsKept losses.lanes.items losses.ended.items losses.begins 
 pub record AreLosses (notes : List Note) (read : LossesRead) : Type 0 where
   pub holes : read.holes.items ≡ holes notes
   pub buffers : read.buffers ≡ buffers notes
+
+-- whether a CPU is told, by truth values
+abbrev pub told_in : List Bool → ℕ → Bool
+told_in told cpu = slice_index_or told cpu false
+
+-- of each CPU that there can be, truth values say whether it is told as this does
+abbrev pub Tells : List Bool → (ℕ → Bool) → Type 0
+Tells told is_told = (cpu : ℕ) → cpu ≤ last_cpu → told_in told cpu ≡ is_told cpu

@@ -29,6 +29,10 @@
 //!   own lines report, if no hole has begun before it that has not ended: `Joins`
 //!   (`specs/Joining.antt`). `join` fails only for memory. Lets through: running out of memory at
 //!   any time, and what is kept after that.
+//! - `Losses::told`: a truth value for each CPU, by CPU: whether a line so far tells how many events
+//!   of the CPU were overwritten before its first one; exact, `is_told` (`specs/Holes.antt`). A line
+//!   that counts 0 events tells it too. Fails only for memory. Lets through: running out of memory
+//!   at any time.
 //! - `Doubts::of`, `holes`: an index of holes is seen as the list of these holes, in their order. Fails
 //!   only for memory. Lets through: running out of memory at any time.
 //! - `Doubts::doubt`: how sure a wait from a place to another is; exact, `doubt`
@@ -51,6 +55,7 @@ mod late;
 mod losses;
 mod reading;
 mod stretches;
+mod told;
 
 pub use doubt::{Doubt, Wait};
 pub use hole::{Buffers, Hole};

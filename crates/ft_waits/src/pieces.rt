@@ -163,8 +163,9 @@ fn all_losses(alloc: Global, losses: Losses, windows: &Windows) -> Result<Losses
     ensures { IfOk result (λ read. (notes : List Note) (events : List Traced) (shown : List Showing)
         → Keeps losses notes → KeepsWindows windows.now events shown → AreAllLosses notes events shown read) }
 {
+    let told = losses.told(alloc)?;
     let mut read = losses.finish(alloc)?;
-    windows.add_to(alloc, &mut read.holes)?;
+    windows.add_to(alloc, &told, &mut read.holes)?;
     Ok(read)
 }
 

@@ -1,5 +1,5 @@
 -- The windows of CPUs below a number.
-use Rattle.std.specs.Prelude.{◌≡◌, ◌<◌, ◌+◌, ℕ, zero, suc, List, [], ◌∷◌, ◌++◌}
+use Rattle.std.specs.Prelude.{◌≡◌, ◌<◌, ◌+◌, ℕ, zero, suc, Bool, List, [], ◌∷◌, ◌++◌}
 use Rattle.std.specs.FinMap as finite
 use Rattle.std.specs.List.{flat_map}
 use Rattle.std.proofs.Common.{refl, sym, ap, ◌∙◌, append_assoc, arith, add-one}
@@ -8,6 +8,7 @@ use Rattle.std.proofs.lemmas.Grind.{flat_map-append}
 use Rattle.std.proofs.lemmas.List.Concat.{flat_map-cons}
 use Rattle.ft_fields.specs.Traced.{Traced}
 use Rattle.ft_losses.specs.Holes.{cpus_below}
+use Rattle.ft_losses.specs.Telling.{told_in, Tells}
 use Rattle.ft_losses.specs.declared.hole.Hole.{Hole}
 use Rattle.ft_windows.specs.Naming.{named_before, named_after, first_edge, last_edge}
 use Rattle.ft_windows.specs.Showings.{shown_before, shown_from, span_cmp}
@@ -36,13 +37,13 @@ same-below f g (suc n) same =
     ∙ sym (flat_map-append g (cpus_below n) (n ∷ []))
 
 -- the windows by what is kept
-module _ (self : Windows) (events : List Traced) (showings : List Showing) (keeps : Keeps self events showings) where
-  late-is : flat_map (λ cpu. late_window (λ pid stamp. begins_before (named_in self.tasks pid) stamp) (is_before self.least_at) cpu (lane_in self.lanes.items cpu).first) (cpus_below 8192)
-      ≡ flat_map (λ cpu. late_window (named_before events) (shown_before showings) cpu (first_edge cpu events)) (cpus_below 8192)
+module _ (self : Windows) (events : List Traced) (showings : List Showing) (told : List Bool) (is_told : ℕ → Bool) (keeps : Keeps self events showings) (tells : Tells told is_told) where
+  late-is : flat_map (λ cpu. late_window (told_in told) (λ pid stamp. begins_before (named_in self.tasks pid) stamp) (is_before self.least_at) cpu (lane_in self.lanes.items cpu).first) (cpus_below 8192)
+      ≡ flat_map (λ cpu. late_window is_told (named_before events) (shown_before showings) cpu (first_edge cpu events)) (cpus_below 8192)
   late-is =
-      same-below (λ cpu. late_window (λ pid stamp. begins_before (named_in self.tasks pid) stamp) (is_before self.least_at) cpu (lane_in self.lanes.items cpu).first)
-      (λ cpu. late_window (named_before events) (shown_before showings) cpu (first_edge cpu events)) 8192
-      (λ cpu low. (λ i. late_window (λ pid stamp. keeps.before pid stamp i) (λ stamp. keeps.shown stamp i) cpu (keeps.first cpu (omega (arith, low)) i)))
+      same-below (λ cpu. late_window (told_in told) (λ pid stamp. begins_before (named_in self.tasks pid) stamp) (is_before self.least_at) cpu (lane_in self.lanes.items cpu).first)
+      (λ cpu. late_window is_told (named_before events) (shown_before showings) cpu (first_edge cpu events)) 8192
+      (λ cpu low. (λ i. late_window (λ other. tells cpu (omega (arith, low)) i) (λ pid stamp. keeps.before pid stamp i) (λ stamp. keeps.shown stamp i) cpu (keeps.first cpu (omega (arith, low)) i)))
 
   early-is : flat_map (λ cpu. early_window (λ pid stamp. ends_after (named_in self.tasks pid) stamp) (is_from self.greatest_from) cpu (lane_in self.lanes.items cpu).last) (cpus_below 8192)
       ≡ flat_map (λ cpu. early_window (named_after events) (shown_from showings) cpu (last_edge cpu events)) (cpus_below 8192)
@@ -52,15 +53,15 @@ module _ (self : Windows) (events : List Traced) (showings : List Showing) (keep
       (λ cpu low. (λ i. early_window (λ pid stamp. keeps.after pid stamp i) (λ stamp. keeps.from stamp i) cpu (keeps.last cpu (omega (arith, low)) i)))
 
   pub all-windows : (old late found : List Hole)
-      → late ≡ old ++ flat_map (λ cpu. late_window (λ pid stamp. begins_before (named_in self.tasks pid) stamp) (is_before self.least_at) cpu (lane_in self.lanes.items cpu).first) (cpus_below 8192)
+      → late ≡ old ++ flat_map (λ cpu. late_window (told_in told) (λ pid stamp. begins_before (named_in self.tasks pid) stamp) (is_before self.least_at) cpu (lane_in self.lanes.items cpu).first) (cpus_below 8192)
       → found ≡ late ++ flat_map (λ cpu. early_window (λ pid stamp. ends_after (named_in self.tasks pid) stamp) (is_from self.greatest_from) cpu (lane_in self.lanes.items cpu).last) (cpus_below 8192)
-      → found ≡ old ++ windows events showings
+      → found ≡ old ++ windows is_told events showings
   all-windows old late found first is =
       is ∙ (λ i. first i ++ early-is i) ∙ ap (λ (hs : List Hole). (old ++ hs) ++ flat_map (λ cpu. early_window (named_after events) (shown_from showings) cpu (last_edge cpu events)) (cpus_below 8192)) late-is
-      ∙ append_assoc old (flat_map (λ cpu. late_window (named_before events) (shown_before showings) cpu (first_edge cpu events)) (cpus_below 8192)) (flat_map (λ cpu. early_window (named_after events) (shown_from showings) cpu (last_edge cpu events)) (cpus_below 8192))
+      ∙ append_assoc old (flat_map (λ cpu. late_window is_told (named_before events) (shown_before showings) cpu (first_edge cpu events)) (cpus_below 8192)) (flat_map (λ cpu. early_window (named_after events) (shown_from showings) cpu (last_edge cpu events)) (cpus_below 8192))
 
   -- and the stretches that no hole spans
-  pub all-holes : (old spanning found : List Hole) → spanning ≡ old ++ windows events showings → found ≡ spanning ++ flat_map (unspanned spanning) (finite.keys (seen span_cmp self.spans))
-      → found ≡ with_windows old events showings
+  pub all-holes : (old spanning found : List Hole) → spanning ≡ old ++ windows is_told events showings → found ≡ spanning ++ flat_map (unspanned spanning) (finite.keys (seen span_cmp self.spans))
+      → found ≡ with_windows is_told old events showings
   all-holes old spanning found are is =
       is ∙ (λ i. are i ++ flat_map (unspanned (are i)) (spans-are self.spans showings keeps.all i))

@@ -1,18 +1,19 @@
 -- What is kept of events and showings: the answers to questions about them, which don't depend on the order of showings.
-use Rattle.std.specs.Prelude.{◌≡◌, ◌≤◌, ℕ, ℤ, Bool, false, not, is_some, List, Option, Some, None, nat_lt, slice_index_or}
+use Rattle.std.specs.Prelude.{◌≡◌, ◌≤◌, ℕ, ℤ, Bool, false, not, is_some, List, Option, Some, None, option_map, nat_lt, slice_index_or}
 use Rattle.std.specs.BTreeMap.{BTreeMap}
 use Rattle.std.specs.FinMap as finite
 use Rattle.std.specs.List.{list_any}
-use Rattle.std.specs.Map.{lookup}
-use Rattle.std.specs.Ordering.{int_cmp, is_eq}
 use Rattle.ft_dispatch.specs.declared.showing.Showing.{Showing}
 use Rattle.ft_fields.specs.Traced.{Traced, last_cpu}
 use Rattle.ft_maps.specs.Seen.{seen}
+use Rattle.ft_pids.specs.Entries.{entry_in}
+use Rattle.ft_pids.specs.Numbers.{number_of}
 use Rattle.ft_windows.specs.Naming.{named_before, named_after, first_edge, last_edge}
 use Rattle.ft_windows.specs.Showings.{shown_before, shown_from, is_shown, span_cmp}
 use Rattle.ft_windows.specs.declared.lanes.Lane.{Lane}
 use Rattle.ft_windows.specs.declared.naming.Named.{Named}
-use Rattle.ft_windows.specs.declared.naming.Task.{Task}
+use Rattle.ft_windows.specs.declared.naming.Entry.{Entry}
+use Rattle.ft_windows.specs.declared.naming.Names.{Names}
 use Rattle.ft_windows.specs.declared.spans.Span.{Span}
 use Rattle.ft_windows.specs.declared.windows.Windows.{Windows}
 
@@ -26,9 +27,13 @@ no_lane = record { first = None; last = None }
 abbrev pub lane_in : List Lane → ℕ → Lane
 lane_in lanes cpu = slice_index_or lanes cpu no_lane
 
+-- the task of an entry
+abbrev pub task_of : Entry → ℤ
+task_of entry = entry.pid
+
 -- what is kept of a task
-abbrev pub named_in : BTreeMap Task Named → ℤ → Option Named
-named_in tasks pid = lookup (λ task. is_eq (int_cmp pid task.pid)) tasks.entries
+abbrev pub named_in : Names → ℤ → Option Named
+named_in tasks pid = option_map (λ entry. entry.named) (entry_in task_of (number_of tasks.numbers) tasks.entries.items pid)
 
 -- whether a task was named first before a stamp, and last after it
 abbrev pub begins_before : Option Named → ℕ → Bool

@@ -1,32 +1,44 @@
 //! What is kept of a part that was read apart.
 
-ghost use Rattle.std.specs.Prelude.{◌≡◌, ◌≤◌, ◌||◌, ◌++◌, ℕ, ℤ, List, OnOk, vec_len};
+ghost use Rattle.std.specs.Prelude.{◌≡◌, ◌≤◌, ◌<◌, ◌&&◌, ◌||◌, ◌++◌, ℕ, ℤ, nat_eq, length, List, OnOk, vec_len};
 ghost use Rattle.std.specs.Option.{option_or};
 ghost use Rattle.ft_fields.specs.Traced.{Traced, last_cpu};
+ghost use Rattle.ft_pids.specs.Numbers.{number_of};
 ghost use Rattle.ft_windows.specs.Telling.{Keeps, lane_in, named_in, begins_before, ends_after};
 ghost use Rattle.ft_dispatch.specs.declared.showing.Showing.{Showing};
 
 use crate::lanes::{CPUS, Lane, lane_of, put_lane};
-use crate::naming::{Named, Task, note};
+use crate::naming::{Names, note};
 use crate::spans::add_spans;
 use crate::taking::{greatest, least};
 use crate::windows::Windows;
 use std::alloc::AllocError;
-use std::collections::BTreeMap;
+
+/// Adds what is kept of a part's task: of that whose entry stands at this number, if it is the number of its PID.
+#[inline(always)]
+fn note_one(tasks: &mut Names, part: &Names, number: usize) -> Result<(), AllocError>
+    requires { number < length part.now.entries.items }
+    ensures before { OnOk result ((q : ℤ) (stamp : ℕ) → begins_before (named_in tasks.new q) stamp
+        ≡ ((nat_eq (number_of part.now.numbers q) number && begins_before (named_in part.now q) stamp) || begins_before (named_in tasks.old q) stamp)) }
+    ensures after { OnOk result ((q : ℤ) (stamp : ℕ) → ends_after (named_in tasks.new q) stamp
+        ≡ ((nat_eq (number_of part.now.numbers q) number && ends_after (named_in part.now q) stamp) || ends_after (named_in tasks.old q) stamp)) }
+{
+    let entry = part.entries[number];
+    if part.numbers.get(entry.pid) != number {
+        return Ok(());
+    }
+    note(tasks, entry.pid, entry.named)
+}
 
 /// Adds what is kept of a part's tasks.
-fn note_all(
-    tasks: &mut BTreeMap<Task, Named>,
-    part: BTreeMap<Task, Named>,
-) -> Result<(), AllocError>
+fn note_all(tasks: &mut Names, part: &Names) -> Result<(), AllocError>
     ensures before { OnOk result ((q : ℤ) (stamp : ℕ) → begins_before (named_in tasks.new q) stamp
-        ≡ (begins_before (named_in part q) stamp || begins_before (named_in tasks.old q) stamp)) }
+        ≡ (begins_before (named_in part.now q) stamp || begins_before (named_in tasks.old q) stamp)) }
     ensures after { OnOk result ((q : ℤ) (stamp : ℕ) → ends_after (named_in tasks.new q) stamp
-        ≡ (ends_after (named_in part q) stamp || ends_after (named_in tasks.old q) stamp)) }
+        ≡ (ends_after (named_in part.now q) stamp || ends_after (named_in tasks.old q) stamp)) }
 {
-    let mut rest = part;
-    while let Some((task, named)) = rest.pop_first() {
-        note(tasks, task.pid, named)?;
+    for number in 0..part.entries.len() {
+        note_one(tasks, part, number)?;
     }
     Ok(())
 }
@@ -59,7 +71,7 @@ impl Windows {
         ensures { OnOk result ((events own : List Traced) (showings more : List Showing) → Keeps self.old events showings
             → Keeps part own more → Keeps self.new (own ++ events) (showings ++ more)) }
     {
-        note_all(&mut self.tasks, part.tasks)?;
+        note_all(&mut self.tasks, &part.tasks)?;
         add_spans(&mut self.spans, &part.spans)?;
         join_lanes(&mut self.lanes, &part.lanes);
         self.least_at = least(self.least_at, part.least_at);

@@ -5,8 +5,9 @@
 //! let mut windows = Windows::new(alloc)?;
 //! windows.take(&event)?;
 //! windows.show_all(&showings)?;
+//! let told = losses.told(alloc)?;
 //! let mut holes = losses.finish(alloc)?.holes;
-//! windows.add_to(alloc, &mut holes)?;
+//! windows.add_to(alloc, &told, &mut holes)?;
 //! let doubts = Doubts::of(alloc, &holes)?;
 //! ```
 //!
@@ -28,9 +29,12 @@
 //!   part. Fails only for memory. Lets through: running out of memory at any time; what is kept
 //!   then.
 //! - `Windows::add_to`: adds the windows to the holes that lines report, and then each showing that
-//!   none of all these holes spans; exact, `with_windows` (`specs/Windows.antt`). Which holes are
-//!   added, and in which order, doesn't depend on the order in which showings came. Fails only for
-//!   memory. Lets through: running out of memory at any time; which holes are added then.
+//!   none of all these holes spans; exact, `with_windows` (`specs/Windows.antt`). A CPU is told, if
+//!   the recorder told how many of its events were overwritten before its first one: it has no
+//!   window there, and its window after its last event stays. A CPU without a truth value isn't
+//!   told. Which holes are added, and in which order, doesn't depend on the order in which showings
+//!   came. Fails only for memory. Lets through: running out of memory at any time; which holes are
+//!   added then.
 //! - `showings_in_any_order`: the law that what is kept of some showings is kept of any others that
 //!   answer alike.
 #![tactic(auto)]

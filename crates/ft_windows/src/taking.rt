@@ -8,7 +8,7 @@ ghost use Rattle.ft_windows.specs.Naming.{next_by};
 ghost use Rattle.ft_windows.specs.Telling.{Keeps, is_before, is_from};
 
 use crate::lanes::{Edge, Lane, lane_of, no_lanes, put_lane};
-use crate::naming::{Named, note, note_body};
+use crate::naming::{Named, no_names, note, note_body};
 use crate::spans::add_span;
 use crate::windows::Windows;
 use ft_dispatch::Showing;
@@ -60,7 +60,7 @@ impl Windows {
     {
         Ok(Windows {
             lanes: no_lanes(alloc)?,
-            tasks: BTreeMap::new(alloc),
+            tasks: no_names(alloc),
             spans: BTreeMap::new(alloc),
             least_at: None,
             greatest_from: None,

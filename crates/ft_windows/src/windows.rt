@@ -3,9 +3,8 @@
 ghost use Rattle.std.specs.Prelude.{◌≡◌, vec_len};
 
 use crate::lanes::Lane;
-use crate::naming::{Named, Task};
+use crate::naming::Names;
 use crate::spans::SpanSet;
-use std::collections::BTreeMap;
 
 /// What events and showings tell of the time in which events of CPUs are missing.
 #[derive(Drop)]
@@ -13,7 +12,7 @@ pub struct Windows {
     /// What is kept of each CPU.
     pub(crate) lanes: Vec<Lane>,
     /// What is kept of each task.
-    pub(crate) tasks: BTreeMap<Task, Named>,
+    pub(crate) tasks: Names,
     /// The stretches that were shown.
     pub(crate) spans: SpanSet,
     /// The least stamp of an event that shows one.
