@@ -234,7 +234,7 @@ enum {
     MAPPED = 'M',  /* converted lines, in the next piece of memory */
     AWAITED = 'A', /* the converted line of the event that the tool prints next */
     TOLD = 'T',    /* what the tool itself printed */
-    END = 'E',     /* all is written */
+    END = 'E',     /* all is written; the head counts events, or has 0 */
 };
 
 struct head {
@@ -345,10 +345,10 @@ static inline void flush_lines(void)
     block_lines = 0;
 }
 
-/* Ends the blocks. */
-static inline void write_end(void)
+/* Ends the blocks, of which so many events were made, or 0 if that isn't counted. */
+static inline void write_end(uint32_t events)
 {
-    write_block(END, "", 0, 0);
+    write_block(END, "", 0, events);
     flush_output();
 }
 

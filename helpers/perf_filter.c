@@ -11,6 +11,8 @@
  *   other:SYSTEM:NAME:ID:SIZE:TEXT      the text of an event of another kind, in which %d24.4; stands for four bytes at offset
  *                                       24 as a number, %u and %x likewise, %s8.16; for a text of at most 16 bytes, and
  *                                       %t8.4; for one whose place and length are there
+ *   strange                             the numbers of events' tasks are of another PID namespace: each event is of the task
+ *                                       to which its CPU has switched
  *   memory:FILE:PIPE                    open files for memory and for what is free of it */
 #define _GNU_SOURCE
 #include <perf/perf_dlfilter.h>
@@ -74,6 +76,12 @@ static struct {
 } state_bits[BITS];
 static int bit_count;
 
+/* Whether the numbers of events' tasks are of another PID namespace. */
+static bool is_strange;
+
+/* What stands in perf's line about lost events. */
+static const char LOSS[] = "PERF_RECORD_LOST";
+
 /* What perf prints stays in its stream, which has this room; nothing is ever written into the file of memory behind it. */
 static char told[TOLD_ROOM];
 static int told_by_perf = -1;
@@ -83,7 +91,7 @@ static unsigned seen, left, skipped;
 
 /* ---- What perf prints itself */
 
-/* Hands on what perf has printed, which is in its stream. It may report lost events, so no CPU's task is known any more. */
+/* Hands on what perf has printed, which is in its stream. If it reports lost events, no CPU's task is known any more. */
 static void hand_on(void)
 {
     size_t length = __fpending(stdout);
@@ -91,8 +99,9 @@ static void hand_on(void)
     flush_lines();
     if (length > 0)
         write_block(TOLD, told, length, 0);
+    if (memmem(told, length, LOSS, sizeof LOSS - 1))
+        age++;
     __fpurge(stdout);
-    age++;
 }
 
 /* ---- Lines */
@@ -167,9 +176,9 @@ static char *put_known(char *to, int tid, void *ctx)
     return THEN(to, "-", put_signed(to, tid));
 }
 
-/* The name and number of a task that is gone: its last switch has them itself, and any other event is of the task to which its
- * CPU has switched. */
-static char *put_gone(char *to, const struct perf_dlfilter_sample *sample, int which)
+/* The name and number of a task that perf doesn't know: its last switch has them itself, and any other event is of the task to
+ * which its CPU has switched. */
+static char *put_unknown(char *to, const struct perf_dlfilter_sample *sample, int which)
 {
     const char *raw = sample->raw_data;
     const int *at = kinds[SWITCH].at;
@@ -288,8 +297,9 @@ static char *put_parts(char *to, const struct other *other, const struct perf_dl
 static char *put_line(char *to, const struct perf_dlfilter_sample *sample, int which, void *ctx, int *fresh)
 {
     const char *raw = sample->raw_data, *name = label_at(which);
+    bool is_unknown = is_strange || sample->tid == -1;
 
-    to = sample->tid == -1 ? put_gone(to, sample, which) : sample->tid < 0 ? NULL : put_known(to, sample->tid, ctx);
+    to = is_unknown ? put_unknown(to, sample, which) : sample->tid < 0 ? NULL : put_known(to, sample->tid, ctx);
     to = THEN(to, " [", put_cpu(to, sample->cpu));
     to = THEN(to, "] ", put_stamp(to, sample->time));
     to = THEN(to, ": ", put(to, name, strlen(name)));
@@ -343,13 +353,20 @@ static bool is_skipped(void)
     return false;
 }
 
+/* Leaves an event to perf, which may be a switch of any CPU. */
+static char *left_unread(void)
+{
+    age++;
+    return NULL;
+}
+
 /* Converts an event at the end of the block; returns the end of its line, or NULL. */
 static char *turned(const struct perf_dlfilter_sample *sample, int which, void *ctx, int *fresh)
 {
     char *end;
 
     if (is_of_guest(sample) || which < 0 || !is_whole(sample, kind_at(which)))
-        return NULL;
+        return left_unread();
     if (__fpending(stdout) > 0)
         hand_on();
     end = put_line(block + block_used, sample, which, ctx, fresh);
@@ -371,7 +388,7 @@ int filter_event_early(void *data, const struct perf_dlfilter_sample *sample, vo
     if (__fpending(stdout) >= TOLD_SIZE)
         hand_on();
     which = kind_of(sample);
-    end = is_skipped() ? NULL : turned(sample, which, ctx, &fresh);
+    end = is_skipped() ? left_unread() : turned(sample, which, ctx, &fresh);
     if (is_broken)
         return -1;
     if (!end) {
@@ -490,7 +507,7 @@ static bool take_word(char *text)
     const char *name = strsep(&text, ":");
 
     if (!text)
-        return false;
+        return is_strange = strcmp(name, "strange") == 0;
     if (strcmp(name, "memory") == 0)
         return take_memory(text);
     if (strcmp(name, "other") == 0)
@@ -538,7 +555,7 @@ int stop(void *data, void *ctx)
     /* What perf has written by itself is in no block. */
     if (lseek(told_by_perf, 0, SEEK_END) != 0)
         return -1;
-    write_end();
+    write_end(0);
     if (dup2(blocks_to, STDOUT_FILENO) < 0)
         return -1;
     return is_broken ? -1 : 0;

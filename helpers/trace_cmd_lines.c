@@ -26,6 +26,7 @@ static struct tep_handle *tep;
 static struct trace_seq info, told;
 /* Whether the recording has something that isn't known here, so that it can't be converted here. */
 static bool is_unknown;
+static uint32_t events;
 
 /* ---- Flags */
 
@@ -292,6 +293,7 @@ static int take_record(struct tracecmd_input *handle, struct tep_record *record,
 
     (void)handle;
     (void)data;
+    events++;
     if (record->missed_events != 0)
         print_lost(record, cpu);
     if (which >= 0) {
@@ -334,6 +336,6 @@ int main(int count, char **words)
     flush_lines();
     if (status != 0 || is_unknown || is_broken)
         return 1;
-    write_end();
+    write_end(events);
     return is_broken;
 }

@@ -33,11 +33,12 @@ from kinds import KINDS, NotRecorded
 from load import LOADS, Load, random_load, running
 from verdict import EACH, Verdict, verdict_on
 
-# What the gate records, under which load and for how many seconds: a quiet recording has to last, and perf takes a while to
-# begin on all CPUs.
+# What the gate records, under which load and for how many seconds. A quiet recording has to last, and so has one of perf, which
+# takes a while to begin and to end on all CPUs, and one with a quota, under which a wait lasts most of a tenth of a second:
+# waits at the ends of such a recording aren't sure.
 GATE = [
     ("perf", "loaded", 2.5),
-    ("perf", "quota", 2.5),
+    ("perf", "quota", 4),
     ("perf-overwrite", "loaded", 2.5),
     ("record", "loaded", 1.2),
     ("tracefs", "quiet", 2.5),

@@ -5,7 +5,7 @@ scheduler's events and the kernel's reports of who ran, with stamps of CLOCK_MON
 """
 
 import os
-import re
+import select
 import signal
 import subprocess
 import time
@@ -22,8 +22,6 @@ EVENTS = [*_schema.TRACED_EVENTS, "sched_stat_runtime"]
 SCHED = [word for name in EVENTS for word in ("-e", f"sched:{name}")]
 # A program that takes more seconds than this is ended.
 LIMIT = 120
-# trace-cmd records so often at most.
-TRIES = 4
 
 # A kernel may lack files that trace-cmd writes to: plain ones stand in for them, in a mount namespace of its own.
 STAND_INS = """
@@ -83,28 +81,32 @@ def text_by(converter: str, path: str) -> bytes:
 
 
 def by_perf(options: List[str], folder: str, during: During) -> bytes:
-    path = os.path.join(folder, "perf.data")
-    run_while(["perf", "record", "-q", "-a", "-k", "CLOCK_MONOTONIC", "-o", path, *options, *SCHED], lambda _: during())
+    """perf, which on a busy machine may take seconds to begin: it is told to, and answers once all events are enabled."""
+    path, asked, answered = (os.path.join(folder, name) for name in ("perf.data", "asked", "answered"))
+    # Both are opened for reading too, so that nothing waits for perf.
+    ends = [os.mkfifo(name) or os.open(name, os.O_RDWR) for name in (asked, answered)]
+
+    def once_it_records(_: int) -> None:
+        os.write(ends[0], b"enable\n")
+        if not select.select([ends[1]], [], [], LIMIT)[0]:
+            raise NotRecorded("perf doesn't begin")
+        during()
+
+    when = ["-D", "-1", "--control", f"fifo:{asked},{answered}"]
+    try:
+        run_while(["perf", "record", "-q", "-a", "-k", "CLOCK_MONOTONIC", "-o", path, *when, *options, *SCHED], once_it_records)
+    finally:
+        for end, name in zip(ends, (asked, answered)):
+            os.close(end)
+            os.remove(name)
     return text_by("from-perf", path)
 
 
 def by_trace_cmd(kib: int, folder: str, during: During) -> bytes:
-    """trace-cmd. What it reads while it records may not come into its file, and no line says so: then it records again."""
     path = os.path.join(folder, "trace.dat")
     words = ["-q", "-b", str(kib), "-C", "mono", "-o", path, *SCHED]
-    for _ in range(TRIES):
-        run_while(["unshare", "-m", "bash", "-c", STAND_INS, folder, *words], lambda _: during())
-        text = text_by("from-trace-cmd", path)
-        missing = recorded_by_trace_cmd(path) - sum(1 for line in text.splitlines() if b": sched_" in line)
-        if not missing or b" EVENTS]" in text:
-            return text
-    raise NotRecorded(f"trace-cmd has lost {missing} events, and doesn't say where")
-
-
-def recorded_by_trace_cmd(path: str) -> int:
-    """Return how many events the kernel had for trace-cmd: those that it read, and those that were left when it ended."""
-    ran = subprocess.run(["trace-cmd", "report", "--stat", "-i", path], capture_output=True, timeout=LIMIT)
-    return sum(map(int, re.findall(rb"^(?:entries|read events): ([0-9]+)$", ran.stdout, re.MULTILINE)))
+    run_while(["unshare", "-m", "bash", "-c", STAND_INS, folder, *words], lambda _: during())
+    return text_by("from-trace-cmd", path)
 
 
 def put(instance: str, settings: Dict[str, object]) -> None:

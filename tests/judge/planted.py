@@ -5,7 +5,7 @@ It needs neither root nor a recording. The last line says how many of how many t
 
 import os
 import sys
-from typing import List, Tuple
+from typing import List, Sequence, Tuple
 
 # Nothing is written beside the sources.
 sys.dont_write_bytecode = True
@@ -15,7 +15,7 @@ sys.path[1:1] = [os.path.join(ROOT, "python"), os.path.join(ROOT, "tests", "tool
 
 from account import TAKEN, Reading, Readings
 from checks import check, finish
-from verdict import Verdict, Wait, verdict_of
+from verdict import Stretch, Verdict, Wait, verdict_of
 
 # The task that is judged.
 PID = 7
@@ -43,12 +43,14 @@ def readings(*delays: int, pid: int = PID) -> Readings:
     return {pid: [Reading(1000 + 50_000 * at, delay, 1010 + 50_000 * at) for at, delay in enumerate(delays)]}
 
 
-def judged(waits: List[Tuple[str, int, int, bool]], lines: List[str], account: Readings) -> Verdict:
+def judged(
+    waits: List[Tuple[str, int, int, bool]], lines: List[str], account: Readings, unseen: Sequence[Stretch] = ()
+) -> Verdict:
     """Judge waits of the task, each by its kind, its ends and whether it is sure, in a text of these lines, which two switches
-    enclose."""
+    enclose, and in which tasks ran `unseen`."""
     text = [switch(1, 1, PID, "S", 8), *lines, switch(1, 999_999, 8, "R", PID)]
     all_of = [Wait(PID, kind, begin, end, 1, is_sure) for kind, begin, end, is_sure in waits]
-    return verdict_of(all_of, "\n".join(text).encode(), account)
+    return verdict_of(all_of, "\n".join(text).encode(), account, unseen=unseen)
 
 
 def false(waits: List[Tuple[str, int, int, bool]], lines: List[str], account: Readings) -> int:
@@ -99,9 +101,39 @@ def check_uncounted() -> None:
     check(false(WAIT, late, readings(0, 8_200)) == 0, "what the kernel counts as a run is false")
     check(false(WAIT, late, none) == 1, "what the kernel counts as a run excuses a whole wait")
     wait = [("preempted", 10_000, 40_000, True)]
-    for state, after, wanted in (("R+", "S", 0), ("R", "S", 1), ("R+", "R", 1)):
+    for state, after, wanted in (("R+", "S", 0), ("R", "S", 1), ("R+", "R", 0), ("R", "R", 1)):
         lines = [switch(1, 10_000, PID, state, 8), switch(1, 40_000, 8, "R", PID), switch(1, 40_050, PID, after, 8)]
         check(false(wait, lines, none) == wanted, f"left in {state}, then in {after}: not {wanted} false")
+    # A task that is interrupted on its way to sleep, and woken before it sleeps; and one that is woken when it has slept.
+    for state, wanted in (("R+", 0), ("S", 1)):
+        lines = [switch(1, 9_000, PID, state, 8), *WOKEN, *RUN]
+        check(false(WAIT, lines, none) == wanted, f"left in {state}, then woken: not {wanted} false")
+    runs = [switch(1, 8_000, PID, "R+", 8), switch(1, 9_000, 8, "R", PID), *WOKEN, switch(1, 10_005, PID, "S", 8), *RUN]
+    check(false(WAIT, runs, none) == 1, "an interruption before the task ran again excuses a wait")
+    # Two waits that began with an interruption, of which one may not be counted, and that wasn't on its way to sleep.
+    two = [*wait, ("preempted", 41_000, 49_000, True)]
+    ends = [switch(1, 10_000, PID, "R+", 8), switch(1, 40_000, 8, "R", PID), switch(1, 41_000, PID, "R+", 8)]
+    ends += [switch(1, 49_000, 8, "R", PID), switch(1, 50_000, PID, "R", 8)]
+    check(false(two, ends, none) == 1, "two interruptions excuse two waits")
+    check(false(two, ends, readings(0, 8_000)) == 0, "a wait that began with an interruption is counted")
+    sleeps = [*ends[:-1], switch(1, 49_500, PID, "S", 8)]
+    check(false(two, sleeps, none) == 0, "an interruption on the way to sleep is counted")
+
+
+def check_numbers() -> None:
+    """Check numbers that go over to another task, whose account has nothing of the one before."""
+    account, runs = readings(0, 1_000, 2_000), switch(1, 60_000, 8, "R", PID)
+    for state, is_false in (("S", True), ("Z", False), ("X", False)):
+        ends = [*WOKEN, RUN[0], switch(1, 41_000, PID, state, 8), runs]
+        check((false(WAIT, ends, account) > 0) == is_false, f"left in {state}: not {is_false}")
+    # Before the next task runs, the account may be that of the one that has ended.
+    then = [("woken", 60_000, 90_000, True)]
+    dead = [*WOKEN, RUN[0], switch(1, 41_000, PID, "Z", 8), waking("waking", 0, 60_000), switch(1, 90_000, 8, "R", PID)]
+    check(false(then, dead, readings(0, 30_000, 31_000, 31_000)) == 0, "another task's account stands against a wait")
+    late = [*WOKEN, RUN[0], switch(1, 41_000, PID, "Z", 8), runs, switch(1, 61_000, PID, "S", 8)]
+    later = [waking("waking", 0, 110_000), switch(1, 140_000, 8, "R", PID)]
+    then = [("woken", 110_000, 140_000, True)]
+    check(false(then, [*late, *later], readings(0, 0, 0, 0)) == 1, "a wait of the next task is missed")
 
 
 def check_shares() -> None:
@@ -128,6 +160,35 @@ def check_shares() -> None:
 
 check_runs()
 check_account()
+
+
+def check_hidden() -> None:
+    """Check that a wait isn't judged if it isn't sure because a task ran of which the kernel records nothing."""
+    # A wait of such a task itself isn't judged either.
+    own = [line(0, 9, 9_000 + at, "sched_waking: comm=a pid=7 prio=120 target_cpu=000") for at in range(3)]
+    only = "\n".join([switch(1, 1, 8, "S", 6), *own, *WOKEN, ran(0, 20_000), RUN[0], switch(1, 999_999, 8, "R", 6)])
+    found = verdict_of([Wait(PID, "woken", 10_000, 40_000, 1, True)], only.encode(), readings(0, 30_000))
+    check((found.waits, found.false) == (0, []), f"a wait of a hidden task: {found}")
+    roused = ["sched_waking: comm=h pid=30 prio=120 target_cpu=000" for _ in range(2)]
+    lines = [line(0, 9, 15_000 + 10_000 * at, what) for at, what in enumerate(roused)]
+    text, account = [*WOKEN, *RUN, *lines], readings(0, 30_000, 30_000)
+    unsure = [("woken", 10_000, 40_000, False)]
+    left = switch(0, 50_000, 30, "S", 8)
+    for what, waits, lines, unseen, wanted in (
+        ("a hidden task", unsure, text, [(15_000, 25_000)], (0, 0)),
+        ("a sure wait", WAIT, text, [(15_000, 25_000)], (1, 1)),
+        ("at another time", unsure, text, [(1_000, 5_000)], (1, 0)),
+        ("a task that is left", unsure, [*text, left], [(15_000, 25_000)], (1, 0)),
+        ("woken once", unsure, [line for line in text if "0.015000" not in line], [(15_000, 25_000)], (1, 0)),
+        ("another task", unsure, text, [(15_000, 24_000)], (1, 0)),
+    ):
+        found = judged(waits, lines, account, unseen)
+        check((found.waits, found.sure) == wanted, f"{what}: {found}")
+        check((found.counted == 0) == (wanted == (0, 0)), f"the kernel's time, {what}: {found}")
+
+
 check_uncounted()
+check_numbers()
+check_hidden()
 check_shares()
 finish()

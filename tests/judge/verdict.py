@@ -19,7 +19,7 @@ import warnings
 from bisect import bisect_left, bisect_right
 from collections import defaultdict
 from itertools import pairwise
-from typing import Dict, Iterator, List, NamedTuple, Optional, Tuple
+from typing import Dict, Iterator, List, NamedTuple, Optional, Sequence, Set, Tuple
 
 import histdesk
 from account import Reading, Readings, readings_of, taken
@@ -44,7 +44,12 @@ EVENT = re.compile(
 LOSS = re.compile(rb"^CPU:\d+ \[LOST |^# CPU \d+: [1-9]\d* events overwritten", re.MULTILINE)
 WRITTEN = re.compile(rb"^# entries-in-buffer/entries-written: (\d+)/(\d+) ", re.MULTILINE)
 
+# A task that is woken so often, and that no switch leaves, is hidden (`hidden_tasks`).
+HIDDEN = 2
+
 Stamps = Dict[int, List[int]]
+# From when until when.
+Stretch = Tuple[float, float]
 
 
 class Wait(NamedTuple):
@@ -65,8 +70,8 @@ class Told(NamedTuple):
     ----------
     first, last
         The first and the last stamp.
-    woken
-        For each task, when a wakeup names it.
+    roused, woken
+        For each task, when a waking names it, and when a wakeup does.
     ran
         For each task, when a report says that it ran, and for how many microseconds.
     called
@@ -81,6 +86,7 @@ class Told(NamedTuple):
 
     first: int
     last: int
+    roused: Stamps
     woken: Stamps
     ran: Dict[int, List[Tuple[int, int]]]
     called: Stamps
@@ -95,7 +101,8 @@ class Verdict(NamedTuple):
     Attributes
     ----------
     waits, sure
-        How many waits there are, and how many of them are sure.
+        How many waits there are, without those of hidden tasks and those that aren't sure because such a task ran, and how
+        many of them are sure.
     said, counted
         How long tasks have waited, in microseconds: the sum of sure waits, and the kernel's, over the same time.
     false
@@ -112,13 +119,14 @@ class Verdict(NamedTuple):
     has_losses: bool
 
 
-def waits_of(path: str) -> List[Wait]:
-    """Return the waits that the package reads in a text."""
+def read(path: str) -> Tuple[List[Wait], List[Stretch]]:
+    """Return the waits that the package reads in a text, and when tasks ran unseen on a CPU that isn't known."""
     with warnings.catch_warnings():
         warnings.simplefilter("ignore", histdesk.LossWarning)
-        waits = histdesk.waits(path).array
-    columns = (waits[name].tolist() for name in ("pid", "kind", "begin_stamp", "end_stamp", "end_cpu"))
-    return list(map(Wait, *columns, (~waits["doubtful"]).tolist()))
+        read = histdesk.waits(path)
+    columns = (read.array[name].tolist() for name in ("pid", "kind", "begin_stamp", "end_stamp", "end_cpu"))
+    waits = list(map(Wait, *columns, (~read.array["doubtful"]).tolist()))
+    return waits, [(float(hole.after), float(hole.before)) for hole in read.holes if hole.cpu is None]
 
 
 # ---- the text
@@ -132,7 +140,7 @@ def write_without_runs(text: bytes, path: str) -> None:
 
 def told_by(text: bytes) -> Told:
     """Return what a text says besides waits."""
-    woken, called, entered = (defaultdict(list) for _ in range(3))
+    roused, woken, called, entered = (defaultdict(list) for _ in range(4))
     left: Dict[int, List[Tuple[int, str]]] = defaultdict(list)
     ran: Dict[int, List[Tuple[int, int]]] = defaultdict(list)
     first, last = None, 0
@@ -142,7 +150,9 @@ def told_by(text: bytes) -> Told:
             continue
         stamp, pid, name = int(found[2]) * 10**6 + int(found[3]), int(found[5]), found[4]
         first, last = min(first or stamp, stamp), max(last, stamp)
-        if name == b"sched_wakeup":
+        if name == b"sched_waking":
+            roused[pid].append(stamp)
+        elif name == b"sched_wakeup":
             woken[pid].append(stamp)
             called[int(found[6])].append(stamp)
         elif name == b"sched_wakeup_new":
@@ -152,13 +162,13 @@ def told_by(text: bytes) -> Told:
             entered[int(found[8])].append(stamp)
         elif name == b"sched_stat_runtime":
             ran[pid].append((stamp, int(found[9]) // 1000))
-    for stamps in (*woken.values(), *called.values(), *entered.values()):
+    for stamps in (*roused.values(), *woken.values(), *called.values(), *entered.values()):
         stamps.sort()
     for leavings in left.values():
         leavings.sort()
     for reports in ran.values():
         reports.sort()
-    return Told(first or 0, last, woken, ran, called, left, entered, has_losses(text))
+    return Told(first or 0, last, roused, woken, ran, called, left, entered, has_losses(text))
 
 
 def has_losses(text: bytes) -> bool:
@@ -167,7 +177,7 @@ def has_losses(text: bytes) -> bool:
     return bool(LOSS.search(text)) or written is not None and int(written[1]) < int(written[2])
 
 
-def first_in(stamps: List[int], begin: int, end: int) -> Optional[int]:
+def first_in(stamps: List[int], begin: int, end: float) -> Optional[int]:
     """Return the first stamp from `begin` to `end`, or None."""
     at = bisect_left(stamps, begin)
     return stamps[at] if at < len(stamps) and stamps[at] <= end else None
@@ -233,16 +243,43 @@ def counted_until(wait: Wait, told: Told) -> int:
     return until if report is None else min(until, report[0] - report[1])
 
 
+def was_interrupted(wait: Wait, told: Told) -> bool:
+    """Return whether a wait began with an interruption in the kernel.
+
+    The switch shows R+ then, even if the task's state is already that of sleep.
+    """
+    before = leaving(told, wait.pid, wait.begin)
+    return wait.kind == "preempted" and before is not None and before[1] == "R+"
+
+
+def was_woken_early(wait: Wait, told: Told) -> bool:
+    """Return whether a task was interrupted on its way to sleep, and woken before it slept: no other can be woken then."""
+    left = told.left.get(wait.pid, [])
+    at = bisect_left(left, (wait.begin, ""))
+    is_left = (
+        at > 0 and left[at - 1][1] == "R+" and first_in(told.entered.get(wait.pid, []), left[at - 1][0], wait.begin) is None
+    )
+    return wait.kind == "woken" and is_left
+
+
 def is_counted(wait: Wait, told: Told) -> bool:
     """Return whether the kernel counts a wait: not if its task was interrupted on its way to sleep.
 
-    The switch shows R+ then, but the task's state is already that of sleep.
+    Then it sleeps at once when it runs again, unless it is woken before.
     """
-    if wait.kind != "preempted":
-        return True
-    before, after = leaving(told, wait.pid, wait.begin), leaving(told, wait.pid, wait.end)
-    was_interrupted = before is not None and before[1] == "R+"
-    return not was_interrupted or after is None or after[1] in ("R", "R+") or after[0] > wait.end + SOON
+    after = leaving(told, wait.pid, wait.end)
+    sleeps = after is not None and after[1] not in ("R", "R+") and after[0] <= wait.end + SOON
+    return not was_woken_early(wait, told) and not (was_interrupted(wait, told) and sleeps)
+
+
+def uncounted(waits: List[Wait], told: Told, since: float, are_many: bool) -> float:
+    """Return how much the kernel may not have counted of waits that began with an interruption.
+
+    If what the task wanted to sleep for comes while it waits, it doesn't sleep then, and nothing tells its wait from others.
+    That is rare, so that there is at most one such wait between two neighbouring readings.
+    """
+    parts = [least([wait], told, since) for wait in waits if was_interrupted(wait, told)]
+    return sum(parts) if are_many else max(parts, default=0.0)
 
 
 def least(waits: List[Wait], told: Told, since: float) -> float:
@@ -265,7 +302,8 @@ def exceeding(waits: List[Wait], told: Told, reads: List[Reading], readings: Rea
     whole = [(reads[0], reads[-1])] if len(reads) > 2 else []
     for first, last in [*pairwise(reads), *whole]:
         some = between(waits, first, last)
-        said, counted = least(some, told, first.ended), last.delay - first.delay
+        said = least(some, told, first.ended) - uncounted(some, told, first.ended, (first, last) in whole)
+        counted = last.delay - first.delay
         most = counted * (1 + SHARE) + SLACK + each * len(some)
         if said > most and said > most + taken(readings, first.began, last.ended):
             longest = max(some, key=lambda wait: wait.end - wait.begin)
@@ -281,7 +319,7 @@ def waiting_at(waits: List[Wait], read: Reading) -> Optional[Wait]:
     return waits[at] if at < len(waits) and waits[at].begin <= read.ended else None
 
 
-def gaps(told: Told, pid: int) -> List[Tuple[float, float]]:
+def gaps(told: Told, pid: int) -> List[Stretch]:
     """Return when it isn't known whether a task waits.
 
     That is before the first switch that names it, after the last one, and between two switches that leave it if none goes to
@@ -311,6 +349,24 @@ def shown(wait: Wait) -> str:
     return f"{wait.kind} from {wait.begin} to {wait.end} on CPU {wait.cpu}"
 
 
+def lives(told: Told, pid: int, reads: List[Reading]) -> List[List[Reading]]:
+    """Return the readings of a number apart for each task that has had it.
+
+    If a thread calls exec, it takes over the number of its process, whose first task ends. From the end of a task to the first
+    switch of the next one, it isn't known whose account is read.
+    """
+    left = told.left.get(pid, [])
+    ends = [stamp for stamp, state in left if state[0] in "XZ"]
+    named = sorted([*(stamp for stamp, _ in left), *told.entered.get(pid, [])])
+    found: Dict[int, List[Reading]] = defaultdict(list)
+    for read in reads:
+        number = bisect_left(ends, read.ended)
+        begin = first_in(named, ends[number - 1] + 1, math.inf) if number else 0
+        if begin is not None and begin < read.began:
+            found[number].append(read)
+    return list(found.values())
+
+
 # ---- the verdict
 
 
@@ -330,10 +386,32 @@ def run_in(waits: List[Wait], told: Told) -> Iterator[str]:
             yield f"task {wait.pid} ran at {ran}: {shown(wait)}"
 
 
-def shares(waits: List[Wait], told: Told, reads: List[Reading]) -> Tuple[float, float]:
+def hidden_tasks(told: Told) -> Set[int]:
+    """Return the tasks of which the kernel records no events, as on some virtual machines those of the machine's host.
+
+    Others wake them again, but no switch leaves them. Nothing tells when they run, so their waits aren't judged; and that they
+    have run says nothing of the events of other tasks.
+    """
+    return {pid for pid, stamps in told.roused.items() if len(stamps) >= HIDDEN and not told.left.get(pid)}
+
+
+def by_hidden(told: Told, unseen: Sequence[Stretch]) -> List[Stretch]:
+    """Return in which of these stretches it was a hidden task that ran unseen: the waking at the end shows that it ran."""
+    ends = {stamp for pid in hidden_tasks(told) for stamp in told.roused[pid]}
+    return [(begin, end) for begin, end in unseen if end in ends]
+
+
+def is_excused(wait: Wait, hidden: List[Stretch]) -> bool:
+    """Return whether a wait isn't sure because a hidden task ran in one of these stretches."""
+    return not wait.is_sure and any(wait.begin < end and begin < wait.end for begin, end in hidden)
+
+
+def shares(waits: List[Wait], told: Told, reads: List[Reading], hidden: List[Stretch]) -> Tuple[float, float]:
     """Return how long a task has waited by its sure waits, and by the kernel, over the same time."""
     said = counted = 0.0
     for first, last in known_pairs(waits, told, reads):
+        if any(is_excused(wait, hidden) for wait in between(waits, first, last)):
+            continue
         wait = waiting_at(waits, first)
         possible = last.ended - (first.began if wait is None else wait.begin)
         # The kernel's count has been seen to grow by half a second in 70 ms.
@@ -343,18 +421,23 @@ def shares(waits: List[Wait], told: Told, reads: List[Reading]) -> Tuple[float, 
     return said, counted
 
 
-def verdict_of(waits: List[Wait], text: bytes, readings: Readings, each: int = EACH) -> Verdict:
-    """Hold the waits of a text against its runs, and against the kernel's account."""
+def verdict_of(waits: List[Wait], text: bytes, readings: Readings, each: int = EACH, unseen: Sequence[Stretch] = ()) -> Verdict:
+    """Hold the waits of a text, in which tasks ran `unseen`, against its runs, and against the kernel's account."""
     told = told_by(text)
+    hidden = by_hidden(told, unseen)
+    nobodys = hidden_tasks(told)
+    waits = [wait for wait in waits if wait.pid not in nobodys]
     sure = [wait for wait in waits if wait.is_sure]
     false, said, counted = list(run_in(sure, told)), 0.0, 0.0
     for pid, some in by_task(waits).items():
-        reads = [read for read in readings.get(pid, []) if told.first < read.began and read.ended < told.last]
-        if len(reads) > 1:
-            false.extend(exceeding([wait for wait in some if wait.is_sure], told, reads, readings, each))
-        ours, kernels = shares(some, told, reads)
-        said, counted = said + ours, counted + kernels
-    return Verdict(len(waits), len(sure), said, counted, false, told.has_losses)
+        within = [read for read in readings.get(pid, []) if told.first < read.began and read.ended < told.last]
+        for reads in lives(told, pid, within):
+            if len(reads) > 1:
+                false.extend(exceeding([wait for wait in some if wait.is_sure], told, reads, readings, each))
+            ours, kernels = shares(some, told, reads, hidden)
+            said, counted = said + ours, counted + kernels
+    judged = len(waits) - sum(is_excused(wait, hidden) for wait in waits)
+    return Verdict(judged, len(sure), said, counted, false, told.has_losses)
 
 
 def verdict_on(folder: str, each: int = EACH) -> Verdict:
@@ -363,4 +446,5 @@ def verdict_on(folder: str, each: int = EACH) -> Verdict:
         text = file.read()
     trace = os.path.join(folder, "trace")
     write_without_runs(text, trace)
-    return verdict_of(waits_of(trace), text, readings_of(os.path.join(folder, "readings")), each)
+    waits, unseen = read(trace)
+    return verdict_of(waits, text, readings_of(os.path.join(folder, "readings")), each, unseen)

@@ -79,7 +79,8 @@ Event = Dict[str, Any]
 
 
 def event(raw: bytes, name: bytes = WAKING, **more: Any) -> Event:
-    """Return an event; `more` says how it differs from a good one, `task` and `place` what perf tells of its task."""
+    """Return an event; `more` says how it differs from a good one, `task` and `place` what perf tells of its task, and `said`
+    what perf prints before it."""
     return {
         "raw": raw,
         "event": name,
@@ -114,7 +115,8 @@ def run_child(path: str, words: List[bytes], events: List[Event]) -> None:
     print(started, file=sys.stderr)
     for one in events if started == 0 else []:
         place.size, place.comm = one.get("place", ctypes.sizeof(Location)), one["task"]
-        raw, left = one["raw"], {name: value for name, value in one.items() if name not in ("raw", "task", "place")}
+        raw, left = one["raw"], {name: value for name, value in one.items() if name not in ("raw", "task", "place", "said")}
+        library_c.printf(one.get("said", b""))
         answer = library.filter_event_early(None, ctypes.byref(Sample(raw_data=raw, raw_size=len(raw), **left)), None)
         print(answer, file=sys.stderr, flush=True)
         if answer == 0:
@@ -245,14 +247,47 @@ def check_stream(path: str) -> None:
     check(
         found == [line(b"comm=w pid=7 runtime=1234 [ns]", b"n-6", name=b"sched_stat_runtime")], f"a task that is gone: {found}"
     )
+    check_unknown(path)
     mixed = [event(waking(), b"irq:x" if at % 4 else WAKING) for at in range(3000)]
     answers, blocks = filtered(path, WORDS, mixed)
     check(sum(answers[1000:1024]) > 0 and sum(answers[1030:]) == 0, f"many are left to perf: {sum(answers)} are not")
     check(sum(text.count(PRINTED) for what, text in blocks if what == b"T") == answers[1:-1].count(0), "perf's lines are lost")
 
 
+def check_unknown(path: str) -> None:
+    """Check when it is known which task a CPU runs, also if the numbers of all events are those of another PID namespace."""
+    to_n, odd = event(switch(), SWITCH, tid=99), event(switch(next_comm=b"a ==> b"), SWITCH, tid=99)
+    for what, before, more, is_known in (
+        ("a switch", [to_n], {}, True),
+        ("nothing", [], {}, False),
+        ("a switch of another CPU", [{**to_n, "cpu": 3}], {}, False),
+        ("a switch that is left to perf", [to_n, odd], {}, False),
+        ("a switch that isn't read", [to_n, event(switch()[:63], SWITCH, tid=99)], {}, False),
+        ("an event that is left to perf", [to_n, event(waking(b"a["), cpu=3)], {}, True),
+        ("perf's words", [to_n], {"said": b"some words\n"}, True),
+        ("lost events", [to_n], {"said": b" a 1 [003] 1.0: PERF_RECORD_LOST lost 3\n"}, False),
+    ):
+        wanted = [line(WOKEN, b"n-6")] if is_known else []
+        for words, tid in ((WORDS, -1), ([*WORDS, b"strange"], 99), ([*WORDS, b"strange"], -1)):
+            _, blocks = filtered(path, words, [*before, event(waking(), tid=tid, **more)])
+            found = [text for what, text in blocks if what == b"A" and text.endswith(WOKEN + b"\n")]
+            check(found == wanted, f"after {what}: {found}, by {words[-1]!r} and task {tid}")
+    _, blocks = filtered(path, [*WORDS, b"strange"], [to_n])
+    found = [text for what, text in blocks if what == b"A"]
+    check(found == [line(LEFT % b"S", b"p-5", name=b"sched_switch")], f"a switch of another number: {found}")
+
+
 # Arguments that the filter refuses.
-BAD = [b"", b"x", b"other:1", b"states:1", b"states:1:2:3", b"states:1:2:1=toolongname", b"states:1:2:" + b"1=S," * 30]
+BAD = [
+    b"",
+    b"x",
+    b"strange:1",
+    b"other:1",
+    b"states:1",
+    b"states:1:2:3",
+    b"states:1:2:1=toolongname",
+    b"states:1:2:" + b"1=S," * 30,
+]
 BAD += [b"sched_waking:7", b"sched_waking:7:36:0", b"sched_waking:7:36:0:8,24,28", b"sched_waking:7:36:0:8,24,28,32,-1,5"]
 BAD += [
     b"sched_waking:7:36:0:8,24,28,33,-1",

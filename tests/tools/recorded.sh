@@ -69,7 +69,8 @@ is "no instance stays" test -z "$(ls -d "$tracefs"/instances/histdesk.* 2>/dev/n
 # How many events another run of the workload makes isn't known, so a much larger buffer than the advised one is tried.
 "$tools/record" --buffer "$((16 * ${advised:-0}))" -o "$folder/whole" -- "${workload[@]}" 2>"$folder/err"
 is "the advised buffer holds them, sixteen times: $(<"$folder/err")" grep -q '^record: [0-9]* events, 0 lost$' "$folder/err"
-is "nothing is said to be overwritten" test -z "$(grep ' overwritten$' "$folder/whole")"
+wanted=$(printf '%s\n' "$tracefs"/per_cpu/cpu*/ | sed -E 's|.*/cpu([0-9]+)/$|# CPU \1: 0 events overwritten|' | sort)
+is "each CPU is said to have overwritten nothing" test "$(grep ' overwritten$' "$folder/whole" | sort)" == "$wanted"
 
 python=$(python_with numpy) || python=python3
 export PYTHONPATH=$tests/../python PYTHONDONTWRITEBYTECODE=1

@@ -488,6 +488,7 @@ PATH=$folder/bin:$PATH gives warned 0 'from-perf: perf says: Processed 9 events 
     "$tools/from-perf" "$folder/perf.data"
 
 holds "$tests/tools/turned.py" "$tools"
+holds "$tests/tools/losses_told.py" "$tools"
 
 # ---- record: a folder stands in for tracefs, and programs called mkdir and rmdir make its instance and take it away.
 
@@ -566,34 +567,38 @@ runs() {
 }
 
 counts 0 0 0
+# A line says of each CPU that nothing is missing before its first event.
+none=$'\n# CPU 0: 0 events overwritten\n# CPU 1: 0 events overwritten'
 records record 0 'record: 7 events, 0 lost' 0.1
-prints record "$trace"
+prints record "$trace$none"
 settings record 16384 ff '1 1 1 1 0'
 counts 2 1 5
 text=$'record: 7 events, 8 lost\nrecord: CPU 0 lost 2 of 5 events\nrecord: CPU 1 lost 6 of 10 events\n'
 records too_small 0 "${text}record: --buffer 32768 would have held them" 0.1
-prints too_small "$trace"$'\n# CPU 0: 2 events overwritten\n# CPU 1: 0 events overwritten'
+# What was dropped is missing at the end, and nothing says when the other event was lost.
+lines=$'\n# CPU 0: 2 events overwritten\n# CPU 1: 0 events overwritten\nCPU:1 [LOST 5 EVENTS]\nCPU:8191 [LOST 1 EVENTS]'
+prints too_small "$trace$lines"
 records less_room 0 "${text}record: --buffer 128 would have held them" --buffer 64 0.1
 settings less_room 64 ff '1 1 1 1 0'
 counts 0 0 0
 records chosen 0 'record: 7 events, 0 lost' --cpu 1,33-34 --events switch,irq:irq_handler_entry -o "$folder/chosen" 0.1
 prints chosen ""
 gives chosen_file 0 "" cat -- "$folder/chosen"
-prints chosen_file "$trace"
+prints chosen_file "$trace"$'\n# CPU 1: 0 events overwritten'
 settings chosen 16384 6,00000002 '0 0 0 1 1'
 records command 0 $'said\nrecord: bash ended with status 3\nrecord: 7 events, 0 lost' -- bash -c 'echo said; exit 3'
-prints command "$trace"
+prints command "$trace$none"
 records command_apart 0 $'record: cat ended with status 0\nrecord: 7 events, 0 lost' -o "$folder/chosen" -- cat <<<said
 prints command_apart said
 gives command_file 0 "" cat -- "$folder/chosen"
-prints command_file "$trace"
+prints command_file "$trace$none"
 # Without Python the text is passed on as it is.
 mkdir -- "$folder/few"
 for name in bash mkdir rmdir cat awk sort sed sleep dirname realpath cp rm mv; do
     ln -s -- "$(PATH=$folder/bin:$PATH type -P "$name")" "$folder/few/$name"
 done
 gives no_python 0 'record: 7 events, 0 lost' env "PATH=$folder/few" "$(type -P bash)" "$tools/record" --tracefs "$tracefs" 0.1
-prints no_python "$trace"
+prints no_python "$trace$none"
 gives record_usage 0 "" "$tools/record" --help
 records no_number 2 'record: SECONDS is not a number above 0: x' x
 records no_time 2 'record: SECONDS is not a number above 0: 0.0' 0.0
@@ -609,9 +614,14 @@ gives no_tracefs 1 "record: no*" "$tools/record" --tracefs "$folder/table" 1
 runs TERM 143 60
 settings ended 16384 ff '1 1 1 1 0'
 runs INT 0 60
-prints interrupted "$trace"
+prints interrupted "$trace$none"
 runs INT 0 -- sleep 60
-prints interrupted_command "$trace"
+prints interrupted_command "$trace$none"
+# Counts that can't be read say nothing.
+mv -- "$model/per_cpu/cpu0/stats" "$folder/stats"
+records no_counts 0 $'cat: */per_cpu/cpu0/stats: *\nrecord: 4 events, 0 lost' 0.1
+prints no_counts "$trace"$'\n# CPU 1: 0 events overwritten'
+mv -- "$folder/stats" "$model/per_cpu/cpu0/stats"
 rm -- "$model/buffer_size_kb"
 /bin/mkdir -- "$model/buffer_size_kb"
 records no_setting 1 'record: cannot write 16384 to */buffer_size_kb' 1

@@ -71,8 +71,12 @@ def some_events(draw: random.Random, count: int, name: Callable[[], str]) -> Lis
     for _ in range(count):
         nanos += draw.choice([1, 499, 500, 501, 999, 999_999, 10_000_500])
         kind = draw.choice(EVENTS)
-        numbers = tuple(draw.choice([0, 1, 7, 120, 4194304]) for _ in range(4))
-        events.append(Happened(name(), draw.randint(0, 99999), draw.randint(0, 3), nanos, kind, (name(), name()), numbers))
+        numbers = [draw.choice([0, 1, 7, 120, 4194304]) for _ in range(4)]
+        task, pid = name(), draw.randint(0, 99999)
+        if kind == "sched_switch":
+            # A switch leaves the task of its line.
+            numbers[0] = pid
+        events.append(Happened(task, pid, draw.randint(0, 3), nanos, kind, (name(), name()), tuple(numbers)))
     return [event._replace(names=event.names[: 1 + (event.name == "sched_switch")]) for event in events]
 
 

@@ -17,9 +17,11 @@ Converts a recording of perf, or the text that perf printed from it, into a trac
 Each line becomes COMM-PID [CPU] STAMP: NAME: PAYLOAD. Timestamps of nine digits (--ns) are rounded as in the kernel;
 without --ns, perf truncates them, and up to a microsecond is lost. Ask perf for `tid`, the number of the thread, as in the
 kernel's text: its `pid` is that of the process. If a task has exited, perf shows its events with the TID -1. The last
-switch of the task still names it; any other such event is attributed to the task that its CPU last switched to. Events
-other than the scheduler's are also converted. Comments and empty lines are passed on. If perf lost events, a line such as
-`CPU:3 [LOST 5948 EVENTS]` says so.
+switch of the task still names it; any other such event is attributed to the task that its CPU last switched to. So is each
+event of a perf that ran in a container, where tasks have other numbers than in the fields of events; standard error says
+so. If no switch tells the task, it is `<...>-0`. Events other than the scheduler's are also converted. Comments and empty
+lines are passed on. If perf lost events, a line such as `CPU:3 [LOST 5948 EVENTS]` says so. If it was run with --overwrite,
+`##### CPU 3 buffer started ####` stands before the first event of each CPU.
 
 `load` can read everything that is printed. Bytes of a name that would mislead it, such as a line break, are replaced with
 a ?. Lines that can't be converted are left out. Standard error reports how many such lines there are, shows the first five

@@ -18,8 +18,9 @@ Without -N, trace-cmd's plugins print switches and wakeups in a layout of their 
 state R+ as R, and some other states by other letters than the kernel's. Of a recording, each event also gets the flags that
 show whether it was in an interrupt, which that text doesn't have. Timestamps of nine digits (-t) are rounded as in the
 kernel; without -t, trace-cmd does the same. The first lines, such as `cpus=4`, become comments, and
-`CPU:1 [7 EVENTS DROPPED]` becomes `CPU:1 [LOST 7 EVENTS]`. Other events are kept. Comments and empty lines are passed on.
-The text of the kernel's own trace file is also converted.
+`CPU:1 [7 EVENTS DROPPED]` becomes `CPU:1 [LOST 7 EVENTS]`. If a recording has fewer events than the kernel counted, the
+last line is `CPU:8191 [LOST 7 EVENTS]`: nothing says when they were lost, so no wait is sure. Other events are kept.
+Comments and empty lines are passed on. The text of the kernel's own trace file is also converted.
 
 `load` can read everything that is printed. Bytes of a name that would mislead it, such as a line break, are replaced with
 a ?. Lines that can't be converted are left out. Standard error reports how many such lines there are, shows the first five

@@ -11,10 +11,11 @@ usage="usage: $called [OPTION].. SECONDS >my.trace
 
 Records sched_waking, sched_wakeup, sched_wakeup_new and sched_switch on all CPUs for SECONDS (fractions such as 0.5 are
 allowed), or while COMMAND runs, and writes the text of the trace, which `load` reads. Ctrl-C ends the recording, and
-what was recorded is written. Standard error reports how many events there are, which CPUs lost events, and which buffer
-size would have held them. It needs root. It records in its own tracefs instance, instances/histdesk.PID, so it does not
-disturb other tracing. When it ends, it removes the instance with all its settings. After kill -9, it cannot: remove the
-instance by hand, with rmdir /sys/kernel/tracing/instances/histdesk.*
+what was recorded is written, and after it how many events each CPU has overwritten. Standard error reports how many
+events there are, which CPUs lost events, and which buffer size would have held them. It needs root. It records in its
+own tracefs instance, instances/histdesk.PID, so it does not disturb other tracing. When it ends, it removes the
+instance with all its settings. After kill -9, it cannot: remove the instance by hand, with rmdir
+/sys/kernel/tracing/instances/histdesk.*
 
   -o FILE           write the trace to FILE; without it, the output of COMMAND goes to standard error
   --buffer KIB      the buffer size per CPU, in KiB (16384); give more if events are lost
@@ -114,10 +115,9 @@ path_of() {
     fi
 }
 
-# mask_of CPUS: prints the CPUs as tracing_cpumask has them, in words of 32 bits with the highest first; nothing if they can't
-# be read, or if the machine lacks one.
-mask_of() {
-    local part cpu first last most=0 parts words=() mask
+# cpus_of CPUS: prints each of these CPUs; fails if they can't be read, or if the machine lacks one.
+cpus_of() {
+    local part cpu first last parts
     IFS=, read -ra parts <<<"$1"
     for part in "${parts[@]}"; do
         [[ $part =~ ^([0-9]{1,4})(-([0-9]{1,4}))?$ ]] || return
@@ -125,15 +125,23 @@ mask_of() {
         last=$((10#${BASH_REMATCH[3]:-$first}))
         for ((cpu = first; cpu <= last; cpu++)); do
             [[ -d $tracefs/per_cpu/cpu$cpu ]] || return
-            words[cpu / 32]=$((${words[cpu / 32]:-0} | 1 << cpu % 32))
-            most=$((cpu / 32 > most ? cpu / 32 : most))
+            echo "$cpu"
         done
+    done
+}
+
+# mask_of CPU..: prints the CPUs as tracing_cpumask has them, in words of 32 bits with the highest first.
+mask_of() {
+    local cpu most=0 words=() mask
+    for cpu in "$@"; do
+        words[cpu / 32]=$((${words[cpu / 32]:-0} | 1 << cpu % 32))
+        most=$((cpu / 32 > most ? cpu / 32 : most))
     done
     printf -v mask '%x' "${words[most]:-0}"
     while ((most-- > 0)); do
         printf -v mask '%s,%08x' "$mask" "${words[most]:-0}"
     done
-    [[ $mask == 0 ]] || echo "$mask"
+    echo "$mask"
 }
 
 # Prints the counts of each CPU, in order.
@@ -145,33 +153,37 @@ stats() {
     done
 }
 
-# Reports how many events there are, and which CPUs lost some. If a buffer was too small, lines of the trace say how many
-# events each CPU has overwritten, and standard error reports the size that would have been enough: it is larger in proportion
-# to the events that there were, and by another tenth, rounded up in steps of an eighth to a quarter.
-report_losses() {
-    local line
-    while read -r line; do
-        if [[ $line == '#'* ]]; then
-            printf '%s\n' "$line"
-        else
-            printf 'record: %s\n' "$line" >&2
-        fi
-    done < <(stats | awk -F ': *' -v "buffer=$(<"$instance/buffer_size_kb")" -v most_lines=8 '
+# Prints how many events there are, and which CPUs lost some. A line for the trace says of each CPU how many events it has
+# overwritten; if none, it has no hole before its first event, as all CPUs begin at once. Another line says how many it has
+# dropped, as it does from then on if its buffer is full and may not be overwritten. If interrupts filled a whole buffer while
+# an event was written, nothing says when: the line names the last CPU that a line may name, so that the hole is as long as the
+# recording. If a buffer was too small, the last line has the size that would have been enough: it is larger in proportion to
+# the events that there were, and by another tenth, rounded up in steps of an eighth to a quarter.
+losses() {
+    stats | awk -F ': *' -v "buffer=$(<"$instance/buffer_size_kb")" -v most_lines=8 -v "chosen=${chosen[*]}" '
         $1 == "cpu" { cpu[++n] = $2 }
         $1 == "entries" { entries[n] = $2; all += $2 }
         $1 == "overrun" { over[n] = $2; overwritten += $2 }
+        $1 == "commit overrun" { unplaced += $2 }
+        $1 == "dropped events" { dropped[n] = $2 }
         $1 ~ /^(overrun|commit overrun|dropped events)$/ { lost[n] += $2; gone += $2 }
         END {
             printf "%d events, %d lost\n", all, gone
             for (i = 1; i <= n; i++) {
-                if (overwritten) {
+                if (i in over && (chosen == "" || index(" " chosen " ", " " cpu[i] " "))) {
                     printf "# CPU %s: %d events overwritten\n", cpu[i], over[i]
+                }
+                if (dropped[i]) {
+                    printf "CPU:%s [LOST %d EVENTS]\n", cpu[i], dropped[i]
                 }
                 if (lost[i] && ++losing <= most_lines) {
                     printf "CPU %s lost %d of %d events\n", cpu[i], lost[i], lost[i] + entries[i]
                 }
                 need = 1.1 * buffer * (entries[i] + over[i]) / (entries[i] ? entries[i] : 1)
                 most = over[i] && need > most ? need : most
+            }
+            if (unplaced) {
+                printf "CPU:8191 [LOST %d EVENTS]\n", unplaced
             }
             if (losing > most_lines) {
                 printf "%d more CPUs lost events\n", losing - most_lines
@@ -181,10 +193,21 @@ report_losses() {
             if (overwritten) {
                 printf "--buffer %d would have held them\n", step * (int(most / step) + 1)
             }
-        }')
+        }'
 }
 
-# Writes the text, and after it how much was overwritten.
+# Adds the lines for the trace to it, and reports the others.
+report_losses() {
+    local line
+    while read -r line; do
+        case $line in
+        '#'* | CPU:*) printf '%s\n' "$line" ;;
+        *) printf 'record: %s\n' "$line" >&2 ;;
+        esac
+    done < <(losses)
+}
+
+# Writes the text, and after it how much was lost of each CPU.
 write_text() {
     if command -v python3 >/dev/null; then
         PYTHONPATH=$here/../..${PYTHONPATH:+:$PYTHONPATH} run python3 -Bm histdesk.cli.kernel_text record "$instance/trace"
@@ -248,10 +271,12 @@ for name in "${names[@]}"; do
     paths+=("$path")
 done
 ((${#paths[@]} > 0)) || stop 2 "NAMES is not a list of events: $events"
-mask=
+chosen=()
 if [[ -n $cpus ]]; then
-    mask=$(mask_of "$cpus")
-    [[ -n $mask ]] || stop 2 "CPUS is not a list of CPUs of this machine: $cpus"
+    if ! listed=$(cpus_of "$cpus") || [[ -z $listed ]]; then
+        stop 2 "CPUS is not a list of CPUs of this machine: $cpus"
+    fi
+    mapfile -t chosen <<<"$listed"
 fi
 # The output of the command doesn't get into the trace.
 exec 4>&2
@@ -279,7 +304,7 @@ for option in "${off[@]}"; do
 done
 set_to local trace_clock
 set_to "$buffer" buffer_size_kb
-[[ -z $mask ]] || set_to "$mask" tracing_cpumask
+((${#chosen[@]} == 0)) || set_to "$(mask_of "${chosen[@]}")" tracing_cpumask
 for path in "${paths[@]}"; do
     set_to 1 "events/$path/enable"
 done

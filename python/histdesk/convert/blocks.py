@@ -13,6 +13,7 @@ import copy
 import fcntl
 import mmap
 import os
+import re
 import struct
 import subprocess
 import tempfile
@@ -44,6 +45,8 @@ KEPT = 1 << 20
 WAITING = 1 << 18
 # How many bytes of what a tool prints first are compared.
 FRONT = 1 << 16
+# The front of a converted line, up to its CPU.
+EVENT_CPU = re.compile(rb"^(?!#)[^\n]*?-[0-9]+ +\[([0-9]+)\](?= )", re.MULTILINE)
 
 
 def widen(pipe: IO[bytes]) -> None:
@@ -119,6 +122,26 @@ class CheckedSink:
         """Raise `Unfit` if what was written begins otherwise, or ended too early."""
         if not self.start.startswith(self.expected):
             raise Unfit("the tool prints other lines first")
+
+
+class Starts:
+    """Writes lines, and before the first event of each CPU one that says that its buffer begins there."""
+
+    def __init__(self, sink: Writer) -> None:
+        self.sink = sink
+        self.seen: set[bytes] = set()
+
+    def write(self, text: Lines) -> None:
+        """Write whole lines."""
+        self.sink.write(EVENT_CPU.sub(self.started, bytes(text)))
+
+    def started(self, match: re.Match[bytes]) -> bytes:
+        """Return the front of an event's line, after a line about its CPU's buffer if it is the first one."""
+        cpu = match[1].lstrip(b"0") or b"0"
+        if cpu in self.seen:
+            return match[0]
+        self.seen.add(cpu)
+        return b"##### CPU %s buffer started ####\n%s" % (cpu, match[0])
 
 
 class Memory:
@@ -201,6 +224,8 @@ class BlockWriter:
         elif what == LINES and len(text):
             self.waiting.append((text, lines))
         self.length += len(text)
+        if what == END:
+            self.converter.form.events = lines
         # What a tool printed is in whole lines. Lines in memory don't wait, since their piece is to be freed.
         if what == END or isinstance(text, memoryview) or what != AWAITED and self.length > WAITING:
             self.settle()
@@ -209,7 +234,7 @@ class BlockWriter:
         """Write what waits, once what the tool has printed is converted and compared. Raises `Unfit`."""
         waiting, self.waiting, self.length = self.waiting, [], 0
         form = self.converter.form
-        text = form.prepared(b"".join([one.printed for one in waiting if isinstance(one, Printed)]))
+        text = form.prepared(b"".join([one.printed for one in waiting if isinstance(one, Printed)]), has_all=False)
         lines = form.plain(form.find(text)) if text else []
         if self.converter.odd in lines:
             for one in waiting:
@@ -237,7 +262,7 @@ class BlockWriter:
     def convert(self, one: Printed) -> bytes:
         """Return what the tool has printed, converted line by line. Raises `Unfit`."""
         self.converter.before = Before(self.blocks, self.are_all)
-        lines, rest = self.converter.convert(self.converter.form.prepared(one.printed), True)
+        lines, rest = self.converter.convert(self.converter.form.prepared(one.printed, has_all=False), True)
         if rest:
             raise Unfit(f"{one.printed!r} is not converted")
         return one.checked(lines)
@@ -272,7 +297,8 @@ class Printed:
 
 
 def blocks(file: IO[bytes], memory: Memory) -> Iterator[tuple[bytes, Lines, int]]:
-    """Go through the blocks of an open file: what each is, its text, and how many lines it stands for. Raises `Unfit`."""
+    """Go through the blocks of an open file: what each is, its text, and how many lines it stands for; the last one has the
+    count of events instead, or 0. Raises `Unfit`."""
     what = b""
     while what != END:
         head = file.read(HEAD.size)
@@ -290,7 +316,7 @@ def blocks(file: IO[bytes], memory: Memory) -> Iterator[tuple[bytes, Lines, int]
     rest = file.read()
     if rest:
         yield PRINTED, rest, 0
-    yield END, b"", 0
+    yield END, b"", lines
 
 
 def front_of(command: Sequence[str]) -> bytes:
@@ -341,9 +367,9 @@ def convert_quickly(converter: Converter, command: Sequence[str], path: str, sin
         try:
             widen(tool.stdout)
             # If there is nothing that it must begin with, all is passed on.
-            checked = CheckedSink(sink, b"")
+            checked = CheckedSink(form.writer(sink), b"")
             is_apart = form.is_apart
-            writer = begin(converter, path, checked, memory) if is_apart else BlockWriter(converter, sink, memory)
+            writer = begin(converter, path, checked, memory) if is_apart else BlockWriter(converter, checked, memory)
             for block in blocks(tool.stdout, memory):
                 writer.take(*block)
             checked.check()
@@ -357,5 +383,6 @@ def convert_quickly(converter: Converter, command: Sequence[str], path: str, sin
         errors.seek(0)
         messages = [form.message(line.strip(), path) for line in errors]
     form.check_end(converter.report.path)
+    checked.write(form.ended(converter.report))
     converter.report.finish()
     return [text for text in messages if text]

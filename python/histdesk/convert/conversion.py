@@ -20,7 +20,7 @@ from typing import IO, Protocol
 
 from .. import _invocation
 from .._file_kind import packer_of, recording_origin
-from .blocks import Sink, Unfit, convert_quickly, widen
+from .blocks import Sink, Unfit, Writer, convert_quickly, widen
 from .lines import NotConvertible, complete_line
 from .report import ConversionError, Report
 from .text_format import Groups, Readable, TextFormat
@@ -47,13 +47,6 @@ class LinesBefore(Protocol):
 
     def __reversed__(self) -> Iterator[bytes]:
         """Go through them backwards."""
-
-
-class Writable(Protocol):
-    """What takes bytes."""
-
-    def write(self, text: bytes, /) -> object:
-        """Take the next bytes."""
 
 
 class Converter:
@@ -237,7 +230,7 @@ def pieces(first: bytes, source: Readable) -> Iterator[tuple[bytes, bool]]:
     yield rest + b"\n" if rest else b"", True
 
 
-def convert_text(form: TextFormat, report: Report, first: bytes, source: Readable, sink: Writable | None = None) -> None:
+def convert_text(form: TextFormat, report: Report, first: bytes, source: Readable, sink: Writer | None = None) -> None:
     """Convert a text onto standard output, or into `sink`.
 
     Raises
@@ -247,7 +240,7 @@ def convert_text(form: TextFormat, report: Report, first: bytes, source: Readabl
     """
     converter, rest = Converter(form, report), b""
     spool: IO[bytes] | None = None
-    sink = sink or Sink(sys.stdout.buffer)
+    sink = form.writer(sink or Sink(sys.stdout.buffer))
     for text, is_last in pieces(first, source):
         lines, rest = converter.convert(rest + form.prepared(text), is_last)
         if form.holds_back and spool is None:
@@ -256,15 +249,18 @@ def convert_text(form: TextFormat, report: Report, first: bytes, source: Readabl
         if spool is None:
             report.say_first()
     form.check_end(report.path)
+    lines = form.ended(report)
     report.finish()
     if spool:
         spool.seek(0)
         shutil.copyfileobj(spool, sink, SIZE)
+    sink.write(lines)
 
 
 def convert_recording(form: TextFormat, report: Report, path: str) -> int:
     """Convert a recording, quickly if that is possible, otherwise by what the tool prints of it, and return the exit status."""
     sink = Sink(sys.stdout.buffer)
+    form.begin(path)
     command = form.quick_command(path)
     if command:
         again = copy.deepcopy((form, report))

@@ -34,6 +34,8 @@ class Flagged:
     def __init__(self, source: Readable, latency: Readable, size: int) -> None:
         """Take both texts, of which so many bytes are read at once."""
         self._lines, self._latency = whole_lines(source, size), whole_lines(latency, size)
+        # How many events were read.
+        self.count = 0
         # The next events of the latency layout: their stamps and flags.
         self._stamps: list[bytes] = []
         self._flags: list[bytes] = []
@@ -43,6 +45,7 @@ class Flagged:
         # What stands before the CPU of an event, that CPU, and the stamp, in turn.
         parts = EVENT.split(next(self._lines, b""))
         stamps = parts[2::3]
+        self.count += len(stamps)
         self._fill(len(stamps))
         if stamps == self._stamps[: len(stamps)]:
             parts[2::3] = self._flags[: len(stamps)]

@@ -5,13 +5,11 @@ from __future__ import annotations
 
 import ast
 import operator
-import os
 import re
-import struct
 from collections.abc import Callable
-from typing import IO
 
 from .. import _schema
+from .perf_data import Unknown
 
 # A system's name and an event's, and the text of the format.
 Formats = dict[tuple[str, str], str]
@@ -51,17 +49,6 @@ OPERATORS: dict[type[ast.operator], Callable[[int, int], int]] = {
     ast.Sub: operator.sub,
     ast.LShift: operator.lshift,
 }
-# The header with which a recording begins: magic, sizes, three sections and the bits of what follows the data.
-HEADER = struct.Struct("<8s8Q4Q")
-SECTION = struct.Struct("<QQ")
-# The second bit says that the kernel's formats follow; sections stand in the order of their bits.
-TRACING = 2
-# No header of formats is larger.
-MOST = 1 << 26
-
-
-class Unknown(Exception):
-    """The filter can't learn the formats; the message says why."""
 
 
 class Reader:
@@ -99,29 +86,6 @@ class Reader:
         for one in parts:
             if self.take(len(one)) != one:
                 raise Unknown("the formats have another layout")
-
-
-def tracing_data(path: str) -> bytes:
-    """Return what perf has written of the kernel's formats into the recording of that path. Raises `Unknown` and `OSError`."""
-    with open(path, "rb") as file:
-        head = file.read(HEADER.size)
-        if len(head) < HEADER.size or head[:8] != b"PERFILE2":
-            raise Unknown("no header of this byte order")
-        _, size, _, _, _, data_at, data_size, _, _, flags, *_ = HEADER.unpack(head)
-        if size < HEADER.size:
-            raise Unknown("recorded into a pipe")
-        if not flags & TRACING:
-            raise Unknown("no formats")
-        at, size = SECTION.unpack(read_at(file, data_at + data_size + SECTION.size * (flags & 1), SECTION.size))
-        return read_at(file, at, size)
-
-
-def read_at(file: IO[bytes], at: int, size: int) -> bytes:
-    """Return so many bytes of an open file, from there on."""
-    if size > MOST or at + size > os.fstat(file.fileno()).st_size:
-        raise Unknown("the recording ends too early")
-    file.seek(at)
-    return file.read(size)
 
 
 def formats(content: bytes) -> Formats:
@@ -168,6 +132,19 @@ def print_format(text: str) -> str:
     """Return how a format says that the kernel prints the event."""
     match = re.search(r"^print fmt: (.*)$", text, re.MULTILINE)
     return match[1] if match else ""
+
+
+def switch_place(texts: Formats) -> tuple[int, int]:
+    """Return the number of the event of a switch, and the offset of the task that it leaves. Raises `Unknown`."""
+    text = texts.get(("sched", "sched_switch"))
+    if text is None:
+        # No event has this number.
+        return 0, 0
+    number = re.search(r"^ID: (\d+)$", text, re.MULTILINE)
+    places = {match[1]: int(match[2]) for match in FIELD.finditer(text) if match[3] == "4"}
+    if not number or "prev_pid" not in places:
+        raise Unknown("a switch has another layout")
+    return int(number[1]), places["prev_pid"]
 
 
 def event_argument(name: str, text: str) -> str:

@@ -7,7 +7,7 @@ import re
 from collections.abc import Callable, Iterable, Sequence
 from typing import Protocol, TypeAlias
 
-from .blocks import front_of
+from .blocks import Writer, front_of
 from .lines import Line
 from .report import Report, printable
 
@@ -38,6 +38,8 @@ class TextFormat:
     is_apart
         Whether the program of `quick_command` reads recordings by itself, so that what it writes first is compared with what
         the tool prints first.
+    events
+        How many events a recording has, once it is converted and if they are counted.
     """
 
     pattern: re.Pattern[bytes]
@@ -45,15 +47,23 @@ class TextFormat:
     program = ""
     command: tuple[str, ...] = ()
     is_apart = False
+    events = 0
 
     @property
     def holds_back(self) -> bool:
         """Whether nothing may be written before the end is known."""
         return False
 
-    def prepared(self, text: bytes) -> bytes:
-        """Return whole lines, prepared for conversion."""
+    def begin(self, path: str) -> None:
+        """Take note of the recording that is converted. Raises `OSError` if it can't be read."""
+
+    def prepared(self, text: bytes, has_all: bool = True) -> bytes:
+        """Return whole lines, prepared for conversion; `has_all` says whether all lines of the text are prepared, in turn."""
         return text
+
+    def writer(self, sink: Writer) -> Writer:
+        """Return what takes the converted lines, for a sink in which they end."""
+        return sink
 
     def unchanged(self, text: bytes) -> int:
         """Return how many lines a text has if each of them stays as it is; 0 if one doesn't, or if that isn't known quickly."""
@@ -106,6 +116,10 @@ class TextFormat:
             If the recording of that path can't be read.
         """
         return f"{self.program} says: {printable(line)}" if line else None
+
+    def ended(self, report: Report) -> bytes:
+        """Return the lines after the last event, once all is converted, and report what isn't in the lines."""
+        return b""
 
     def check_end(self, name: str) -> None:
         """Raise `ConversionError` if what was read of the file of that name can't be one trace."""

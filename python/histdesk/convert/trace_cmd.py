@@ -35,6 +35,11 @@ DASH = re.compile(rb"^(?:[^\n]*EVENTS DROPPED\]\n.*|([^\[\n]*)-[0-9]+ +(?:\( *[0
 # What stands for a line of a buffer that isn't wanted. No text has it.
 ELSEWHERE = b"\0"
 TOP = b"/"
+# What trace-cmd reports of a CPU: which events it has read, and which were left when it ended; and what the kernel lost.
+COUNT = re.compile(rb"^([a-z][a-z ]*): ([0-9]+)$", re.MULTILINE)
+RECORDED, LOSSES = (b"read events", b"entries"), (b"overrun", b"commit overrun", b"dropped events")
+# The last CPU that a line may name. If it isn't known where events are missing, it has a hole as long as the recording.
+NO_CPU = 8191
 # How many bytes of what trace-cmd prints are read at once.
 READ = 1 << 18
 
@@ -64,12 +69,18 @@ class TraceCmdFormat(ColumnFormat):
         self.buffer: bytes | None = None
         self.lines: collections.Counter[bytes | None] = collections.Counter()
         self.is_bare = False
+        # The recording, and its text with flags, which counts the events if the quick way doesn't.
+        self.path = ""
+        self.flagged: Flagged | None = None
 
     @property
     def holds_back(self) -> bool:
         return bool(self.width) and not self.is_chosen
 
-    def prepared(self, text: bytes) -> bytes:
+    def begin(self, path: str) -> None:
+        self.path = path
+
+    def prepared(self, text: bytes, has_all: bool = True) -> bytes:
         for padded, plain in PADDED:
             text = text.replace(padded, plain)
         text = plugin_layout.in_kernel_layout(text)
@@ -87,7 +98,8 @@ class TraceCmdFormat(ColumnFormat):
             assert tool.stdout
             widen(tool.stdout)
             try:
-                yield Flagged(source, tool.stdout, READ)
+                self.flagged = Flagged(source, tool.stdout, READ)
+                yield self.flagged
             finally:
                 tool.kill()
 
@@ -154,11 +166,39 @@ class TraceCmdFormat(ColumnFormat):
             count = len(self.lines)
             raise ConversionError(f"{name} has the events of {count} buffers; --buffer takes one, such as {self.buffer_list()}")
 
+    def ended(self, report: Report) -> bytes:
+        events = self.flagged.count if self.flagged else self.events
+        if not self.path or self.width or not events or report.is_more_lost:
+            return b""
+        counts = counts_of(self.path)
+        lost = {cpu: sum(some.get(name, 0) for name in LOSSES) for cpu, some in counts.items()}
+        recorded = sum(some.get(name, 0) for some in counts.values() for name in RECORDED)
+        # Of what trace-cmd reads while it records, some may not come into its file; and what the kernel drops has no line.
+        missing = recorded + sum(lost.values()) - events - sum(report.lost.values())
+        if missing > 0:
+            report.say(f"{missing} events are missing, and trace-cmd doesn't say where: no wait is sure")
+            return b"# %d events are missing, at any time and on any CPU\nCPU:%d [LOST %d EVENTS]\n" % (
+                missing,
+                NO_CPU,
+                missing,
+            )
+        # A recording begins on all CPUs at once, so nothing is missing before the first event of such a CPU.
+        whole = [cpu for cpu in sorted(counts) if not missing and not lost[cpu]]
+        return b"".join(b"# CPU %d: 0 events overwritten\n" % cpu for cpu in whole)
+
     def buffer_list(self) -> str:
         """Return the buffers that have events, as text."""
         counts = {buffer: f"{count} lines" if self.width else "the only one" for buffer, count in self.lines.items() if count}
         names = {buffer: printable(buffer or b"") for buffer in counts}
         return ", ".join(f"{names[at]} ({'the top one, ' * (at == TOP)}{count})" for at, count in counts.items())
+
+
+def counts_of(path: str) -> dict[int, dict[bytes, int]]:
+    """Return what trace-cmd reports of each CPU in the recording of that path, by name."""
+    words = ["trace-cmd", "report", "--stat", "-i", path]
+    ran = subprocess.run(words, stdin=subprocess.DEVNULL, stdout=subprocess.PIPE, stderr=subprocess.DEVNULL, check=False)
+    parts = re.split(rb"^CPU: ([0-9]+)$", ran.stdout, flags=re.MULTILINE)
+    return {int(cpu): {name: int(count) for name, count in COUNT.findall(text)} for cpu, text in zip(parts[1::2], parts[2::2])}
 
 
 def buffer_of(front: bytes) -> bytes | None:
