@@ -56,10 +56,9 @@
 extern "C" {
 #endif
 
-/* A desk's handle: {0} has no desk. */
-typedef struct histdesk {
-    void *at;
-} histdesk;
+/* In the sources of histdesk, build/schema makes what is below each of these headings of the folder schema. */
+
+/* ---- Numbers. */
 
 /* Codes of calls. 1 to 17 are the numbers after `refused` in the output of scripts. */
 enum {
@@ -137,10 +136,17 @@ enum {
     HISTDESK_TEXT = 3    /* text is the field's text */
 };
 
+/* ---- Structs. */
+
+/* A desk's handle: {0} has no desk. */
+typedef struct histdesk {
+    void *at;
+} histdesk;
+
 /* The name of a task, or a state: `length` bytes. The bytes after them are zero; there may be none. */
 typedef struct histdesk_name {
     uint8_t bytes[31];
-    uint8_t length;
+    uint8_t length; /* in bytes */
 } histdesk_name;
 
 /* Where an event is: its CPU, and its line number in the CPU's lane. */
@@ -168,7 +174,7 @@ typedef struct histdesk_part {
     int64_t number;
     uint64_t bucket;
     histdesk_name text;
-    uint64_t kind;
+    uint64_t kind; /* HISTDESK_NUMBER .. */
 } histdesk_part;
 
 /* A key of 1 to 3 parts, in the trigger's order; unused parts are zero. Equal keys have equal bytes. */
@@ -189,29 +195,29 @@ typedef struct histdesk_row {
 typedef struct histdesk_latency {
     histdesk_place saved;
     histdesk_place read;
-    uint64_t micros;
+    uint64_t micros; /* in microseconds */
 } histdesk_latency;
 
 /* An event. Members that its name doesn't have are zero; if the name is HISTDESK_NONE, all but the place are. */
 typedef struct histdesk_event {
     histdesk_place place;
-    uint32_t name;             /* HISTDESK_WAKING .. */
-    int32_t common_pid;        /* the task that ran */
-    int32_t pid;               /* the task woken, or switched to */
+    uint32_t name;            /* HISTDESK_WAKING .. */
+    int32_t common_pid;       /* the task that ran */
+    int32_t pid;              /* the task woken, or switched to */
     int32_t prio;
-    int32_t target_cpu;        /* of a waking or wakeup */
-    int32_t prev_pid;          /* of a switch: the task switched from */
+    int32_t target_cpu;       /* of a waking or wakeup */
+    int32_t prev_pid;         /* of a switch: the task switched from */
     int32_t prev_prio;
-    histdesk_name task;        /* of the task that ran */
-    histdesk_name comm;        /* of the task woken, or switched to */
-    histdesk_name prev_comm;   /* of the task switched from */
-    histdesk_name prev_state;  /* its state, such as R+ */
+    histdesk_name task;       /* of the task that ran */
+    histdesk_name comm;       /* of the task woken, or switched to */
+    histdesk_name prev_comm;  /* of the task switched from */
+    histdesk_name prev_state; /* its state, such as R+ */
 } histdesk_event;
 
 /* An attached trigger: its id, and the name of the event that it is attached to. */
 typedef struct histdesk_trigger {
     uint32_t id;
-    uint32_t event;
+    uint32_t event; /* HISTDESK_WAKING .. */
 } histdesk_trigger;
 
 /* A row that an edit may have changed: the trigger's id, and the row's key. */
@@ -233,9 +239,9 @@ typedef struct histdesk_report {
 
 /* Why a call was refused. number is its code, 0 if it was accepted. Members that the number doesn't use are 0. */
 typedef struct histdesk_refusal {
-    uint32_t number;
-    uint32_t fault;        /* of 3: the line's; of 8: the trigger's; both as in REFERENCE.md, Line faults and Trigger faults;
-                            * of 20: HISTDESK_PART_REFUSED .. */
+    uint32_t number;       /* HISTDESK_OK .. */
+    uint32_t fault;        /* of 3: the line's; of 8: the trigger's; both as in REFERENCE.md, Line faults and Trigger faults; of
+                            * 20: HISTDESK_PART_REFUSED .. */
     uint32_t filter_fault; /* of 8 with fault 11, and of 9: the filter's, as in Filter faults */
     uint32_t cpu;          /* of 4 and 5 */
     uint32_t trigger;      /* of 11 and 12 */
@@ -246,15 +252,15 @@ typedef struct histdesk_refusal {
 
 /* A wait for a processor: a switch runs a task that something made runnable before. */
 typedef struct histdesk_wait {
-    histdesk_place ended;   /* of the switch that runs the task; lines are numbered by CPU, as in a desk */
-    histdesk_place began;   /* of the event that the wait began with */
-    int32_t pid;            /* not 0 */
-    int32_t prio;           /* with which the task runs */
-    uint32_t cause;         /* HISTDESK_WOKEN .. */
-    uint32_t doubt;         /* HISTDESK_SURE ..; histdesk_waits_copy writes 0, and histdesk_waits_doubt the actual value */
-    uint32_t slept;         /* 1 if the task was left asleep after the wait began, so that what woke it is unknown; else 0 */
-    uint32_t zero;          /* 0 */
-    histdesk_name name;     /* of the task, as the switch has it */
+    histdesk_place ended; /* of the switch that runs the task; lines are numbered by CPU, as in a desk */
+    histdesk_place began; /* of the event that the wait began with */
+    int32_t pid;          /* not 0 */
+    int32_t prio;         /* with which the task runs */
+    uint32_t cause;       /* HISTDESK_WOKEN .. */
+    uint32_t doubt;       /* HISTDESK_SURE ..; histdesk_waits_copy writes 0, and histdesk_waits_doubt the actual value */
+    uint32_t slept;       /* 1 if the task was left asleep after the wait began, so that what woke it is unknown; else 0 */
+    uint32_t zero;        /* 0 */
+    histdesk_name name;   /* of the task, as the switch has it */
 } histdesk_wait;
 
 /* A stretch of time in which a CPU lost events, as reported by lines of the text or shown by its events. It overlaps a wait if
@@ -290,10 +296,10 @@ typedef struct histdesk_waits_read {
 
 /* A line of a text. */
 typedef struct histdesk_text_line {
-    uint64_t end;   /* how many bytes the text has up to the line's end, including its line break */
+    uint64_t end;   /* how long the text is up to the line's end, including its line break; in bytes */
     uint64_t stamp; /* of its event; 0 if it has none */
     uint32_t cpu;   /* of its event; 0 if it has none */
-    uint32_t event; /* HISTDESK_WAKING .. HISTDESK_OTHER; HISTDESK_LINE_SKIPPED, HISTDESK_LINE_BAD */
+    uint32_t event; /* HISTDESK_WAKING ..; or HISTDESK_LINE_SKIPPED, HISTDESK_LINE_BAD */
     uint32_t fault; /* of a line that can't be read, as in REFERENCE.md, Line faults; else 0 */
     uint32_t zero;  /* 0 */
 } histdesk_text_line;
@@ -314,7 +320,7 @@ typedef struct histdesk_left_out {
 
 /* The sums of a text for one task. Each figure stops at the largest 64-bit number. */
 typedef struct histdesk_task_sum {
-    uint64_t run_time;  /* how long it ran, in microseconds: in runs whose two switches are both known */
+    uint64_t run_time;  /* how long it ran, in runs whose two switches are both known; in microseconds */
     uint64_t switches;  /* how often a CPU switched to it */
     uint64_t preempted; /* how often a switch to another task left it while it could run: in state R or R+ */
     uint64_t slept;     /* how often one left it asleep: in a state that begins with S or I */
@@ -326,10 +332,11 @@ typedef struct histdesk_task_sum {
 
 /* The sums of a text for one CPU. Each figure stops at the largest 64-bit number. */
 typedef struct histdesk_cpu_sum {
-    uint64_t idle;              /* how long it ran task 0, in microseconds: in runs whose two switches are both known */
-    uint64_t unknown;           /* for how long it isn't known what it ran: a switch left another task than the last one ran */
-    uint64_t idle_with_waiters; /* for how much of the time of task 0 some task waited for a processor */
-    uint64_t longest;           /* the most of idle_with_waiters that one such run has */
+    uint64_t idle;              /* how long it ran task 0, in runs whose two switches are both known; in microseconds */
+    uint64_t unknown;           /* for how long it isn't known what it ran: a switch left another task than the last one ran; in
+                                 * microseconds */
+    uint64_t idle_with_waiters; /* for how much of the time of task 0 some task waited for a processor; in microseconds */
+    uint64_t longest;           /* the most of idle_with_waiters that one such run has; in microseconds */
     uint64_t longest_from;      /* the stamp at which the first run began that has so much; 0 if longest is 0 */
     uint32_t cpu;               /* the CPU */
     uint32_t zero;              /* 0 */
@@ -337,8 +344,8 @@ typedef struct histdesk_cpu_sum {
 
 /* ---- A desk. */
 
-/* Puts a new desk, which holds nothing, into the handle, and frees the desk that was there. HISTDESK_OK, or
- * HISTDESK_MEMORY: the handle is as it was. */
+/* Puts a new desk, which holds nothing, into the handle, and frees the desk that was there. HISTDESK_MEMORY (the handle is as
+ * it was). */
 uint32_t histdesk_new(histdesk *desk);
 
 /* Frees the desk with everything that it keeps, and sets the handle to zero. Without a desk, it does nothing. */
@@ -357,8 +364,8 @@ uint32_t histdesk_unload(histdesk *desk, uint32_t cpu, uint64_t *events);
  * no lane, one is made. `at` is where the event is then. HISTDESK_BAD_LINE, HISTDESK_NO_EVENT, HISTDESK_FULL. */
 uint32_t histdesk_insert(histdesk *desk, const uint8_t *line, size_t length, histdesk_line *at);
 
-/* Removes one event. Its line number is not given again while the lane is held. HISTDESK_NO_LANE, HISTDESK_NO_EVENT;
- * never HISTDESK_MEMORY. */
+/* Removes one event. Its line number is not given again while the lane is held. HISTDESK_NO_LANE, HISTDESK_NO_EVENT; never
+ * HISTDESK_MEMORY. */
 uint32_t histdesk_strike(histdesk *desk, uint32_t cpu, uint32_t line);
 
 /* Removes the events at `count` places, one after the other, each by its CPU and line as histdesk_strike does; stamps are not
@@ -374,9 +381,11 @@ uint32_t histdesk_strike_events(histdesk *desk, const histdesk_place *places, si
  * HISTDESK_NO_VARIABLE, HISTDESK_KEY_MISMATCH. */
 uint32_t histdesk_attach(histdesk *desk, uint32_t event, const uint8_t *trigger, size_t length, uint32_t *id);
 
-/* Gives an attached trigger the filter in the text, which is without `if`; or removes its filter.
- * HISTDESK_NO_TRIGGER, HISTDESK_BAD_FILTER (only histdesk_refilter, also for an empty text). */
+/* Gives an attached trigger the filter in the text, which is without `if`. HISTDESK_NO_TRIGGER, HISTDESK_BAD_FILTER (also for
+ * an empty text). */
 uint32_t histdesk_refilter(histdesk *desk, uint32_t id, const uint8_t *filter, size_t length);
+
+/* Removes the filter of an attached trigger. HISTDESK_NO_TRIGGER. */
 uint32_t histdesk_unfilter(histdesk *desk, uint32_t id);
 
 /* Removes an attached trigger. HISTDESK_NO_TRIGGER, HISTDESK_IN_USE; never HISTDESK_MEMORY. */
@@ -386,12 +395,14 @@ uint32_t histdesk_remove(histdesk *desk, uint32_t id);
  * there is no list. The lists stay until the next one is accepted, or until histdesk_forget. Never HISTDESK_MEMORY. */
 uint32_t histdesk_report_of(histdesk *desk, histdesk_report *report);
 
-/* Copy the rows that the report counts as `rows`, and those that it counts as `made`, without duplicates. */
+/* Copies the rows that the report counts as `rows`, without duplicates. */
 size_t histdesk_rows_changed_copy(histdesk *desk, uint64_t from, histdesk_changed *to, size_t room);
+
+/* Copies the rows that the report counts as `made`, without duplicates. */
 size_t histdesk_made_changed_copy(histdesk *desk, uint64_t from, histdesk_changed *to, size_t room);
 
-/* Whether the last edits found no memory for the tables: the edits took effect, and the next histdesk_totals_of,
- * histdesk_hist, histdesk_rows or histdesk_latencies builds the tables anew. False without a desk. */
+/* Whether the last edits found no memory for the tables: the edits took effect, and the next histdesk_totals_of, histdesk_hist,
+ * histdesk_rows or histdesk_latencies builds the tables anew. False without a desk. */
 bool histdesk_is_deferred(histdesk *desk);
 
 /* ---- Questions about triggers. */
@@ -414,15 +425,21 @@ size_t histdesk_text_copy(histdesk *desk, uint64_t from, uint8_t *to, size_t roo
 
 /* Asks for the rows of a trigger's table, in the order of its text. `count` is how many. HISTDESK_NO_TRIGGER. */
 uint32_t histdesk_rows(histdesk *desk, uint32_t id, uint64_t *count);
+
+/* Copies these rows. */
 size_t histdesk_rows_copy(histdesk *desk, uint64_t from, histdesk_row *to, size_t room);
 
-/* Asks for the latencies of a trigger that reads a variable, in merged order of the reading events.
+/* Asks for the latencies of a trigger that reads a variable, in merged order of the reading events. `count` is how many.
  * HISTDESK_NO_TRIGGER, HISTDESK_NOT_READING. */
 uint32_t histdesk_latencies(histdesk *desk, uint32_t id, uint64_t *count);
+
+/* Copies these latencies. */
 size_t histdesk_latencies_copy(histdesk *desk, uint64_t from, histdesk_latency *to, size_t room);
 
-/* Asks for the attached triggers, by id. No refusal except HISTDESK_MEMORY. */
+/* Asks for the attached triggers, by id. `count` is how many. No refusal except HISTDESK_MEMORY. */
 uint32_t histdesk_triggers(histdesk *desk, uint64_t *count);
+
+/* Copies these triggers. */
 size_t histdesk_triggers_copy(histdesk *desk, uint64_t from, histdesk_trigger *to, size_t room);
 
 /* ---- Questions about events. */
@@ -430,14 +447,16 @@ size_t histdesk_triggers_copy(histdesk *desk, uint64_t from, histdesk_trigger *t
 /* The event that is held at a CPU's line. HISTDESK_NO_LANE, HISTDESK_NO_EVENT; never HISTDESK_MEMORY. */
 uint32_t histdesk_event_at(histdesk *desk, uint32_t cpu, uint32_t line, histdesk_event *event);
 
-/* Asks for the places of all held events, in merged order. No refusal except HISTDESK_MEMORY. */
+/* Asks for the places of all held events, in merged order. `count` is how many. No refusal except HISTDESK_MEMORY. */
 uint32_t histdesk_events(histdesk *desk, uint64_t *count);
 
-/* Asks for the places of a CPU's events from a line on, by line number; from line 1 on, these are all. HISTDESK_NO_LANE. */
+/* Asks for the places of a CPU's events from a line on, by line number; from line 1 on, these are all. `count` is how many.
+ * HISTDESK_NO_LANE. */
 uint32_t histdesk_lane(histdesk *desk, uint32_t cpu, uint32_t line, uint64_t *count);
 
 /* Asks for the places of the events of that name that pass the filter, in merged order. A filter that every event passes is
- * common_cpu >= 0. HISTDESK_BAD_COMMAND (not a name that triggers are attached to), HISTDESK_BAD_FILTER. */
+ * common_cpu >= 0. `count` is how many. HISTDESK_BAD_COMMAND (not a name that triggers are attached to),
+ * HISTDESK_BAD_FILTER. */
 uint32_t histdesk_matching(histdesk *desk, uint32_t event, const uint8_t *filter, size_t length, uint64_t *count);
 
 /* Copies the places that one of these three calls asked for last. */
@@ -453,12 +472,16 @@ size_t histdesk_events_copy(histdesk *desk, uint64_t from, histdesk_event *to, s
 /* Asks for the lines of a text: what each is, and where it ends. The last line needs no line break. `count` is how many. No
  * refusal except HISTDESK_MEMORY. */
 uint32_t histdesk_lines(histdesk *desk, const uint8_t *text, size_t length, uint64_t *count);
+
+/* Copies these lines. */
 size_t histdesk_lines_copy(histdesk *desk, uint64_t from, histdesk_text_line *to, size_t room);
 
 /* Asks where events were lost, as reported by the lines of a text: each hole is between two events of a CPU that follow one
  * another in the text, whatever their stamps. A line that can't be read reports nothing. Holes come in the order of
- * histdesk_waits_holes. No refusal except HISTDESK_MEMORY. */
+ * histdesk_waits_holes. `read` is how many there are, and what the kernel's header says. No refusal except HISTDESK_MEMORY. */
 uint32_t histdesk_losses(histdesk *desk, const uint8_t *text, size_t length, histdesk_losses_read *read);
+
+/* Copies these holes. */
 size_t histdesk_losses_copy(histdesk *desk, uint64_t from, histdesk_hole *to, size_t room);
 
 /* Frees the memory of everything that was asked for, including lines and losses of texts, and of the report. What is held and
@@ -494,15 +517,15 @@ void histdesk_forget(histdesk *desk);
  *     histdesk_waits_join(&desk, &part, &count);     and then histdesk_waits_copy(&desk, ..)
  *     histdesk_waits_finish(&desk, &read, &count); */
 
-/* Begins a stream, and ends the one that was there. Lines that can't be read are skipped and counted, or else the first of
- * them makes the text refused. HISTDESK_MEMORY: the stream that was there stays. */
+/* Begins a stream, and ends the one that was there. Lines that can't be read are skipped and counted, or else the first of them
+ * makes the text refused. HISTDESK_MEMORY (the stream that was there stays). */
 uint32_t histdesk_waits_new(histdesk *desk, bool skips_bad_lines);
 
 /* Begins a stream whose text is a part of a longer one, not its beginning, and ends the one that was there. Like any stream, it
  * takes pieces, leaves events out, and reports the events and the last stamp so far. It doesn't report a wait that ends with
  * the first switch to its task: that wait may have begun before the part, so histdesk_waits_join reports it. In the waits that
  * it reports, lines are counted from the part's own start. histdesk_waits_sum_up and histdesk_waits_finish return
- * HISTDESK_NO_STREAM. HISTDESK_MEMORY: the stream that was there stays. */
+ * HISTDESK_NO_STREAM. HISTDESK_MEMORY (the stream that was there stays). */
 uint32_t histdesk_waits_part(histdesk *desk, bool skips_bad_lines);
 
 /* Joins a part, which the stream of another desk has read, to the text that this stream has read, as if the part had been fed
@@ -511,53 +534,55 @@ uint32_t histdesk_waits_part(histdesk *desk, bool skips_bad_lines);
  * the whole text. Of the waits that the part reported before, only the places move: by as many lines as the CPU had events in
  * this stream before the join, up to line 4,294,967,295. These waits may end before or after the ones that are reported now.
  * The other desk then has no stream, but the waits that it reported last can still be copied. The two streams must leave out
- * the same events, by the same calls; only the number of calls is compared.
- * If the text here has been refused, the code is that of histdesk_waits_feed. HISTDESK_NO_STREAM: no stream of a whole text
- * takes pieces here, or no stream of a part takes them there. HISTDESK_NOT_JOINED: its fault says why. After these, both
- * streams go on as before, and histdesk_waits_refused of `desk` says why. HISTDESK_MEMORY, if the text wasn't refused before:
- * from then on, the text is refused for that, and the part is gone. HISTDESK_CLOSED: one of the handles has no desk, and
- * nothing happens. */
+ * the same events, by the same calls; only the number of calls is compared. If the text here has been refused, the code is that
+ * of histdesk_waits_feed. HISTDESK_NO_STREAM (no stream of a whole text takes pieces here, or no stream of a part takes them
+ * there), HISTDESK_NOT_JOINED (its fault says why). After these, both streams go on as before, and histdesk_waits_refused of
+ * `desk` says why. HISTDESK_MEMORY, if the text wasn't refused before: from then on, the text is refused for that, and the part
+ * is gone. HISTDESK_CLOSED: one of the handles has no desk, and nothing happens. */
 uint32_t histdesk_waits_join(histdesk *desk, histdesk *part, uint64_t *count);
 
 /* Leaves events out of the text: those of a name that pass the filter in a text of `length` bytes, or all of the name if
  * `length` is 0. They wake, create and switch nothing, as if they weren't in the text. But they keep their line numbers, and
- * everything reported about the text itself counts them: lines, events, stamps, missing switches and holes, except those of
- * a task that ran unseen, which only the other events show. Each further call leaves out more. HISTDESK_NO_STREAM: no stream
- * takes pieces, or it has already taken one. HISTDESK_BAD_COMMAND: no such event, or HISTDESK_OTHER. HISTDESK_BAD_FILTER. If
+ * everything reported about the text itself counts them: lines, events, stamps, missing switches and holes, except those of a
+ * task that ran unseen, which only the other events show. Each further call leaves out more. HISTDESK_NO_STREAM (no stream
+ * takes pieces, or it has already taken one), HISTDESK_BAD_COMMAND (no such event, or HISTDESK_OTHER), HISTDESK_BAD_FILTER. If
  * the text has been refused, the code is that of histdesk_waits_feed. A refusal changes nothing, except what
- * histdesk_waits_refused reports: the stream goes on as before, even after HISTDESK_MEMORY, and a text that has ended keeps
- * its waits, holes, counts and sums. */
+ * histdesk_waits_refused reports: the stream goes on as before, even after HISTDESK_MEMORY, and a text that has ended keeps its
+ * waits, holes, counts and sums. */
 uint32_t histdesk_waits_without(histdesk *desk, uint32_t event, const uint8_t *filter, size_t length);
 
-/* Also sums up the text by task and by CPU, without the events that are left out. HISTDESK_NO_STREAM: no stream of a whole text
- * takes pieces, or it has already taken one. If the text has been refused, the code is that of histdesk_waits_feed. Otherwise
+/* Also sums up the text by task and by CPU, without the events that are left out. HISTDESK_NO_STREAM (no stream of a whole text
+ * takes pieces, or it has already taken one). If the text has been refused, the code is that of histdesk_waits_feed. Otherwise
  * never HISTDESK_MEMORY. A refusal changes nothing, except what histdesk_waits_refused reports. */
 uint32_t histdesk_waits_sum_up(histdesk *desk);
 
-/* Takes the next piece of the text. `count` is how many waits became known; they are copied until the next feed, finish or join.
- * HISTDESK_NO_STREAM, HISTDESK_BAD_LINE, HISTDESK_BACKWARDS, HISTDESK_FULL (over 4,294,967,295 lines). Except for
+/* Takes the next piece of the text. `count` is how many waits became known; they are copied until the next feed, finish or
+ * join. HISTDESK_NO_STREAM, HISTDESK_BAD_LINE, HISTDESK_BACKWARDS, HISTDESK_FULL (over 4,294,967,295 lines). Except for
  * HISTDESK_NO_STREAM, a refusal, even HISTDESK_MEMORY, leaves no waits, and the stream returns the same code from then on. */
 uint32_t histdesk_waits_feed(histdesk *desk, const uint8_t *piece, size_t length, uint64_t *count);
 
-/* Ends the text: a line that has not ended is its last. `count` is how many waits were left; `read` is what was read of the
- * text. The stream has then ended. Refused like histdesk_waits_feed. */
+/* Ends the text: a line that has not ended is its last. The stream has then ended. `read` is what was read of the text. `count`
+ * is how many waits were left. HISTDESK_NO_STREAM, HISTDESK_BAD_LINE, HISTDESK_BACKWARDS, HISTDESK_FULL. A refusal does what
+ * one of histdesk_waits_feed does. */
 uint32_t histdesk_waits_finish(histdesk *desk, histdesk_waits_read *read, uint64_t *count);
 
 /* Copies the waits that the last feed, finish, join or histdesk_waits_held reported. */
 size_t histdesk_waits_copy(histdesk *desk, uint64_t from, histdesk_wait *to, size_t room);
 
 /* Once the stream has ended, copies the holes of the text, in this order: those of CPUs that begin late, by CPU, if only the
- * header says that events were overwritten; those that an event ended, the first one first; those that last to the end, by
- * CPU; and then those that no line reports: of CPUs that begin late or end early, and at last of CPUs that aren't known. */
+ * header says that events were overwritten; those that an event ended, the first one first; those that last to the end, by CPU;
+ * and then those that no line reports: of CPUs that begin late or end early, and at last of CPUs that aren't known. */
 size_t histdesk_waits_holes(histdesk *desk, uint64_t from, histdesk_hole *to, size_t room);
 
 /* Once the stream has ended, copies how many events were left out: item n is for the n-th histdesk_waits_without, from 0. An
  * event that passes several filters counts for each. */
 size_t histdesk_waits_left_out(histdesk *desk, uint64_t from, histdesk_left_out *to, size_t room);
 
-/* Once the stream has ended, copy the sums of each task that a waking, a creation or a switch names, except task 0, by PID; and
- * those of each CPU that has a switch, by number. There are none if histdesk_waits_sum_up was not called. */
+/* Once the stream has ended, copies the sums of each task that a waking, a creation or a switch names, except task 0, by PID.
+ * There are none if histdesk_waits_sum_up was not called. */
 size_t histdesk_waits_tasks(histdesk *desk, uint64_t from, histdesk_task_sum *to, size_t room);
+
+/* The same for each CPU that has a switch, by number. */
 size_t histdesk_waits_cpus(histdesk *desk, uint64_t from, histdesk_cpu_sum *to, size_t room);
 
 /* Copies how many events each CPU has had so far: item n is for CPU n, and there are 8192 items. While the stream runs, only
@@ -565,11 +590,11 @@ size_t histdesk_waits_cpus(histdesk *desk, uint64_t from, histdesk_cpu_sum *to, 
 size_t histdesk_waits_events(histdesk *desk, uint64_t from, uint32_t *to, size_t room);
 
 /* Writes the stamp of the last event so far, in the same lines. `has` is false, and `stamp` 0, if there is no event.
- * HISTDESK_NO_STREAM: no stream has begun. If the text has been refused, the code is that of histdesk_waits_feed. */
+ * HISTDESK_NO_STREAM (no stream has begun). If the text has been refused, the code is that of histdesk_waits_feed. */
 uint32_t histdesk_waits_last(histdesk *desk, uint64_t *stamp, bool *has);
 
-/* Asks for the waits of the events that the desk holds now, in the order of their ends. `count` is how many. The stream goes
- * on as before. No refusal except HISTDESK_MEMORY. */
+/* Asks for the waits of the events that the desk holds now, in the order of their ends. The stream goes on as before. `count`
+ * is how many. No refusal except HISTDESK_MEMORY. */
 uint32_t histdesk_waits_held(histdesk *desk, uint64_t *count);
 
 /* Writes into `doubt` how sure waits of this text are, once the stream has ended: by the holes that overlap them, and by
@@ -586,17 +611,19 @@ void histdesk_waits_free(histdesk *desk);
 
 /* ---- Refusals. */
 
-/* Why the last edit or question was refused: the last call with a code, except for histdesk_new, histdesk_report_of, the
- * calls of waits, and this one. Never HISTDESK_MEMORY. */
+/* Why the last edit or question was refused: the last call with a code, except for histdesk_new, histdesk_report_of, the calls
+ * of waits, and this one. Never HISTDESK_MEMORY. */
 uint32_t histdesk_refused(histdesk *desk, histdesk_refusal *refusal);
 
-/* Write a refusal as scripts print it, `refused 8: fault 3`, without a line break, and as a message in words: as much as fits
- * into `room`, of at most 64 bytes and at most 160 bytes. They return how many bytes they wrote, or 0 if the numbers are of no
- * refusal or memory ran out. They need no desk. */
+/* Writes a refusal as scripts print it, `refused 8: fault 3`, without a line break: as much as fits into `room`, of at most 64
+ * bytes. Returns how many bytes it wrote, or 0 if the numbers are of no refusal or memory ran out. It needs no desk. */
 size_t histdesk_refusal_text(const histdesk_refusal *refusal, uint8_t *to, size_t room);
+
+/* The same as a message in words, of at most 160 bytes. */
 size_t histdesk_refusal_words(const histdesk_refusal *refusal, uint8_t *to, size_t room);
 
 /* ---- Sizes and offsets in bytes, which the library was built with. */
+
 #if defined(__cplusplus) ? __cplusplus >= 201103L : defined(__STDC_VERSION__) && __STDC_VERSION__ >= 201112L
 #ifdef __cplusplus
 #define HISTDESK_ASSERT_(holds) static_assert(holds, #holds)
@@ -606,7 +633,7 @@ size_t histdesk_refusal_words(const histdesk_refusal *refusal, uint8_t *to, size
 #define HISTDESK_AT_(type, field, offset) HISTDESK_ASSERT_(offsetof(type, field) == (offset))
 
 HISTDESK_ASSERT_(sizeof(bool) == 1);
-HISTDESK_ASSERT_(sizeof(histdesk) == sizeof(void *));
+HISTDESK_ASSERT_(sizeof(histdesk) == 8);
 HISTDESK_ASSERT_(sizeof(histdesk_name) == 32);
 HISTDESK_AT_(histdesk_name, length, 31);
 HISTDESK_ASSERT_(sizeof(histdesk_line) == 8);
@@ -649,6 +676,14 @@ HISTDESK_ASSERT_(sizeof(histdesk_report) == 24);
 HISTDESK_AT_(histdesk_report, has_made, 1);
 HISTDESK_AT_(histdesk_report, rows, 8);
 HISTDESK_AT_(histdesk_report, made, 16);
+HISTDESK_ASSERT_(sizeof(histdesk_refusal) == 40);
+HISTDESK_AT_(histdesk_refusal, fault, 4);
+HISTDESK_AT_(histdesk_refusal, filter_fault, 8);
+HISTDESK_AT_(histdesk_refusal, cpu, 12);
+HISTDESK_AT_(histdesk_refusal, trigger, 16);
+HISTDESK_AT_(histdesk_refusal, has_place, 20);
+HISTDESK_AT_(histdesk_refusal, line, 24);
+HISTDESK_AT_(histdesk_refusal, place, 32);
 HISTDESK_ASSERT_(sizeof(histdesk_wait) == 88);
 HISTDESK_AT_(histdesk_wait, began, 16);
 HISTDESK_AT_(histdesk_wait, pid, 32);
@@ -707,14 +742,6 @@ HISTDESK_AT_(histdesk_cpu_sum, longest, 24);
 HISTDESK_AT_(histdesk_cpu_sum, longest_from, 32);
 HISTDESK_AT_(histdesk_cpu_sum, cpu, 40);
 HISTDESK_AT_(histdesk_cpu_sum, zero, 44);
-HISTDESK_ASSERT_(sizeof(histdesk_refusal) == 40);
-HISTDESK_AT_(histdesk_refusal, fault, 4);
-HISTDESK_AT_(histdesk_refusal, filter_fault, 8);
-HISTDESK_AT_(histdesk_refusal, cpu, 12);
-HISTDESK_AT_(histdesk_refusal, trigger, 16);
-HISTDESK_AT_(histdesk_refusal, has_place, 20);
-HISTDESK_AT_(histdesk_refusal, line, 24);
-HISTDESK_AT_(histdesk_refusal, place, 32);
 
 #undef HISTDESK_AT_
 #undef HISTDESK_ASSERT_

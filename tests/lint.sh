@@ -57,7 +57,7 @@ else
 fi
 if there mypy "types in Python"; then
     lint mypy mypy --strict --config-file=python/pyproject.toml --cache-dir="$folder/types" \
-        --scripts-are-modules python/histdesk build/*.py build/{build,crates,edits,library,wheel}
+        --scripts-are-modules python/histdesk build/*.py build/{build,crates,edits,library,schema,wheel}
 fi
 for at in "${!names[@]}"; do
     if wait "${runs[at]}"; then

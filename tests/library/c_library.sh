@@ -102,6 +102,7 @@ else
 fi
 declared=$(sed -n 's/^[a-z0-9_]* \(histdesk_[a-z_]*\)(.*/\1/p' "$include/histdesk.h" | sort)
 is_told "exported names" "$declared" "$(names --defined-only)"
+is_told "the node of these names" HISTDESK_0 "$(nm -D --defined-only "$library" | sed -n 's/.*@@//p' | sort -u)"
 is_told "names asked for" "" "$(names --undefined-only | grep -vxE 'malloc|realloc|free|mem(move|cpy|set|cmp)')"
 is_told "name of the object" libhistdesk.so.0 "$(readelf -d "$library" | sed -n 's/.*(SONAME).*\[\(.*\)\]/\1/p')"
 

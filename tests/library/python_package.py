@@ -516,7 +516,7 @@ class Header(unittest.TestCase):
 
     def test_calls(self):
         declared = set(re.findall(r"^\w+ (histdesk_\w+)\(", self.text, re.MULTILINE))
-        self.assertEqual(declared, {*native.CALLS, *native.REFUSAL_CALLS})
+        self.assertEqual(declared, set(native.CALLS))
 
     def test_numbers_of_arguments(self):
         for name, arguments in re.findall(r"^\w+ (histdesk_\w+)\((.*?)\);", self.text, re.MULTILINE):
@@ -577,9 +577,9 @@ class Places(unittest.TestCase):
         self.assertEqual(native.library.histdesk_events(self.handle, self.count), layout.OK)
         self.assertEqual(self.copied(), (1000100, _schema.OTHER, 1))
         self.assertEqual(native.library.histdesk_unload(self.handle, 0, self.count), layout.OK)
-        self.assertEqual(self.copied(), (1000100, layout.NO_EVENT, 0))
+        self.assertEqual(self.copied(), (1000100, layout.NONE, 0))
         self.load(b"b-2 [000] 2.000100: x:")
-        self.assertEqual(self.copied(), (1000100, layout.NO_EVENT, 0))
+        self.assertEqual(self.copied(), (1000100, layout.NONE, 0))
 
 
 @unittest.skipUnless(os.path.exists(HEADER) and os.path.isdir(FIELDS), "the sources of the engine are missing")

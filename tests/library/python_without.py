@@ -9,7 +9,6 @@ The recordings and the filters come by chance, and the text is cut anywhere."""
 import ctypes
 import os
 import random
-import struct
 import sys
 import unittest
 
@@ -31,7 +30,7 @@ from python_runner import main
 from recordings import Place, Wait
 
 ROOM = 64
-WAIT = struct.Struct("=" + 2 * layout.PLACE_CODE + "2i4I" + layout.NAME_CODE)
+WAIT = layout.WAIT
 KINDS = {1: "woken", 2: "new", 3: "preempted"}
 BAD_FILTER = 9
 

@@ -116,4 +116,4 @@ def as_bytes(text: Text) -> bytes:
 
 def event_number(event: str) -> int:
     """Return the number of an event that triggers can be attached to; for any other name, one that the library refuses."""
-    return _schema.NUMBERS[event] if event in _schema.ATTACHABLE_EVENTS else layout.NO_EVENT
+    return _schema.NUMBERS[event] if event in _schema.ATTACHABLE_EVENTS else layout.NONE

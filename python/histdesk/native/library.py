@@ -6,7 +6,7 @@ import ctypes
 import os
 from collections.abc import Callable
 from pathlib import Path
-from typing import Any, TypeAlias
+from typing import TypeAlias
 
 from . import layout
 
@@ -18,74 +18,8 @@ VARIABLE = "HISTDESK_LIBRARY"
 # The folder of the package histdesk.
 PACKAGE = Path(__file__).resolve().parent.parent
 
-Code, Number, Wide, Size = ctypes.c_uint32, ctypes.c_uint32, ctypes.c_uint64, ctypes.c_size_t
-Desk = ctypes.POINTER(layout.Handle)
-Count = ctypes.POINTER(Wide)
-# A text, and room for one: where it is, and how long it is. A text may hold zero bytes.
-TEXT = [ctypes.c_char_p, Size]
-ROOM = [Wide, ctypes.c_void_p, Size]
-
-# What each call returns, and what it takes after the desk.
-CALLS: dict[str, tuple[Any, list[Any]]] = {
-    "histdesk_new": (Code, []),
-    "histdesk_free": (None, []),
-    "histdesk_load": (Code, [ctypes.c_void_p, Size, Count]),
-    "histdesk_unload": (Code, [Number, Count]),
-    "histdesk_insert": (Code, [*TEXT, ctypes.POINTER(layout.Line)]),
-    "histdesk_strike": (Code, [Number, Number]),
-    "histdesk_strike_events": (Code, [ctypes.c_void_p, Size, ctypes.c_bool, Count]),
-    "histdesk_attach": (Code, [Number, *TEXT, ctypes.POINTER(Number)]),
-    "histdesk_refilter": (Code, [Number, *TEXT]),
-    "histdesk_unfilter": (Code, [Number]),
-    "histdesk_remove": (Code, [Number]),
-    "histdesk_totals_of": (Code, [Number, ctypes.POINTER(layout.Totals)]),
-    "histdesk_hist": (Code, [Number, Count]),
-    "histdesk_list": (Code, [Number, Count]),
-    "histdesk_trigger_text": (Code, [Number, Count]),
-    "histdesk_text_copy": (Size, ROOM),
-    "histdesk_rows": (Code, [Number, Count]),
-    "histdesk_rows_copy": (Size, ROOM),
-    "histdesk_latencies": (Code, [Number, Count]),
-    "histdesk_latencies_copy": (Size, ROOM),
-    "histdesk_events": (Code, [Count]),
-    "histdesk_lane": (Code, [Number, Number, Count]),
-    "histdesk_matching": (Code, [Number, *TEXT, Count]),
-    "histdesk_event_at": (Code, [Number, Number, ctypes.c_void_p]),
-    "histdesk_places_copy": (Size, ROOM),
-    "histdesk_events_copy": (Size, ROOM),
-    "histdesk_triggers": (Code, [Count]),
-    "histdesk_triggers_copy": (Size, ROOM),
-    "histdesk_report_of": (Code, [ctypes.POINTER(layout.Report)]),
-    "histdesk_rows_changed_copy": (Size, ROOM),
-    "histdesk_made_changed_copy": (Size, ROOM),
-    "histdesk_is_deferred": (ctypes.c_bool, []),
-    "histdesk_forget": (None, []),
-    "histdesk_lines": (Code, [ctypes.c_void_p, Size, Count]),
-    "histdesk_lines_copy": (Size, ROOM),
-    "histdesk_losses": (Code, [ctypes.c_void_p, Size, ctypes.POINTER(layout.LossesRead)]),
-    "histdesk_losses_copy": (Size, ROOM),
-    "histdesk_refused": (Code, [ctypes.POINTER(layout.Refusal)]),
-    "histdesk_waits_new": (Code, [ctypes.c_bool]),
-    "histdesk_waits_part": (Code, [ctypes.c_bool]),
-    "histdesk_waits_join": (Code, [Desk, Count]),
-    "histdesk_waits_without": (Code, [Number, *TEXT]),
-    "histdesk_waits_sum_up": (Code, []),
-    "histdesk_waits_feed": (Code, [ctypes.c_void_p, Size, Count]),
-    "histdesk_waits_finish": (Code, [ctypes.POINTER(layout.WaitsRead), Count]),
-    "histdesk_waits_copy": (Size, ROOM),
-    "histdesk_waits_holes": (Size, ROOM),
-    "histdesk_waits_left_out": (Size, ROOM),
-    "histdesk_waits_tasks": (Size, ROOM),
-    "histdesk_waits_cpus": (Size, ROOM),
-    "histdesk_waits_events": (Size, ROOM),
-    "histdesk_waits_last": (Code, [Count, ctypes.POINTER(ctypes.c_bool)]),
-    "histdesk_waits_held": (Code, [Count]),
-    "histdesk_waits_doubt": (Code, [ctypes.c_void_p, Size]),
-    "histdesk_waits_refused": (Code, [ctypes.POINTER(layout.Refusal)]),
-    "histdesk_waits_free": (None, []),
-}
-# These take a refusal, and no desk.
-REFUSAL_CALLS = ["histdesk_refusal_text", "histdesk_refusal_words"]
+# What each call returns, and what it takes.
+CALLS = layout.CALLS
 
 
 def candidates(package: Path) -> list[Path]:
@@ -141,10 +75,10 @@ class Library:
         """Load it now."""
         library = declare(self._open(library_path()))
         # They are found here from now on.
-        self.__dict__.update((name, getattr(library, name)) for name in ("_name", *CALLS, *REFUSAL_CALLS))
+        self.__dict__.update((name, getattr(library, name)) for name in ("_name", *CALLS))
 
     def __getattr__(self, name: str) -> Call:
-        if name in ("_name", *CALLS, *REFUSAL_CALLS) and name not in self.__dict__:
+        if name in ("_name", *CALLS) and name not in self.__dict__:
             self.load()
             call: Call = self.__dict__[name]
             return call
@@ -171,10 +105,7 @@ def declare(library: ctypes.CDLL) -> ctypes.CDLL:
     ImportError
         If it lacks a call.
     """
-    calls = {name: (result, [Desk, *takes]) for name, (result, takes) in CALLS.items()}
-    for name in REFUSAL_CALLS:
-        calls[name] = (Size, [ctypes.POINTER(layout.Refusal), ctypes.c_void_p, Size])
-    for name, (result, takes) in calls.items():
+    for name, (result, takes) in CALLS.items():
         try:
             call = getattr(library, name)
         except AttributeError:
