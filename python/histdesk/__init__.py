@@ -50,30 +50,31 @@ from typing import TYPE_CHECKING
 from ._version import __version__ as __version__  # noqa: F401
 
 if TYPE_CHECKING:
-    from ._chain import Chain, ChainStep
-    from ._comparison import Comparison
-    from ._counts import Counts, CountsRow, Greatest
-    from ._desk import Desk
-    from ._diff import Difference, DifferenceRow, Figures, Struck, diff
-    from ._events import Events
-    from ._fate import Fate
-    from ._loaded import Lane, Loaded
-    from ._losses import Hole, Losses, LossWarning
-    from ._many import LeftOutWarning, Many, many
-    from ._noise import ComparisonRow, FigureComparison, Spread
-    from ._questions import Asked, AskRows, AskWaits, Failed
-    from ._recording import Part, Recording, read
-    from ._refusal import Refused, refusal_words
-    from ._rows import Rows
-    from ._slices import Source
-    from ._stretches import Runner, Share, Stretch
-    from ._summary import CpuSummary, NameSummary, Summary, TaskSummary, summary
-    from ._times import Stamp
-    from ._trigger import Trigger
-    from ._values import Bucket, Changed, Edit, Edits, Event, Latency, Log2, Place, Totals, Wait
-    from ._waits import Waits, waits
-    from ._why import Why, why
-    from ._writers import escaped, unescaped
+    from .compare.diff import Difference, DifferenceRow, Figures, Struck, diff
+    from .compare.fate import Fate
+    from .compare.permutation import ComparisonRow, FigureComparison, Spread
+    from .compare.several import Comparison
+    from .desk.desk import Desk
+    from .desk.events import Events
+    from .desk.loaded import Lane, Loaded
+    from .desk.recording import Part, Recording, read
+    from .desk.rows import Rows
+    from .desk.slices import Source
+    from .desk.trigger import Trigger
+    from .desk.values import Bucket, Changed, Edit, Edits, Event, Latency, Log2, Totals, Wait
+    from .explain.chain import Chain, ChainStep
+    from .explain.stretches import Runner, Share, Stretch
+    from .explain.why import Why, why
+    from .export.csv import escaped, unescaped
+    from .fleet.many import LeftOutWarning, Many, many
+    from .fleet.questions import Asked, AskRows, AskWaits, Failed
+    from .native.refusals import Refused, refusal_words
+    from .trace.losses import Hole, Losses, LossWarning
+    from .trace.places import Place
+    from .trace.times import Stamp
+    from .waiting.counts import Counts, CountsRow, Greatest
+    from .waiting.summary import CpuSummary, NameSummary, Summary, TaskSummary, summary
+    from .waiting.waits import Waits, waits
 
 __all__ = [
     "AskRows",
@@ -143,30 +144,31 @@ __all__ = [
 # The module that defines each public name. A module is loaded when one of its names is first used, so that a tool loads
 # only what it needs.
 _MODULES = {
-    "_chain": ("Chain", "ChainStep"),
-    "_comparison": ("Comparison",),
-    "_counts": ("Counts", "CountsRow", "Greatest"),
-    "_desk": ("Desk",),
-    "_diff": ("Difference", "DifferenceRow", "Figures", "Struck", "diff"),
-    "_events": ("Events",),
-    "_fate": ("Fate",),
-    "_loaded": ("Lane", "Loaded"),
-    "_losses": ("Hole", "LossWarning", "Losses"),
-    "_many": ("LeftOutWarning", "Many", "many"),
-    "_noise": ("ComparisonRow", "FigureComparison", "Spread"),
-    "_questions": ("AskRows", "AskWaits", "Asked", "Failed"),
-    "_recording": ("Part", "Recording", "read"),
-    "_refusal": ("Refused", "refusal_words"),
-    "_rows": ("Rows",),
-    "_slices": ("Source",),
-    "_stretches": ("Runner", "Share", "Stretch"),
-    "_summary": ("CpuSummary", "NameSummary", "Summary", "TaskSummary", "summary"),
-    "_times": ("Stamp",),
-    "_trigger": ("Trigger",),
-    "_values": ("Bucket", "Changed", "Edit", "Edits", "Event", "Latency", "Log2", "Place", "Totals", "Wait"),
-    "_waits": ("Waits", "waits"),
-    "_why": ("Why", "why"),
-    "_writers": ("escaped", "unescaped"),
+    "compare.diff": ("Difference", "DifferenceRow", "Figures", "Struck", "diff"),
+    "compare.fate": ("Fate",),
+    "compare.permutation": ("ComparisonRow", "FigureComparison", "Spread"),
+    "compare.several": ("Comparison",),
+    "desk.desk": ("Desk",),
+    "desk.events": ("Events",),
+    "desk.loaded": ("Lane", "Loaded"),
+    "desk.recording": ("Part", "Recording", "read"),
+    "desk.rows": ("Rows",),
+    "desk.slices": ("Source",),
+    "desk.trigger": ("Trigger",),
+    "desk.values": ("Bucket", "Changed", "Edit", "Edits", "Event", "Latency", "Log2", "Totals", "Wait"),
+    "explain.chain": ("Chain", "ChainStep"),
+    "explain.stretches": ("Runner", "Share", "Stretch"),
+    "explain.why": ("Why", "why"),
+    "export.csv": ("escaped", "unescaped"),
+    "fleet.many": ("LeftOutWarning", "Many", "many"),
+    "fleet.questions": ("AskRows", "AskWaits", "Asked", "Failed"),
+    "native.refusals": ("Refused", "refusal_words"),
+    "trace.losses": ("Hole", "LossWarning", "Losses"),
+    "trace.places": ("Place",),
+    "trace.times": ("Stamp",),
+    "waiting.counts": ("Counts", "CountsRow", "Greatest"),
+    "waiting.summary": ("CpuSummary", "NameSummary", "Summary", "TaskSummary", "summary"),
+    "waiting.waits": ("Waits", "waits"),
 }
 _MODULE_OF = {name: module for module, names in _MODULES.items() for name in names}
 

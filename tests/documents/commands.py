@@ -1,5 +1,5 @@
 #!/usr/bin/env python3
-"""Compares the table of commands, python/histdesk/cli/commands.py, with the program and with all other lists of commands.
+"""Compares the table of commands, python/histdesk/script/commands.py, with the program and with all other lists of commands.
 
     commands.py HISTDESK > WHAT WENT WRONG
 
@@ -22,9 +22,9 @@ sys.dont_write_bytecode = True
 from pages import ROOT, text_of
 
 sys.path.insert(0, os.path.join(ROOT, "python"))
-from histdesk.cli.commands import ABOUT_EVENTS, ABOUT_TRIGGERS, COMMANDS, PROMPT_COMMANDS, SCRIPT_COMMANDS, list_of
 from histdesk.cli.completion import Names, completions
 from histdesk.cli.prompt_help import help_of
+from histdesk.script.commands import ABOUT_EVENTS, ABOUT_TRIGGERS, COMMANDS, PROMPT_COMMANDS, SCRIPT_COMMANDS, list_of
 
 # What is said if a thing doesn't hold, and whether it holds.
 Thing = Tuple[str, bool]

@@ -81,14 +81,15 @@ def members_of(kind: ast.ClassDef, classes: Dict[str, ast.ClassDef]) -> Members:
 def package() -> Dict[str, Members]:
     """Return what each public class has, by its name; under the package's own name, what the package has."""
     kinds: Dict[str, Members] = {PACKAGE: {}}
-    modules = [ast.parse(path.read_text(encoding="utf-8")) for path in sorted(Path(ROOT, "python", PACKAGE).glob("*.py"))]
+    modules = [ast.parse(path.read_text(encoding="utf-8")) for path in sorted(Path(ROOT, "python", PACKAGE).rglob("*.py"))]
     classes = {node.name: node for module in modules for node in module.body if isinstance(node, ast.ClassDef)}
     # The imports for type checkers are of names that are loaded later.
     for import_ in ast.walk(ast.parse(text_of(f"python/{PACKAGE}/__init__.py"))):
         if not isinstance(import_, ast.ImportFrom) or not import_.level:
             continue
         public = {name.name for name in import_.names}
-        for node in ast.parse(text_of(f"python/{PACKAGE}/{import_.module}.py")).body:
+        path = f"python/{PACKAGE}/{(import_.module or '').replace('.', '/')}.py"
+        for node in ast.parse(text_of(path)).body:
             if isinstance(node, ast.FunctionDef) and node.name in public:
                 kinds[PACKAGE][node.name] = of_function(node)
             elif isinstance(node, ast.ClassDef) and node.name in public:

@@ -28,7 +28,11 @@ sys.path[:0] = [PYTHON, os.path.join(HERE, "..", "model")]
 import histdesk
 import plain_chains
 import plain_waits
-from histdesk import Runner, _chain, _explainer, _surroundings, _text
+from histdesk import Runner
+from histdesk.explain import surroundings
+from histdesk.explain import chain as explain_chain
+from histdesk.explain import explainer as explain_explainer
+from histdesk.trace import text as trace_text
 from python_runner import main
 from why_slices import held_by_desk, noise
 from why_traces import line, switch, trace, waking
@@ -492,11 +496,11 @@ class Ends(unittest.TestCase):
         lines += [waking("b-11", 1, 1001000, "w", 12, 0), switch(0, 1001001, "swapper/0-0", "R", "w-12", task=IDLE)]
         chain = chain_of(trace(*lines), 0, 1)
         self.assertEqual((figures(chain)[1], chain.end), (("b", 1, None, 210, 1790, 50), "interrupt"))
-        with mock.patch.object(_chain, "RUNS", 20):
+        with mock.patch.object(explain_chain, "RUNS", 20):
             chain = chain_of(trace(*lines), 0, 1)
         self.assertEqual((figures(chain)[1], chain.end), (("b", 1, None, 80, 620, 20), "limit"))
         self.assertIn("its tasks ran more than 20 times", chain.remark)
-        patches = [mock.patch.object(_chain, name, size) for name, size in SMALL.items()]
+        patches = [mock.patch.object(explain_chain, name, size) for name, size in SMALL.items()]
         for patch in patches:
             patch.start()
             self.addCleanup(patch.stop)
@@ -569,14 +573,14 @@ class Sources(unittest.TestCase):
             whole = held_by_desk(text)
             chance = random.Random(seed)
             sizes = {"LEAD": chance.choice([1, 5]), "GROWTH": chance.choice([1, 2]), "CHUNK": chance.choice([4, 30])}
-            patches = [mock.patch.object(_chain, name, size) for name, size in sizes.items()]
+            patches = [mock.patch.object(explain_chain, name, size) for name, size in sizes.items()]
             patches += [
-                mock.patch.object(_text, "PIECE", chance.choice([200, 1 << 20])),
-                mock.patch.object(_surroundings, "PART", 50),
+                mock.patch.object(trace_text, "PIECE", chance.choice([200, 1 << 20])),
+                mock.patch.object(surroundings, "PART", 50),
             ]
             for patch in patches:
                 patch.start()
-            slices = _explainer.explainer_of(text)
+            slices = explain_explainer.explainer_of(text)
             for why, same in zip(slices.explain_each(slices.waits), whole.explain_each(whole.waits)):
                 beyond = chance.random() < 0.7
                 chain = why.chain(beyond=beyond)
@@ -601,7 +605,7 @@ class Folded(unittest.TestCase):
                 continue
             for beyond in (False, True):
                 chains = plain_chains.chains_of(text, beyond)
-                waits = _explainer.explainer_of(text)
+                waits = explain_explainer.explainer_of(text)
                 self.assertEqual(len(chains), len(waits.waits))
                 for why in waits.explain_each(waits.waits):
                     chain, known = why.chain(beyond=beyond), chains[why.end[:3]]
@@ -622,7 +626,7 @@ class Folded(unittest.TestCase):
             damaged, lines = plain_chains.damaged(text, seed)
             with warnings.catch_warnings():
                 warnings.simplefilter("ignore", histdesk.LossWarning)
-                waits = _explainer.explainer_of(damaged)
+                waits = explain_explainer.explainer_of(damaged)
             for why in waits.explain_each(waits.waits):
                 chain = why.chain(beyond=True, steps=8)
                 ends[chain.end] = ends.get(chain.end, 0) + 1
@@ -751,7 +755,7 @@ class ManyEvents(unittest.TestCase):
         second = ring(10_000)
         first, _, rest = second.partition(b"\n")
         text = first + b"\n" + b"".join(rest.replace(b" 1.", b" %d." % now) for now in range(1, 35))
-        explainer = _explainer.explainer_of(text)
+        explainer = explain_explainer.explainer_of(text)
         self.assertGreater(explainer.waits.held.events, 1_000_000)
         whys = list(explainer.explain_each(explainer.waits[[100_000, 200_000, 300_000]]))
         # The time of this process, however busy the machine is.

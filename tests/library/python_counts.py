@@ -33,8 +33,13 @@ from recordings import switch, text_of, waking
 
 import numpy
 
-from histdesk import _counting, _counts, _wait_records, _numbering, _text, _stream, _tally, _waits
-from histdesk._wait_records import Chosen
+from histdesk.native import numbering
+from histdesk.trace import stream, wait_records
+from histdesk.trace import text as trace_text
+from histdesk.trace.wait_records import ChosenWaits
+from histdesk.waiting import counting, tally
+from histdesk.waiting import counts as waiting_counts
+from histdesk.waiting import waits as waiting_waits
 
 BYS = ("task", "name", "cpu", "prio", "kind")
 SEEDS = range(12)
@@ -70,12 +75,12 @@ def cut(most):
     """Have so many waits taken, counted and put aside at once, and pairs joined after that many."""
     with contextlib.ExitStack() as stack:
         changes = [
-            (_stream, "CHUNK", most),
-            (_waits, "BATCH", most),
-            (_tally, "LEAST", most),
-            (_wait_records, "ASIDE", 48 * most),
+            (stream, "CHUNK", most),
+            (waiting_waits, "BATCH", most),
+            (tally, "LEAST", most),
+            (wait_records, "ASIDE", 48 * most),
         ]
-        for module, name, value in [*changes, (_text, "PIECE", 40 * most)]:
+        for module, name, value in [*changes, (trace_text, "PIECE", 40 * most)]:
             stack.enter_context(mock.patch.object(module, name, value))
         yield
 
@@ -140,8 +145,8 @@ class Plain(unittest.TestCase):
                 for by in BYS:
                     with_doubtful = chance.random() < 0.5
                     with cut(chance.choice([7, 64, 1 << 14])):
-                        found = _counting.count_waits(text, _counting.Choice(by, with_doubtful, Chosen(**choice)))
-                    self.assertIsInstance(found, _counting.CountedWaits)
+                        found = counting.count_waits(text, counting.CountBy(by, with_doubtful, ChosenWaits(**choice)))
+                    self.assertIsInstance(found, counting.CountedWaits)
                     self.check(found.counts(by, with_doubtful), some, by, with_doubtful)
                     chosen = kept.only(**choice)
                     self.assertEqual(found.table(by, with_doubtful), chosen.table(by, with_doubtful))
@@ -152,7 +157,7 @@ class Plain(unittest.TestCase):
     def test_last_names(self):
         """A task whose waits are all doubtful has the name that it had last."""
         for seed in SEEDS:
-            found = _counting.count_waits(crowded(seed), _counting.Choice("task"))
+            found = counting.count_waits(crowded(seed), counting.CountBy("task"))
             last = {wait.pid: wait.name for wait in plain_waits.waits_of(crowded(seed))}
             for row in found.table("task"):
                 if not row.count:
@@ -176,8 +181,8 @@ class Counted(unittest.TestCase):
 
     def test_other_words(self):
         with self.assertRaisesRegex(ValueError, "'comm'"):
-            _counting.count_waits(b"", _counting.Choice("comm"))
-        found = _counting.count_waits(recordings.kinds().text, _counting.Choice("task"))
+            counting.count_waits(b"", counting.CountBy("comm"))
+        found = counting.count_waits(recordings.kinds().text, counting.CountBy("task"))
         for by, with_doubtful in (("kind", False), ("task", True)):
             with self.assertRaises(ValueError):
                 found.counts(by, with_doubtful)
@@ -185,29 +190,29 @@ class Counted(unittest.TestCase):
     def test_nothing(self):
         for text in (b"", text_of([waking(0, 5, 7)])):
             for by in BYS:
-                found = _counting.count_waits(text, _counting.Choice(by))
+                found = counting.count_waits(text, counting.CountBy(by))
                 self.assertEqual((len(found), found.table(by), found.doubtful, found.likely), (0, [], 0, 0))
 
     def test_order(self):
         """If a text isn't in the order of time, a desk holds its events."""
         lines = [switch(0, 30, "a-1", "w-7"), waking(0, 20, 7), waking(0, 5, 8), switch(1, 9, "a-1", "v-8")]
-        choice = _counting.Choice("task", chosen=Chosen(cpus=[1]))
-        found = _counting.count_waits(text_of(lines), choice)
+        choice = counting.CountBy("task", chosen=ChosenWaits(cpus=[1]))
+        found = counting.count_waits(text_of(lines), choice)
         self.assertEqual([(row.pid, row.max) for row in found.table("task")], [(8, 4)])
 
     def test_full_disk(self):
         """If waits can't be put aside, the error names the folder for temporary files."""
-        aside = _wait_records.Aside(16)
+        aside = wait_records.Aside(16)
         aside._file = mock.Mock()
         aside._file.write.side_effect = OSError(errno.ENOSPC, "No space left on device")
-        with mock.patch.object(_counting, "put_aside", lambda: aside), self.assertRaises(OSError) as raised:
-            _counting.count_waits(crowded(1), _counting.Choice("task"))
+        with mock.patch.object(counting, "put_aside", lambda: aside), self.assertRaises(OSError) as raised:
+            counting.count_waits(crowded(1), counting.CountBy("task"))
         self.assertEqual((raised.exception.errno, raised.exception.filename), (errno.ENOSPC, tempfile.gettempdir()))
 
     def test_nothing_is_left(self):
         """What is put aside is in a file without a name."""
         with tempfile.TemporaryDirectory() as folder, mock.patch.object(tempfile, "tempdir", folder), cut(7):
-            _counting.count_waits(crowded(1), _counting.Choice("task"))
+            counting.count_waits(crowded(1), counting.CountBy("task"))
             self.assertEqual(os.listdir(folder), [])
 
 
@@ -219,9 +224,9 @@ class Pairs(unittest.TestCase):
         for one, other, times in zip(key, micros, count):
             wanted[one, other] += times
         arrays = [numpy.array(column, "int64") for column in (key, micros, count)]
-        columns = [column.tolist() for column in _counts.sum_pairs(*arrays)]
+        columns = [column.tolist() for column in waiting_counts.sum_pairs(*arrays)]
         self.assertEqual(list(zip(*columns)), [(*pair, times) for pair, times in sorted(wanted.items())])
-        columns = [column.tolist() for column in _counts.count_pairs(*arrays[:2])]
+        columns = [column.tolist() for column in waiting_counts.count_pairs(*arrays[:2])]
         plain = collections.Counter(zip(key, micros))
         self.assertEqual(list(zip(*columns)), [(*pair, times) for pair, times in sorted(plain.items())])
 
@@ -246,7 +251,7 @@ class Numbers(unittest.TestCase):
     """Numbers for rows of words."""
 
     def check(self, rows, words):
-        numbers, known = _numbering.Numbers(words), {}
+        numbers, known = numbering.Numbers(words), {}
         for start in range(0, len(rows), 100):
             part = rows[start : start + 100]
             wanted = [known.setdefault(tuple(row), len(known)) for row in part]
@@ -270,20 +275,18 @@ class Numbers(unittest.TestCase):
             self.check([[5] * words, [0] * words, [5] * words], words)
 
     def test_more_than_the_table_has(self):
-        with mock.patch.object(_numbering, "LEAST_BITS", 4), mock.patch.object(_numbering, "SPARE", 2):
+        with mock.patch.object(numbering, "LEAST_BITS", 4), mock.patch.object(numbering, "SPARE", 2):
             chance = random.Random(9)
             self.check([[chance.randrange(300)] for _ in range(3000)], 1)
 
     def test_one_hash(self):
         """Different rows that have the same hash."""
-        one, other = _numbering.FACTORS[:2]
+        one, other = numbering.FACTORS[:2]
         rows = [[(7 + other * step) % 2**64, (9 - one * step) % 2**64, 1, 2] for step in range(40)]
-        self.assertEqual(
-            len({sum(word * factor for word, factor in zip(row, _numbering.FACTORS)) % 2**64 for row in rows}), 1
-        )
+        self.assertEqual(len({sum(word * factor for word, factor in zip(row, numbering.FACTORS)) % 2**64 for row in rows}), 1)
         self.check(random.Random(3).choices(rows, k=900), 4)
         # And rows of one word that share a place of the table.
-        inverse = pow(_numbering.FACTORS[0], -1, 2**64)
+        inverse = pow(numbering.FACTORS[0], -1, 2**64)
         self.check([[inverse * step % 2**64] for step in range(50)] * 4, 1)
 
 

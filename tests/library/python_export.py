@@ -27,7 +27,8 @@ sys.path[:0] = [PYTHON, os.path.join(HERE, "..", "model")]
 
 import histdesk
 import plain_waits
-from histdesk import _waits_in_parts, _stream
+from histdesk.trace import stream
+from histdesk.waiting import waits_in_parts
 from python_answers import with_pandas
 from python_runner import main
 from recordings import all_known, text_of
@@ -374,14 +375,14 @@ class Waits(Tool):
         known = all_known()["lost_in_middle"]
         whole = histdesk.waits(known.text)
         for most in (1, 2, 3):
-            with mock.patch.object(_stream, "CHUNK", most):
-                parts = [*_waits_in_parts.parts_of(_waits_in_parts.waits_in_parts(known.text))]
+            with mock.patch.object(stream, "CHUNK", most):
+                parts = [*waits_in_parts.parts_of(waits_in_parts.waits_in_parts(known.text))]
                 self.assertEqual([len(part) for part in parts], [min(most, 4 - at) for at in range(0, 4, most)])
                 rows = [row.tolist() for part in parts for row in part.array]
                 self.assertEqual(rows, [row.tolist() for row in whole.array])
                 self.assertEqual([name for part in parts for name in part.names], [wait.name for wait in known.waits])
-        with mock.patch.object(_waits_in_parts, "PART", 3):
-            self.assertEqual([len(part) for part in _waits_in_parts.parts_of(whole)], [3, 1])
+        with mock.patch.object(waits_in_parts, "PART", 3):
+            self.assertEqual([len(part) for part in waits_in_parts.parts_of(whole)], [3, 1])
 
     def test_any_order(self):
         """If a text isn't in the order of time, a desk holds its events."""

@@ -26,18 +26,11 @@ sys.path[:0] = [PYTHON, os.path.join(HERE, "..", "model")]
 import histdesk
 import plain_waits
 import recordings
-from histdesk import (
-    LossWarning,
-    Refused,
-    _waits_in_parts,
-    _counting,
-    _wait_records,
-    _parallel,
-    _text,
-    _stream,
-    _time_range,
-    _waits,
-)
+from histdesk import LossWarning, Refused
+from histdesk.trace import stream, time_range, wait_records
+from histdesk.trace import text as trace_text
+from histdesk.waiting import parallel, waits, waits_in_parts
+from histdesk.waiting import counting as waiting_counting
 from python_answers import at_micros
 from python_runner import main
 from python_waits import in_time, noise, told
@@ -53,7 +46,7 @@ def waits_of(text, jobs, **words):
 
 def cut_at(*bytes_of_seams):
     """Have texts cut at these bytes."""
-    return mock.patch.object(_time_range.Halves, "seams", lambda self, count: list(bytes_of_seams))
+    return mock.patch.object(time_range.Halves, "seams", lambda self, count: list(bytes_of_seams))
 
 
 def starts_of(text):
@@ -68,7 +61,7 @@ class Counting:
         self.joined = self.again = 0
 
     def __enter__(self):
-        join, read_again = _stream.Feed.join, _parallel.read_again
+        join, read_again = stream.Feed.join, parallel.read_again
 
         def joins(feed, part, completed):
             fits = join(feed, part, completed)
@@ -79,7 +72,7 @@ class Counting:
             self.again += 1
             return read_again(*words)
 
-        self._patches = [mock.patch.object(_stream.Feed, "join", joins), mock.patch.object(_parallel, "read_again", reads)]
+        self._patches = [mock.patch.object(stream.Feed, "join", joins), mock.patch.object(parallel, "read_again", reads)]
         for patch in self._patches:
             patch.start()
         return self
@@ -104,9 +97,9 @@ class Joined(unittest.TestCase):
             for seed in range(60):
                 chance, text = random.Random(seed), in_time(noise(seed))
                 seams = sorted(chance.sample(starts_of(text), chance.randrange(1, 12)))
-                with cut_at(*seams), mock.patch.object(_text, "PIECE", chance.choice([1 << 22, 999, 64])):
-                    with mock.patch.object(_stream, "CHUNK", 16), mock.patch.object(
-                        _wait_records, "PART", chance.choice([7, 1 << 14])
+                with cut_at(*seams), mock.patch.object(trace_text, "PIECE", chance.choice([1 << 22, 999, 64])):
+                    with mock.patch.object(stream, "CHUNK", 16), mock.patch.object(
+                        wait_records, "PART", chance.choice([7, 1 << 14])
                     ):
                         found = waits_of(text, 3)
                 self.assertEqual(told(found), plain_waits.waits_of(text), seed)
@@ -157,7 +150,7 @@ class Joined(unittest.TestCase):
         """The checkpoints of all parts are those of the text, and slices are read with them."""
         for seed in range(5):
             text = recordings.simulated(seed).text
-            with mock.patch.object(_text, "PIECE", 4096):
+            with mock.patch.object(trace_text, "PIECE", 4096):
                 found, alone = waits_of(text, 4), waits_of(text, 1)
             checkpoints = found.source.checkpoints()
             self.assertGreater(len(checkpoints), 5)
@@ -173,14 +166,14 @@ class Joined(unittest.TestCase):
         for seed in range(20):
             text = recordings.simulated(seed, holes=seed % 3).text
             for by in ("task", "name", "cpu", "prio", "kind"):
-                choice = _counting.Choice(by, seed % 2 == 0)
-                one, many = (_counting.count_waits(text, choice, _waits.ReadOptions(jobs=jobs)) for jobs in (1, 5))
+                choice = waiting_counting.CountBy(by, seed % 2 == 0)
+                one, many = (waiting_counting.count_waits(text, choice, waits.ReadOptions(jobs=jobs)) for jobs in (1, 5))
                 self.assertEqual(many.table(by, seed % 2 == 0), one.table(by, seed % 2 == 0))
                 self.assertEqual((many.lines(seed % 2 == 0), len(many)), (one.lines(seed % 2 == 0), len(one)))
-            one, many = (_waits_in_parts.waits_in_parts(text, _waits.ReadOptions(jobs=jobs)) for jobs in (1, 5))
+            one, many = (waits_in_parts.waits_in_parts(text, waits.ReadOptions(jobs=jobs)) for jobs in (1, 5))
             for _ in range(2):
                 self.assertEqual(
-                    *([wait for part in _waits_in_parts.parts_of(each) for wait in told(part)] for each in (many, one))
+                    *([wait for part in waits_in_parts.parts_of(each) for wait in told(part)] for each in (many, one))
                 )
 
 
@@ -199,7 +192,7 @@ def plain_checkpoint(text, at):
     for found in filter(None, map(plain_waits.LINE.fullmatch, plain_waits.lines_of(text[:at]))):
         last = int(found["s"]) * 1000000 + int(found["us"])
         events[int(found["cpu"])] = events.get(int(found["cpu"]), 0) + 1
-    return _stream.Checkpoint(at, last, events)
+    return stream.Checkpoint(at, last, events)
 
 
 class Refusals(unittest.TestCase):
@@ -243,11 +236,11 @@ class Refusals(unittest.TestCase):
                         call(trace, jobs=jobs)
         with self.assertRaisesRegex(ValueError, "in 1 to 512 parts at once"):
             histdesk.AskWaits(jobs=0)
-        text = _text.text_again(b"x" * 100)
-        with mock.patch.object(_parallel, "LARGE", 99), mock.patch.object(os, "sched_getaffinity", lambda _: range(30)):
-            found = [_parallel.jobs_for(*words) for words in ((text, None), (text, 2), (None, 2))]
+        text = trace_text.text_again(b"x" * 100)
+        with mock.patch.object(parallel, "LARGE", 99), mock.patch.object(os, "sched_getaffinity", lambda _: range(30)):
+            found = [parallel.jobs_for(*words) for words in ((text, None), (text, 2), (None, 2))]
         self.assertEqual(found, [16, 2, 1])
-        self.assertEqual(_parallel.jobs_for(text, None), 1)
+        self.assertEqual(parallel.jobs_for(text, None), 1)
 
     def test_failing(self):
         """If the file of a part can't be read, all ends, and what was seen is no answer."""
@@ -255,14 +248,14 @@ class Refusals(unittest.TestCase):
         with tempfile.NamedTemporaryFile() as file:
             file.write(text)
             file.flush()
-            pieces = _text.FileText.pieces
+            pieces = trace_text.FileText.pieces
 
             def failing(self, at=0, end=None):
                 if at:
                     raise OSError("gone")
                 return pieces(self, at, end)
 
-            with mock.patch.object(_text.FileText, "pieces", failing), self.assertRaisesRegex(OSError, "gone"):
+            with mock.patch.object(trace_text.FileText, "pieces", failing), self.assertRaisesRegex(OSError, "gone"):
                 waits_of(file.name, 3)
             self.assertEqual(told(waits_of(file.name, 3)), plain_waits.waits_of(text))
 

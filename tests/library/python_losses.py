@@ -23,12 +23,15 @@ PYTHON = os.path.realpath(os.path.join(HERE, "..", "..", "python"))
 sys.path.insert(0, PYTHON)
 
 import histdesk
-from histdesk import Hole, Lane, LossWarning, Part, _event_lines, _lines, _recording, _schema
+from histdesk import Hole, Lane, LossWarning, Part, _schema
+from histdesk.desk import recording as desk_recording
+from histdesk.trace import event_lines
+from histdesk.trace import lines as trace_lines
 from python_answers import at_micros, numpy
 from python_runner import main
 
 if numpy:
-    from histdesk import _selection
+    from histdesk.desk import selection
 
 WAKING = "sim-1 [{cpu:03}] d.h.. {stamp}: sched_waking: comm=w pid={pid} prio=120 target_cpu=000\n"
 SWITCH = (
@@ -261,7 +264,7 @@ class Parts(unittest.TestCase):
     def test_more_than_a_desk_holds(self):
         # The desk's real limit is tested elsewhere; here a desk holds ten events. Each stamp has two events.
         text = "".join(waking(0, f"1.{at // 2:06}") for at in range(15))
-        with mock.patch.object(_selection, "LIMIT", 10), mock.patch.object(_recording, "LIMIT", 10):
+        with mock.patch.object(selection, "LIMIT", 10), mock.patch.object(desk_recording, "LIMIT", 10):
             recording = self.part(text)
             self.assertEqual(recording.taken, Part(10, 1000000, 1000004, 1000005))
             self.assertEqual(self.part(text, start=at_micros(1000005)).taken, Part(5, 1000005, 1000007, None))
@@ -271,7 +274,7 @@ class Parts(unittest.TestCase):
             with self.assertRaisesRegex(ValueError, "have one stamp"):
                 self.part(waking(0, "1.000000") * 11)
         self.assertEqual(histdesk.Desk().load(recording), 10)
-        self.assertEqual(_recording.LIMIT, 1048576)
+        self.assertEqual(desk_recording.LIMIT, 1048576)
 
     def test_one_of_several(self):
         """One CPU or one name is taken as a list of it; a CPU is a number."""
@@ -330,7 +333,7 @@ class Lines(unittest.TestCase):
     """What the lines of a text are, before it is loaded."""
 
     def told(self, text):
-        lines = _lines.lines_in(text.encode())
+        lines = trace_lines.lines_in(text.encode())
         names = [_schema.EVENT_NAMES[name] for name in lines.names]
         events = zip(lines.cpus.tolist(), lines.stamps.tolist(), names, lines.bad.tolist())
         return lines.ends.tolist(), [BAD if bad else None if event[0] < 0 else tuple(event) for *event, bad in events]
@@ -345,7 +348,7 @@ class Lines(unittest.TestCase):
         lines, generator = list(LINES), random.Random(1)
         for room in (1, 100, 1 << 20):
             text = [generator.choice(lines) for _ in range(2000)]
-            with mock.patch.object(_lines, "ROOM", room):
+            with mock.patch.object(trace_lines, "BYTES_AT_ONCE", room):
                 ends, events = self.told("".join(line + "\n" for line in text))
             self.assertEqual(events, [LINES[line] for line in text])
             self.assertEqual(ends, list(itertools.accumulate(len(line) + 1 for line in text)))
@@ -355,11 +358,11 @@ class Lines(unittest.TestCase):
         lines, generator = list(LINES), random.Random(2)
         for room in (1, 100, 1 << 20):
             text = [generator.choice(lines) for _ in range(300)]
-            with mock.patch.object(_lines, "ROOM", room):
-                bad = _lines.bad_lines("".join(line + "\n" for line in text).encode())
+            with mock.patch.object(trace_lines, "BYTES_AT_ONCE", room):
+                bad = trace_lines.bad_lines("".join(line + "\n" for line in text).encode())
             self.assertEqual(bad, [number for number, line in enumerate(text, 1) if LINES[line] == BAD])
         for line, event in LINES.items():
-            self.assertEqual(_event_lines.holds_event(line.encode()), event not in (None, BAD))
+            self.assertEqual(event_lines.holds_event(line.encode()), event not in (None, BAD))
 
 
 TOOL = """

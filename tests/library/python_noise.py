@@ -34,7 +34,7 @@ import numpy
 import histdesk
 import plain_waits
 import recordings
-from histdesk import _noise
+from histdesk.compare import permutation
 from python_runner import main
 from recordings import switch, text_of, waking
 
@@ -99,8 +99,8 @@ def enumerated(columns, size):
 
 def p_values(columns, size):
     """The same, by the package."""
-    splits = _noise.Splits(size, len(columns[0]) - size)
-    return _noise.p_values(numpy.array(columns, "float64").T, splits).tolist()
+    splits = permutation.Splits(size, len(columns[0]) - size)
+    return permutation.p_values(numpy.array(columns, "float64").T, splits).tolist()
 
 
 def figures_of(waits, length):
@@ -202,7 +202,7 @@ class Test(Case):
         chance = random.Random(5)
         for shift in (0, 1, 2):
             column = [chance.gauss(0, 1) + shift * (at >= 9) for at in range(18)]
-            splits = _noise.Splits(9, 9)
+            splits = permutation.Splits(9, 9)
             self.assertEqual((splits.count, splits.is_exact, splits.trials), (48620, False, 10000))
             [p], [again] = p_values([column], 9), p_values([column], 9)
             self.assertEqual(p, again)
@@ -218,21 +218,21 @@ class Test(Case):
         # The least p by hand: 2 of 6, 1 of 10, 2 of 20, 1 of 21, 1 of 35, 2 of 70 and 2 of 252.
         least = {(2, 2): 2 / 6, (2, 3): 1 / 10, (3, 3): 2 / 20, (2, 5): 1 / 21, (3, 4): 1 / 35, (4, 4): 2 / 70, (5, 5): 2 / 252}
         for sizes, share in {**least, (1, 1): 1.0, (1, 19): 1 / 20, (0, 5): 1.0}.items():
-            splits = _noise.Splits(*sizes)
+            splits = permutation.Splits(*sizes)
             self.assertAlmostEqual(splits.least, share)
             self.assertEqual(splits.can_tell, share <= 0.05)
-        self.assertEqual(_noise.enough_recordings(), 4)
+        self.assertEqual(permutation.enough_recordings(), 4)
 
     def test_chance_of_a_false_report(self):
         """Of 300 tables without a change, at most about one in 20 has a figure that is reported, though each has 40. A change
         of one figure of 40 is found in nearly all."""
         draw = numpy.random.default_rng(7)
-        splits, false, found = _noise.Splits(5, 5), 0, 0
+        splits, false, found = permutation.Splits(5, 5), 0, 0
         for _ in range(300):
             values = draw.lognormal(0, 0.1, (10, 40))
-            false += _noise.p_values(values, splits).min() <= _noise.LEVEL
+            false += permutation.p_values(values, splits).min() <= permutation.LEVEL
             values[5:, 3] *= 1.8
-            found += _noise.p_values(values, splits)[3] <= _noise.LEVEL
+            found += permutation.p_values(values, splits)[3] <= permutation.LEVEL
         # 15 are expected, with a standard deviation of 3.8.
         self.assertLessEqual(false, 30)
         self.assertGreater(found, 290)
@@ -245,15 +245,15 @@ class Test(Case):
             rows.append(self.row("slow", [chance.gauss(1000 if at < 5 else 1300, 40) for at in range(10)]))
             rare = (chance.sample([0] * 5 + [10] * 5, 10) for _ in range(300))
             rows += [self.row(f"rare{at}", values) for at, values in enumerate(rare)]
-            tested = _noise.test_rows(rows, _noise.Splits(5, 5))
+            tested = permutation.test_rows(rows, permutation.Splits(5, 5))
             self.assertEqual([at for at, row in enumerate(tested) if row.waited.p is not None], list(range(9)))
             found += "waited" in tested[8].beyond()
         self.assertGreaterEqual(found, 15)
 
     def row(self, name, values):
         """A row in which all figures are the same."""
-        figure = _noise.FigureComparison(_noise.Spread(tuple(values[:5])), _noise.Spread(tuple(values[5:])))
-        return _noise.row_of((name, "woken"), [figure] * 5, sum(map(bool, values)))
+        figure = permutation.FigureComparison(permutation.Spread(tuple(values[:5])), permutation.Spread(tuple(values[5:])))
+        return permutation.comparison_row_of((name, "woken"), [figure] * 5, sum(map(bool, values)))
 
 
 class Several(Case):

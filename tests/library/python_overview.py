@@ -26,8 +26,9 @@ import histdesk
 import plain_timeline
 import plain_waits
 import recordings
-from histdesk import _recording, _waits
+from histdesk.desk import recording
 from histdesk.view import model
+from histdesk.waiting import waits as waiting_waits
 from python_runner import main
 from recordings import switch, text_of
 
@@ -37,7 +38,7 @@ def side_of(text):
     with warnings.catch_warnings():
         warnings.simplefilter("ignore", histdesk.LossWarning)
         waits = histdesk.waits(text)
-        return model.Side(waits if waits.source else _recording.read(text, spare=_waits.SPARE))
+        return model.Side(waits if waits.source else recording.read(text, spare=waiting_waits.SPARE))
 
 
 def waking(cpu, micros, pid, runs="<idle>-0", name="w", event="sched_waking"):
@@ -190,7 +191,7 @@ class Reckoned(unittest.TestCase):
     def test_in_small_pieces(self):
         """However a text is cut into pieces, the runs are the same."""
         for seed, piece in ((1, 300), (2, 1000), (3, 5000)):
-            with unittest.mock.patch("histdesk._text.PIECE", piece):
+            with unittest.mock.patch("histdesk.trace.text.PIECE", piece):
                 self.hold(simulated(seed, holes=3), seed)
 
     def test_any_order(self):
@@ -401,7 +402,7 @@ class Windows(unittest.TestCase):
         """Lines are those of the whole recording, if only some events of it were read."""
         with warnings.catch_warnings():
             warnings.simplefilter("ignore", histdesk.LossWarning)
-            chosen = _recording.read(text_of(BY_HAND), spare=_waits.SPARE, events=["sched_switch"])
+            chosen = recording.read(text_of(BY_HAND), spare=waiting_waits.SPARE, events=["sched_switch"])
         runs = decoded(model.Side(chosen).overview.window(1000, 1400, 400))["runs"]
         self.assertIn((0, 300, 400, (7, "c"), 3), runs)
 

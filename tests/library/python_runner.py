@@ -4,7 +4,7 @@ import os
 import sys
 
 
-def main():
+def main() -> int:
     """Run the tests of the program. Arguments are names of tests, `CLASS` or `CLASS.TEST`, or options of pytest.
 
     Returns

@@ -137,7 +137,7 @@ class Planted(unittest.TestCase):
             "cli__summary": planted(err='b""'),
             "cli__export": planted(status="3"),
             "cli__why": planted(out="1 / 0"),
-            "_writers": "\n\ndef escaped(text):\n    return text\n",
+            "export__csv": "\n\ndef escaped(text):\n    return text\n",
         }
         lists = self.lists()
         with open(lists / "meant.txt", "a", encoding="utf-8") as file:

@@ -27,7 +27,11 @@ sys.path[:0] = [PYTHON, os.path.join(HERE, "..", "model")]
 import histdesk
 import plain_waits
 import recordings
-from histdesk import LossWarning, Part, Refused, _selection, _text, _recording, _slices, _time_range
+from histdesk import LossWarning, Part, Refused
+from histdesk.desk import selection, slices
+from histdesk.desk import recording as desk_recording
+from histdesk.trace import time_range
+from histdesk.trace import text as trace_text
 from python_answers import at_micros
 from python_runner import main
 from python_waits import Dripping, in_time, noise, told, tracing
@@ -141,10 +145,10 @@ class Folder(unittest.TestCase):
     def small_parts(self):
         """Have little read at once, so that short texts have many parts."""
         for module, name, value in (
-            (_text, "PIECE", 700),
-            (_time_range, "ROOM", 128),
-            (_text, "KEPT", 1000),
-            (_text, "RESTART", 2000),
+            (trace_text, "PIECE", 700),
+            (time_range, "ROOM", 128),
+            (trace_text, "KEPT", 1000),
+            (trace_text, "RESTART", 2000),
         ):
             patch = mock.patch.object(module, name, value)
             patch.start()
@@ -227,7 +231,7 @@ class Stretches(Folder):
         for mark, known in [("##### CPU 3 buffer started ####\n", 2), ("", None)]:
             late = [mark + waking(3, 5000000, 9), "# CPU 3: 2 events overwritten"] if known else [waking(3, 5000000, 9)]
             path = self.file(text_of([*lines, *late], in_buffer=4001, lost=2))
-            with mock.patch.object(_time_range, "NEAR", 1000):
+            with mock.patch.object(time_range, "NEAR", 1000):
                 recording = quiet(histdesk.read, path, start=at_micros(1000000), until=at_micros(2000000))
                 self.assertEqual(recording.holes, (histdesk.Hole(3, None, 5000000, known),))
                 self.assertIn("2 of 4003 events were overwritten", recording.warning)
@@ -279,7 +283,7 @@ class Stretches(Folder):
         """A slice costs a few reads of some kilobytes, wherever it is."""
         text = text_of([waking(at % 4, 100 * at, 7) for at in range(60000)])
         path = self.file(text)
-        real, read = _text.FileText.pieces, []
+        real, read = trace_text.FileText.pieces, []
         for start in (0, 100, 3000000, 5999000):
 
             def seen(self, at=0, end=None, real=real):
@@ -288,7 +292,7 @@ class Stretches(Folder):
                     yield piece
 
             del read[:]
-            with mock.patch.object(_text.FileText, "pieces", seen), mock.patch.object(_time_range, "NEAR", 4096):
+            with mock.patch.object(trace_text.FileText, "pieces", seen), mock.patch.object(time_range, "NEAR", 4096):
                 recording = histdesk.read(path, start=at_micros(start), until=at_micros(start + 1000))
             self.assertEqual(recording.taken.events, 10)
             self.assertLess(sum(read), 200000)
@@ -393,7 +397,7 @@ class Sources(Folder):
                 path = os.path.join(self.folder, "pipe")
                 os.mkfifo(path)
                 writer = ["sh", "-c", 'cat "$1" >"$2"', "-", self.file(text), path]
-                with subprocess.Popen(writer), mock.patch.object(_text, "KEPT", kept):
+                with subprocess.Popen(writer), mock.patch.object(trace_text, "KEPT", kept):
                     recording = quiet(call, path)
                 os.unlink(path)
                 self.assertEqual(held_quietly(recording), places(events))
@@ -417,7 +421,7 @@ class Sources(Folder):
     def test_more_than_a_desk_holds(self):
         text = text_of([waking(0, at, 7) for at in range(100)])
         source = histdesk.waits(text).source
-        with mock.patch.object(_selection, "LIMIT", 10):
+        with mock.patch.object(selection, "LIMIT", 10):
             recording = source.between(at_micros(20), at_micros(90), 5)
             self.assertEqual((recording.taken, recording.is_part), (Part(10, 15, 24, 25), True))
         self.assertEqual(held(recording), [(at, 0, at + 1) for at in range(15, 25)])
@@ -450,7 +454,7 @@ class Long(Folder):
     def setUp(self):
         super().setUp()
         self.small_parts()
-        patch = mock.patch.object(_text, "LONG", 2000)
+        patch = mock.patch.object(trace_text, "LONG", 2000)
         patch.start()
         self.addCleanup(patch.stop)
 
@@ -461,7 +465,7 @@ class Long(Folder):
                 warnings.simplefilter("always")
                 recording = histdesk.read(path)
                 self.assertEqual((warned, repr(recording)), ([], f"<histdesk.Recording of {path}; not read yet>"))
-                with mock.patch.object(_slices.Slice, "read_into", side_effect=AssertionError):
+                with mock.patch.object(slices.Slice, "read_into", side_effect=AssertionError):
                     found = histdesk.waits(recording)
                 histdesk.waits(recording)
             self.assertEqual([str(one.message) for one in warned], [found.warning])
@@ -480,7 +484,7 @@ class Long(Folder):
         for text in texts():
             path, spare = self.file(text), ("sched_wakeup", "other")
             for choice in ({}, {"spare": spare}, {"events": ["sched_switch", "other"]}, {"cpus": [0, 2], "spare": spare}):
-                with mock.patch.object(_selection, "LIMIT", 100), mock.patch.object(_recording, "LIMIT", 100):
+                with mock.patch.object(selection, "LIMIT", 100), mock.patch.object(desk_recording, "LIMIT", 100):
                     recording, same = (quiet(histdesk.read, trace, **choice) for trace in (path, text))
                     self.assertEqual((recording.taken, recording.is_part), (same.taken, same.is_part))
                     self.assertEqual(held_quietly(recording), held_quietly(same))
@@ -506,7 +510,7 @@ class Long(Folder):
         self.assertEqual(told(quiet(histdesk.waits, histdesk.read(self.file(text)))), plain_waits.waits_of(text))
         late = in_time(text) + text_of([waking(0, 1001, 7)])
         for content in (text, late, gzip.compress(text)):
-            with mock.patch.object(_selection, "LIMIT", 100), mock.patch.object(_recording, "LIMIT", 100):
+            with mock.patch.object(selection, "LIMIT", 100), mock.patch.object(desk_recording, "LIMIT", 100):
                 recording, same = quiet(histdesk.read, self.file(content)), quiet(histdesk.read, content)
                 self.assertEqual((held_quietly(recording), recording.taken), (held_quietly(same), same.taken))
 

@@ -33,7 +33,8 @@ import histdesk
 import plain_sums
 import plain_waits
 import recordings
-from histdesk import LossWarning, Refused, _summary
+from histdesk import LossWarning, Refused
+from histdesk.waiting import summary
 from python_answers import at_micros, with_pandas
 from python_runner import main
 from recordings import line, switch, text_of, waking
@@ -239,10 +240,10 @@ class Answers(unittest.TestCase):
         text = text_of(lines)
         # Where the first line begins.
         front = text.index(b"<idle>-0") - 15
-        with mock.patch.object(_summary, "EDGE", front + 50):
+        with mock.patch.object(summary, "EDGE", front + 50):
             rows = {row.pid: row.task for row in histdesk.summary(text).tasks}
         self.assertEqual((rows[3], rows[4]), (":3", "last"))
-        with mock.patch.object(_summary, "EDGE", front + 500):
+        with mock.patch.object(summary, "EDGE", front + 500):
             rows = {row.pid: row.task for row in histdesk.summary(text).tasks}
         self.assertEqual((rows[3], rows[4], rows[5]), ("first", "last", "x"))
 
@@ -272,7 +273,7 @@ class Orders(unittest.TestCase):
     def test_each_column(self):
         answer = summary_of(recordings.kinds().text)
         for by in ("task", "name", "cpu"):
-            for column in _summary.orders_of(by):
+            for column in summary.orders_of(by):
                 rows = answer.table(by, column)
                 values = [row.end_stamp if column == "at" else getattr(row, column) for row in rows]
                 present = [value for value in values if value is not None]

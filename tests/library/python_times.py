@@ -23,7 +23,8 @@ sys.path[:0] = [os.path.realpath(os.path.join(HERE, "..", "..", "python")), os.p
 
 import histdesk
 import recordings
-from histdesk import Stamp, _times
+from histdesk import Stamp
+from histdesk.trace import times
 from python_answers import numpy, pandas, with_pandas, with_waits
 from python_runner import main
 from recordings import line, switch, text_of, waking
@@ -59,41 +60,41 @@ def stamps(recording):
 class Forms(unittest.TestCase):
     def test_same(self):
         for time in SAME:
-            self.assertEqual(_times.micros_of(time, "start"), 2217600000, repr(time))
-        self.assertEqual((_times.micros_of(2218, "start"), _times.micros_of(None, "start")), (2218000000, None))
+            self.assertEqual(times.micros_of(time, "start"), 2217600000, repr(time))
+        self.assertEqual((times.micros_of(2218, "start"), times.micros_of(None, "start")), (2218000000, None))
 
     def test_rounded(self):
         """Times are rounded to the nearest microsecond, since a float may not be exactly one."""
         for micros in (1, 6012001092, 4294967295999999, 123456789012345):
-            self.assertEqual(_times.micros_of(micros / 1e6, "start"), micros)
-            self.assertEqual(_times.micros_of(recordings.stamp(micros), "start"), micros)
-        self.assertEqual(_times.micros_of(decimal.Decimal("1.0000006"), "start"), 1000001)
+            self.assertEqual(times.micros_of(micros / 1e6, "start"), micros)
+            self.assertEqual(times.micros_of(recordings.stamp(micros), "start"), micros)
+        self.assertEqual(times.micros_of(decimal.Decimal("1.0000006"), "start"), 1000001)
 
     def test_of_numpy(self):
         forms = [numpy.float64(2217.6), numpy.timedelta64(2217600, "ms"), numpy.timedelta64(2217600000, "us")]
         forms.append(numpy.timedelta64(2217600000000, "ns"))
         for time in forms:
-            self.assertEqual(_times.micros_of(time, "start"), 2217600000, repr(time))
-        self.assertEqual(_times.micros_of(numpy.int64(2218), "start"), 2218000000)
-        self.assertEqual(_times.micros_of(numpy.timedelta64(1600, "ns"), "start"), 2)
+            self.assertEqual(times.micros_of(time, "start"), 2217600000, repr(time))
+        self.assertEqual(times.micros_of(numpy.int64(2218), "start"), 2218000000)
+        self.assertEqual(times.micros_of(numpy.timedelta64(1600, "ns"), "start"), 2)
         for time in (numpy.timedelta64("NaT"), numpy.timedelta64(5)):
             with self.assertRaises(ValueError):
-                _times.micros_of(time, "start")
+                times.micros_of(time, "start")
 
     @with_pandas
     def test_of_pandas(self):
-        self.assertEqual(_times.micros_of(pandas.Timedelta("2217.6s"), "start"), 2217600000)
-        self.assertEqual(_times.micros_of(pandas.Timedelta(1600, "ns"), "start"), 2)
+        self.assertEqual(times.micros_of(pandas.Timedelta("2217.6s"), "start"), 2217600000)
+        self.assertEqual(times.micros_of(pandas.Timedelta(1600, "ns"), "start"), 2)
         with self.assertRaises(TypeError):
-            _times.micros_of(pandas.NaT, "start")
+            times.micros_of(pandas.NaT, "start")
 
     def test_wrong(self):
         for time in NO_TIME:
             with self.assertRaisesRegex(TypeError, "until is a number of seconds"):
-                _times.micros_of(time, "until")
+                times.micros_of(time, "until")
         for time in NO_STAMP:
             with self.assertRaisesRegex(ValueError, "until=.* is no timestamp"):
-                _times.micros_of(time, "until")
+                times.micros_of(time, "until")
 
 
 class Stamps(unittest.TestCase):

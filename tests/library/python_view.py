@@ -35,10 +35,12 @@ import copies
 import histdesk
 import plain_waits
 import recordings
-from histdesk import _recording, _schema, _waits
-from histdesk._stretches import Stretch, stretches_of
+from histdesk import _schema
+from histdesk.desk import recording as desk_recording
+from histdesk.explain.stretches import Stretch, stretches_of
 from histdesk.view import model, server, sources
 from histdesk.view.thinning import thin
+from histdesk.waiting import waits as waiting_waits
 from python_answers import at_micros
 from python_runner import main
 from recordings import Place, switch, text_of, waking
@@ -75,7 +77,7 @@ def recording_of(text, **choice):
     """A text as the package has read it, without warnings."""
     with warnings.catch_warnings():
         warnings.simplefilter("ignore", histdesk.LossWarning)
-        return _recording.read(text, spare=_waits.SPARE, **choice)
+        return desk_recording.read(text, spare=waiting_waits.SPARE, **choice)
 
 
 def waits_quietly(trace):
@@ -223,7 +225,7 @@ class Shown(unittest.TestCase):
         known = recordings.odd_names()
         tasks = view_of(known.text).about()["recordings"][0]["tasks"]
         self.assertLessEqual({wait.name for wait in known.waits}, set(tasks))
-        sent = json.loads(server.json_of(tasks).content.decode("ascii"))
+        sent = json.loads(server.json_response(tasks).content.decode("ascii"))
         self.assertEqual(sent, tasks)
 
     def test_nothing(self):
@@ -314,7 +316,7 @@ class Shown(unittest.TestCase):
         told = view.wait(0, (first.end.cpu, first.end.line))
         self.assertEqual((told["begin"], told["end"]), (first.begin.stamp, first.end.stamp))
         self.assertGreaterEqual(told["from"], start)
-        self.assertIn("part of one", view.script(0, model.Asked("sched_waking", "", "hist:keys=pid"), [])["refused"])
+        self.assertIn("part of one", view.script(0, model.AskedTrigger("sched_waking", "", "hist:keys=pid"), [])["refused"])
 
     def test_chosen_events(self):
         """If events are chosen by name, a desk holds as many as it has room for; lines are those of the whole recording."""
@@ -331,7 +333,7 @@ class Shown(unittest.TestCase):
         marks = [(mark["what"], mark["cpu"], mark["stamp"]) for mark in view.wait(0, (1, 9))["marks"]]
         self.assertEqual(marks, [("woken", 0, 1800), ("ran", 1, 1809)])
         self.assertEqual(view.filter(0, "sched_switch", "next_pid == 7")["count"], 10)
-        self.assertIn("part of one", view.script(0, model.Asked("sched_waking", "", "hist:keys=pid"), [])["refused"])
+        self.assertIn("part of one", view.script(0, model.AskedTrigger("sched_waking", "", "hist:keys=pid"), [])["refused"])
 
     def test_any_order(self):
         """If a recording isn't in the order of time, a desk holds its events."""
@@ -721,7 +723,7 @@ class Strikes(unittest.TestCase):
             lambda view, strikes: view.filter(0, "sched_switch", "next_pid & 1", strikes),
             lambda view, strikes: view.trigger(0, "sched_waking", "hist:keys=pid", strikes),
             lambda view, strikes: view.wait(0, (wait.end.cpu, wait.end.line), strikes=strikes),
-            lambda view, strikes: view.script(0, model.Asked("sched_waking", "", "hist:keys=pid"), strikes),
+            lambda view, strikes: view.script(0, model.AskedTrigger("sched_waking", "", "hist:keys=pid"), strikes),
         )
         pairs = [(at, ask) for at in range(len(lists)) for ask in range(len(asks))]
         wanted = {(at, ask): asks[ask](view_of(text), lists[at]) for at, ask in pairs}
@@ -761,7 +763,7 @@ class Strikes(unittest.TestCase):
                 lambda: view.filter(0, "sched_waking", "pid < 110", strikes),
                 lambda: view.trigger(0, "sched_waking", "hist:keys=pid", strikes),
                 lambda: view.wait(0, (0, 1), strikes=strikes),
-                lambda: view.script(0, model.Asked("sched_waking", "", ""), strikes),
+                lambda: view.script(0, model.AskedTrigger("sched_waking", "", ""), strikes),
             ):
                 if len(strikes) > 1:
                     self.assertEqual(ask(), wanted)
@@ -937,7 +939,7 @@ class Long(unittest.TestCase):
         stamp = re.search(rb" ([0-9]+\.[0-9]+): ", lines[-1])[1].decode()
         self.assertEqual(answer["of"], f"the first {DESK:,} events, to {stamp}")
         self.assertEqual(answer["totals"]["hits"], sum(b": sched_waking: " in line for line in lines))
-        answer = self.view.script(0, model.Asked("sched_waking", "", "hist:keys=pid"), [])
+        answer = self.view.script(0, model.AskedTrigger("sched_waking", "", "hist:keys=pid"), [])
         self.assertEqual(answer["command"], f"./histdesk view.script <(head -n {DESK} {self.path})")
         self.assertEqual(answer["of"], f"the first {DESK:,} events, to {stamp}")
 
@@ -964,7 +966,7 @@ class Scripts(unittest.TestCase):
         strikes = [("sched_waking", "pid < 60"), ("sched_switch", 'prev_state == "D"')]
         for event, trigger in Triggers.TRIGGERS:
             text, _, condition = trigger.partition(" if ")
-            _, printed = self.tables(view, path, model.Asked(event, condition, f" {text} "), strikes)
+            _, printed = self.tables(view, path, model.AskedTrigger(event, condition, f" {text} "), strikes)
             table = view.trigger(0, event, trigger, strikes)
             self.assertEqual((shown(table), tuple(table["totals"].values())), printed)
 
@@ -982,7 +984,7 @@ class Scripts(unittest.TestCase):
             ("sched_wakeup_new", "pid < 1"): rb"none",
         }
         for (event, condition), pattern in filters.items():
-            found = self.tables(view, path, model.Asked(event, condition, ""), [])
+            found = self.tables(view, path, model.AskedTrigger(event, condition, ""), [])
             kind, places = "new" if "new" in event else "woken", places_of(text, pattern)
             end = "end" if event == "sched_switch" else "begin"
             waits = [wait for wait in plain_waits.waits_of(text) if wait.kind == kind and getattr(wait, end) in places]
@@ -993,7 +995,7 @@ class Scripts(unittest.TestCase):
             )
             self.assertEqual((found[0][1][:2], len(found)), ((len(waits), len(wanted)), 1))
         struck = [("sched_waking", "common_pid == 24659")]
-        rows, _ = self.tables(view, path, model.Asked("sched_switch", "", ""), struck)[0]
+        rows, _ = self.tables(view, path, model.AskedTrigger("sched_switch", "", ""), struck)[0]
         # Recipe 11 of docs/GUIDE.md has this row.
         self.assertIn(["24651", "7", "271"], rows)
 
@@ -1003,24 +1005,24 @@ class Scripts(unittest.TestCase):
         path = os.path.join(EXAMPLES, "wakeups.trace")
         for name in ("begin", "begin0"):
             trigger = f"hist:keys=pid:{name}=common_timestamp.usecs"
-            self.assertEqual(len(self.tables(view_of(path), path, model.Asked("sched_waking", "", trigger), [])), 2)
+            self.assertEqual(len(self.tables(view_of(path), path, model.AskedTrigger("sched_waking", "", trigger), [])), 2)
 
     def test_commands(self):
         with tempfile.TemporaryDirectory() as folder:
             path = os.path.join(folder, "my trace.gz")
             with gzip.open(path, "wb") as file:
                 file.write(example("wakeups.trace"))
-            answer = view_of(path).script(0, model.Asked("sched_waking", "", "hist:keys=pid"), [])
+            answer = view_of(path).script(0, model.AskedTrigger("sched_waking", "", "hist:keys=pid"), [])
             self.assertEqual(answer["command"], f"./histdesk view.script <(zcat {shlex.quote(path)})")
             self.assertTrue(answer["script"].endswith("\n# the trigger\nattach sched_waking hist:keys=pid\nhist 4\ntotals 4\n"))
-        answer = view_of(example("wakeups.trace")).script(0, model.Asked("sched_waking", "", ""), [])
+        answer = view_of(example("wakeups.trace")).script(0, model.AskedTrigger("sched_waking", "", ""), [])
         self.assertEqual(answer["command"], "./histdesk view.script TRACE")
 
     def test_refused(self):
         view = view_of(example("wakeups.trace"))
-        asked = model.Asked("sched_waking", "pid\n> 1", "hist:keys=pid")
+        asked = model.AskedTrigger("sched_waking", "pid\n> 1", "hist:keys=pid")
         self.assertEqual(view.script(0, asked, [])["refused"], "a line of a script holds no line break")
-        asked = model.Asked("sched_waking", "", "")
+        asked = model.AskedTrigger("sched_waking", "", "")
         self.assertIn("the filter can't be read", view.script(0, asked, [("sched_waking", "pid >")])["refused"])
         with warnings.catch_warnings():
             warnings.simplefilter("ignore")

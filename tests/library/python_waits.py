@@ -36,7 +36,13 @@ import numpy
 import histdesk
 import plain_waits
 import recordings
-from histdesk import Counts, LossWarning, Refused, _selection, _text, _recording, _stream, _wait_answer, _waits
+from histdesk import Counts, LossWarning, Refused
+from histdesk.desk import selection
+from histdesk.desk import recording as desk_recording
+from histdesk.trace import stream
+from histdesk.trace import text as trace_text
+from histdesk.waiting import wait_answer
+from histdesk.waiting import waits as waiting_waits
 from python_answers import at_micros, with_pandas
 from python_runner import main
 from recordings import Known, Place, Wait, switch, text_of, waking
@@ -182,7 +188,7 @@ class Waits(unittest.TestCase):
             found = histdesk.waits(text)
         self.assertEqual([(one.category, str(one.message)) for one in warned], [(LossWarning, found.warning)])
         self.assertEqual(warned[0].filename, __file__)
-        recording = _recording.read
+        recording = desk_recording.read
         with warnings.catch_warnings(record=True) as warned:
             warnings.simplefilter("always")
             histdesk.waits(recording(text))
@@ -207,12 +213,12 @@ class Parts(unittest.TestCase):
 
     def test_more_than_a_desk_holds(self):
         known = recordings.kinds()
-        with mock.patch.object(_selection, "LIMIT", 20), mock.patch.object(_recording, "LIMIT", 20):
+        with mock.patch.object(selection, "LIMIT", 20), mock.patch.object(desk_recording, "LIMIT", 20):
             found = waits_of(known.text)
         # A trace is read as a whole, however many events it has.
         self.assertEqual((found.held.events, told(found)), (29, list(known.waits)))
-        with mock.patch.object(_selection, "LIMIT", 20), mock.patch.object(_recording, "LIMIT", 20):
-            recording = histdesk.read(known.text, spare=_waits.SPARE)
+        with mock.patch.object(selection, "LIMIT", 20), mock.patch.object(desk_recording, "LIMIT", 20):
+            recording = histdesk.read(known.text, spare=waiting_waits.SPARE)
             found = waits_of(recording)
         # And so is a recording of which a desk holds a part.
         self.assertEqual((recording.taken.events, found.held.events), (20, 29))
@@ -224,7 +230,7 @@ class Parts(unittest.TestCase):
         # its sleep; without it, that wait begins before the sleep.
         waits = [wait._replace(doubtful=wait.begin.stamp == 1000100) for wait in known.waits]
         self.assertEqual((found.held.events, found.remarks(), told(found)), (25, [], waits))
-        with mock.patch.object(_selection, "LIMIT", 20), mock.patch.object(_recording, "LIMIT", 20):
+        with mock.patch.object(selection, "LIMIT", 20), mock.patch.object(desk_recording, "LIMIT", 20):
             found = waits_of(histdesk.read(known.text, events=names))
         self.assertEqual((found.held.events, told(found)), (20, waits[:7]))
         self.assertEqual(found.remarks(), ["this is a part of the recording; the next one begins at 1.000600"])
@@ -272,7 +278,7 @@ class Streams(unittest.TestCase):
         for seed in range(12):
             text = in_time(noise(seed))
             for piece in (1 << 22, 4096, 100, 31):
-                with mock.patch.object(_text, "PIECE", piece), mock.patch.object(_stream, "CHUNK", 16):
+                with mock.patch.object(trace_text, "PIECE", piece), mock.patch.object(stream, "CHUNK", 16):
                     self.assertEqual(told(waits_of(text)), plain_waits.waits_of(text), (seed, piece))
 
     def test_sources(self):
@@ -305,7 +311,7 @@ class Streams(unittest.TestCase):
         for trace in (text, Dripping(text), gzip.compress(text), Dripping(gzip.compress(text))):
             self.assertEqual(told(waits_of(trace)), plain_waits.waits_of(text))
         with self.assertRaisesRegex(ValueError, "^line [0-9]+: its stamp is before that of the event above it"):
-            _waits.waits_of_text(Dripping(text), _waits.ReadOptions(keeps=False))
+            waiting_waits.waits_of_text(Dripping(text), waiting_waits.ReadOptions(keeps=False))
 
     def test_bad_lines(self):
         known = recordings.kinds()
@@ -333,7 +339,7 @@ class Streams(unittest.TestCase):
         lines = [waking(0, 5, 7), waking(0, 6, 8), waking(1, 20, 9), switch(0, 30, "x-1", "a-7"), switch(0, 40, "a-7", "c-9")]
         text = text_of(lines, in_buffer=5, lost=4)
         for piece in (1 << 22, 64):
-            with mock.patch.object(_text, "PIECE", piece):
+            with mock.patch.object(trace_text, "PIECE", piece):
                 found = waits_of(text)
             self.assertEqual(found.holes, histdesk.read(text).holes)
             self.assertEqual([(wait.pid, wait.doubtful) for wait in told(found)], [(7, True), (9, False)])
@@ -418,7 +424,7 @@ class Tables(unittest.TestCase):
             found = waits_of(recordings.all_known()[name].text)
             for by in BYS:
                 usual = found.table(by)
-                for column in _wait_answer.orders_of(by):
+                for column in wait_answer.orders_of(by):
                     rows = found.table(by, sort=column)
                     values = [row.end_stamp if column == "at" else getattr(row, column) for row in rows]
                     present = [value for value in values if value is not None]
@@ -611,12 +617,12 @@ class OnADesk(unittest.TestCase):
         self.unchanged()
 
     def test_out_of_memory(self):
-        with mock.patch.object(_stream.library, "histdesk_waits_held", return_value=1), self.assertRaises(MemoryError):
+        with mock.patch.object(stream.library, "histdesk_waits_held", return_value=1), self.assertRaises(MemoryError):
             histdesk.waits(self.desk)
         self.unchanged()
 
     def test_more_tasks_than_a_table_holds(self):
-        count = _wait_answer.SIZE + 3
+        count = wait_answer.SIZE + 3
         lines = [waking(0, at, at + 1) for at in range(count)]
         lines += [switch(0, count + pid, "a-0", f"w-{pid}") for pid in (1, count)]
         found = waits_of(text_of(lines))
@@ -661,8 +667,8 @@ class Shown(unittest.TestCase):
         self.assertEqual((len(text), text[-2].split()[1], text[-1].split()[0]), (3 + 1 + 20 + 1, "12", ".."))
 
     def test_cpus(self):
-        self.assertEqual(_wait_answer.ranges((0, 1, 2, 3, 6, 8, 9)), "0-3,6,8-9")
-        self.assertEqual(_wait_answer.ranges(()), "")
+        self.assertEqual(wait_answer.ranges((0, 1, 2, 3, 6, 8, 9)), "0-3,6,8-9")
+        self.assertEqual(wait_answer.ranges(()), "")
 
     def test_example(self):
         """The example in the documentation, which is skipped there in case numpy is missing."""
@@ -973,7 +979,7 @@ class Selected(unittest.TestCase):
 
 class Written(unittest.TestCase):
     def test_unescaped(self):
-        from histdesk._writers import escaped
+        from histdesk.export.csv import escaped
 
         chance = random.Random(1)
         for _ in range(2000):

@@ -421,6 +421,24 @@ class Lost(unittest.TestCase):
         self.assertEqual([one.category for one in warned], [histdesk.LossWarning] * 3)
         self.assertEqual({one.filename for one in warned}, {__file__})
 
+    def test_warning_of_a_text_out_of_order(self):
+        """There is one, and it names the line that asked, if a desk has to hold the events."""
+        last = waking("y-6", 1, 1500000, "v", 43, 1)
+        text = trace(
+            last, waking("x-5", 0, 1000000, "w", 42, 1), "CPU:1 [LOST 3 EVENTS]", switch(0, 1000100, "a-1", "S", "w-42")
+        )
+        with warnings.catch_warnings(record=True) as warned:
+            warnings.simplefilter("always")
+            for asks in (
+                lambda part: histdesk.why(part, 0, 2),
+                lambda part: histdesk.diff(part, without="sched_waking if prio == 1"),
+            ):
+                part = histdesk.read(text)
+                part.is_reported = False
+                asks(part)
+        self.assertEqual([one.category for one in warned], [histdesk.LossWarning] * 4)
+        self.assertEqual({one.filename for one in warned}, {__file__})
+
     def test_hole_elsewhere(self):
         """What ran on its own CPU is known, and the wait is doubtful all the same."""
         why = told(

@@ -14,8 +14,11 @@ import warnings
 from unittest import mock
 
 import histdesk
-from histdesk import Share, Stretch, _surroundings, _slices, _text, _explainer
+from histdesk import Share, Stretch
 from histdesk.cli import why as why_tool
+from histdesk.desk import slices as desk_slices
+from histdesk.explain import explainer, surroundings
+from histdesk.trace import text as trace_text
 from why_traces import line, switch, trace, waking
 
 TOOL = os.path.join(os.path.dirname(os.path.realpath(__file__)), "..", "..", "tools", "why")
@@ -57,8 +60,8 @@ def answer(teller, cpu, at):
 
 def cut(**sizes):
     """Return what cuts recordings into small slices: so many bytes between checkpoints, events before a wait, and so on."""
-    patches = [mock.patch.object(_text, "PIECE", sizes.pop("PIECE"))]
-    return [*patches, *(mock.patch.object(_surroundings, name, size) for name, size in sizes.items())]
+    patches = [mock.patch.object(trace_text, "PIECE", sizes.pop("PIECE"))]
+    return [*patches, *(mock.patch.object(surroundings, name, size) for name, size in sizes.items())]
 
 
 def held_by_desk(text):
@@ -67,7 +70,7 @@ def held_by_desk(text):
         warnings.simplefilter("ignore", histdesk.LossWarning)
         recording = histdesk.read(text)
         recording.losses = histdesk.waits(text).source.losses
-        return _explainer.part_explainer(recording)
+        return explainer.part_explainer(recording)
 
 
 class Cut(unittest.TestCase):
@@ -78,8 +81,8 @@ class Cut(unittest.TestCase):
         for patch in cut(**{"PIECE": 200, "LEAD": 1, "WIDTH": 1, "GROWTH": 2, "PART": 4, **sizes}):
             patch.start()
             self.addCleanup(patch.stop)
-        teller = _explainer.explainer_of(text)
-        self.assertIsInstance(teller, _explainer.SourceExplainer)
+        teller = explainer.explainer_of(text)
+        self.assertIsInstance(teller, explainer.SourceExplainer)
         return teller
 
     def whole(self, text):
@@ -121,12 +124,12 @@ class Slices(Cut):
             before = f"t{10 + (at - 2) % 7}-{10 + (at - 2) % 7}" if at > 1 else "swapper-0"
             lines.append(switch(at % 2, now + 10 + at % 40, before, "S", f"t{pid}-{pid}"))
         text, count = trace(*lines), 2000
-        with tempfile.TemporaryDirectory() as folder, mock.patch.object(_text, "PIECE", 1 << 14):
+        with tempfile.TemporaryDirectory() as folder, mock.patch.object(trace_text, "PIECE", 1 << 14):
             path = os.path.join(folder, "my.trace")
             with open(path, "wb") as file:
                 file.write(text)
             out = io.StringIO()
-            with mock.patch.object(_slices.Source, "_read", autospec=True, side_effect=_slices.Source._read) as read:
+            with mock.patch.object(desk_slices.Source, "_read", autospec=True, side_effect=desk_slices.Source._read) as read:
                 with contextlib.redirect_stdout(out):
                     self.assertEqual(why_tool.main([path, "--worst", str(count), "--json"]), 0)
         told = [wait["micros"] for wait in json.loads(out.getvalue())["waits"]]
@@ -224,9 +227,9 @@ class Long(Cut):
         whole = self.whole(self.text()).explain_at(1, 12)
         self.assertEqual((whole.micros, len(whole.stretches), whole.shares[0].task), (2990, 11, "a"))
         for limit in (20, 40, 100):
-            with mock.patch.object(_surroundings, "LIMIT", limit):
+            with mock.patch.object(surroundings, "LIMIT", limit):
                 slices = self.slices(self.text())
-                scene = slices.scene(next(map(_explainer.wait_of, slices.waits[slices.waits.array.pid == 42].array)))
+                scene = slices.scene(next(map(explainer.wait_of, slices.waits[slices.waits.array.pid == 42].array)))
                 self.assertLess(len(scene.events), 60)
                 self.assertEqual(slices.explain_at(1, 12), whole)
 
@@ -236,7 +239,7 @@ class Long(Cut):
         for seed in range(16):
             text = noise(seed, 200)
             whole = self.whole(text)
-            with mock.patch.object(_surroundings, "LIMIT", 3 + 5 * (seed % 3)):
+            with mock.patch.object(surroundings, "LIMIT", 3 + 5 * (seed % 3)):
                 slices = self.slices(text, PIECE=300)
                 for why, same in zip(slices.explain_each(slices.waits), whole.explain_each(whole.waits)):
                     if why.unknown_cpus:
@@ -250,7 +253,7 @@ class Long(Cut):
 
     def test_too_many(self):
         """If its CPUs alone have more events than a desk holds, what ran there isn't told, and that is said."""
-        with mock.patch.object(_surroundings, "LIMIT", 5):
+        with mock.patch.object(surroundings, "LIMIT", 5):
             why = self.slices(self.text()).explain_at(1, 12)
         self.assertEqual((why.micros, why.queued[:3], why.waker.task), (2990, (1000012, 2, 2), "x"))
         self.assertEqual((why.unknown_cpus, why.stretches), ((1,), (Stretch(1, 1000010, 1003000, None, None, None),)))

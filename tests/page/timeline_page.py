@@ -8,6 +8,7 @@ from browser import OTHER, SIZES, TRACE, Page, quietly
 
 import histdesk
 import recordings
+from histdesk.trace.losses import seconds
 from histdesk.view.model import Side
 
 
@@ -231,7 +232,7 @@ class ManyRuns(Timeline):
         worst = self.overview.worst(0, self.overview.runs.length)
         wanted = [
             [
-                histdesk._losses.seconds(one.begin),
+                seconds(one.begin),
                 *(f"{value:,}" for value in (one.cpu, one.end - one.begin, one.micros, one.most)),
             ]
             for one in worst

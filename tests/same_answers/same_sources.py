@@ -55,7 +55,7 @@ def read_sources(root: Path, package: ModuleType) -> Sources:
     page = {name for text in texts for name in ASKED.findall(text)}
     if not page:
         raise ValueError("no table of the page's questions is found in python/histdesk/view")
-    commands = importlib.import_module("histdesk.cli.commands").COMMANDS
+    commands = importlib.import_module("histdesk.script.commands").COMMANDS
     members = {name: members_of(getattr(package, name)) for name in package.__all__}
     return Sources({tool: options_of(root / "tools" / tool) for tool in tools}, members, page, set(commands))
 

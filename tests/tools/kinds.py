@@ -1,5 +1,5 @@
 #!/usr/bin/env python3
-"""Checks that the launchers (tools/words) and the Python package (histdesk._file_kind) tell kinds of files apart alike.
+"""Checks that the launchers (tools/words) and the Python package (histdesk.trace.kind) tell kinds of files apart alike.
 
     kinds.py > WHAT WENT WRONG
 
@@ -20,7 +20,7 @@ sys.dont_write_bytecode = True
 ROOT = Path(__file__).resolve().parents[2]
 sys.path.insert(0, str(ROOT / "python"))
 
-from histdesk import _file_kind as file_kind
+from histdesk.trace import kind as file_kind
 
 # What the launchers say of each file: a line with what it is, or nothing; and a line that says whether it looks like a trace.
 ASK = """

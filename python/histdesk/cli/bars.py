@@ -14,27 +14,27 @@ for the largest count of the table, and at least one for any other. Sums are lef
 rows without a bar show between which rows nothing was counted; two dots mean more than 20 of them, or any number
 of them from 2^53 on. All other lines are printed as they are, including tables with several keys."""
 # The longest bar, and how many rows fill a gap at most.
-LONGEST, MOST = 40, 20
+LONGEST, MOST_IN_GAP = 40, 20
 HEADING = re.compile(rb"# trigger info: hist:keys=([^:]*)")
 ROW = re.compile(rb"\{ (.*?) +\} hitcount: +([0-9]+)(?:  [A-Za-z_][A-Za-z0-9_]*: +[0-9]+)*")
 # From this number on, no gap is filled.
 LAST = 1 << 53
 
 
-class Row(NamedTuple):
+class Bar(NamedTuple):
     """A row of a table: its key and its hitcount."""
 
     key: bytes
     hits: int
 
 
-class Table:
+class HistText:
     """A table with one key."""
 
     def __init__(self, key: bytes) -> None:
         """Begin a table of a key, as the trigger has it."""
         field, _, modifier = key.partition(b".")
-        self.rows: list[Row] = []
+        self.rows: list[Bar] = []
         # What precedes the number in a row, and the difference of the numbers of adjacent rows, or 0.
         self.front, self.step = field + b": ~ ", 0
         if modifier == b"log2":
@@ -46,30 +46,30 @@ class Table:
         """Go through the lines that are drawn."""
         most = max((row.hits for row in self.rows), default=0)
         width = max((len(row.key) for row in self.rows), default=0)
-        before: Row | None = None
+        before: Bar | None = None
         for row in self.rows:
             for filler in self.between(before, row) if before and self.step else ():
-                yield b".." if filler is None else line_of(filler, most, width)
-            yield line_of(row, most, width)
+                yield b".." if filler is None else bar_of(filler, most, width)
+            yield bar_of(row, most, width)
             before = row
 
-    def number(self, row: Row) -> int:
+    def number(self, row: Bar) -> int:
         """Return the exponent of a row, or the first number of its bucket."""
         digits = re.match(rb"[0-9]*", row.key[len(self.front) :].lstrip())
         return int(digits[0]) if digits and digits[0] else 0
 
-    def between(self, before: Row, after: Row) -> Iterator[Row | None]:
+    def between(self, before: Bar, after: Bar) -> Iterator[Bar | None]:
         """Go through the rows that are missing between two others; None for two dots."""
         start, end = self.number(before) + self.step, self.number(after)
-        if end > start + MOST * self.step or (end > start and end >= LAST):
+        if end > start + MOST_IN_GAP * self.step or (end > start and end >= LAST):
             yield None
             return
         for number in range(start, end, self.step):
             last = b"" if self.front.endswith(b"^") else b"-%d" % (number + self.step - 1)
-            yield Row(b"%b%d%b" % (self.front, number, last), 0)
+            yield Bar(b"%b%d%b" % (self.front, number, last), 0)
 
 
-def line_of(row: Row, most: int, width: int) -> bytes:
+def bar_of(row: Bar, most: int, width: int) -> bytes:
     """Return the line that is drawn for a row.
 
     Parameters
@@ -87,19 +87,19 @@ def line_of(row: Row, most: int, width: int) -> bytes:
 
 def draw(file: IO[bytes], sink: IO[bytes]) -> None:
     """Print a file, with bars for the tables that have one key."""
-    table: Table | None = None
+    table: HistText | None = None
     for line in file:
         text = line.rstrip(b"\n")
         heading = HEADING.match(text)
         row = ROW.fullmatch(text) if table else None
         if table and row:
-            table.rows.append(Row(row[1], int(row[2])))
+            table.rows.append(Bar(row[1], int(row[2])))
             continue
         if table and table.rows:
             sink.writelines(bar + b"\n" for bar in table.lines())
             table.rows = []
         if heading:
-            table = None if b"," in heading[1] else Table(heading[1])
+            table = None if b"," in heading[1] else HistText(heading[1])
         sink.write(text + b"\n")
     if table:
         sink.writelines(bar + b"\n" for bar in table.lines())

@@ -10,8 +10,8 @@ from pathlib import Path
 from typing import Callable, Iterable, Mapping, NamedTuple, Sequence
 
 from .._schema import ATTACHABLE_EVENTS, MADE_EVENT, TEXT_FIELDS, TRACED_EVENTS, WAIT_GROUPS, field_names
-from .commands import COMMANDS
-from .script_commands import variable_of
+from ..script.commands import COMMANDS
+from ..script.forms import variable_of
 
 try:
     import readline
@@ -20,12 +20,12 @@ except ImportError:
     readline = None  # type: ignore[assignment]
 
 # How many lines of the history are kept.
-MOST_LINES = 1000
+MOST_LINE_NUMBERS = 1000
 # A word of a trigger or a filter begins after one of these.
 DELIMITERS = " \t,:=(.$!&|<>-@/"
-PARTS = ["keys=", "vals=", "sort=", "size=", "onmatch(sched."]
-MODIFIERS = ["hex", "log2", "buckets="]
-STAMP = "common_timestamp.usecs"
+TRIGGER_PARTS = ["keys=", "vals=", "sort=", "size=", "onmatch(sched."]
+KEY_MODIFIERS = ["hex", "log2", "buckets="]
+STAMP_FIELD = "common_timestamp.usecs"
 
 
 class Names(NamedTuple):
@@ -72,7 +72,7 @@ class History:
             self.path.parent.mkdir(mode=0o700, parents=True, exist_ok=True)
             # Others may not read it.
             self.path.touch(mode=0o600)
-            readline.set_history_length(MOST_LINES)
+            readline.set_history_length(MOST_LINE_NUMBERS)
             readline.append_history_file(readline.get_current_history_length() - self.length_before, self.path)
 
 
@@ -173,19 +173,19 @@ def of_trigger(event: str, trigger: str, names: Names) -> list[str]:
     if part.startswith("onmatch("):
         return of_onmatch(event, part, variable_of(trigger)[0])
     if not sign:
-        return PARTS
+        return TRIGGER_PARTS
     if rest.endswith("$") and kind not in ("vals", "values", "val", "sort"):
         pairs = [variable_of(text) for _, text in names.triggers.values()]
         return [own for own, read in pairs if own and not read]
     own = variable_of(trigger)[0] or "lat"
     if rest.endswith("."):
-        return {"sort": ["ascending", "descending"], "keys": MODIFIERS, "key": MODIFIERS}.get(kind, ["usecs"])
+        return {"sort": ["ascending", "descending"], "keys": KEY_MODIFIERS, "key": KEY_MODIFIERS}.get(kind, ["usecs"])
     if kind in ("keys", "key"):
         return field_names(event)
     if kind in ("vals", "values", "val", "sort"):
         numbers = [name for name in field_names(event) if kind == "sort" or name not in TEXT_FIELDS]
         return [own] if rest.endswith("$") else ["hitcount", *numbers, f"${own}"]
-    return [] if kind == "size" or event == MADE_EVENT else [STAMP]
+    return [] if kind == "size" or event == MADE_EVENT else [STAMP_FIELD]
 
 
 def of_onmatch(event: str, part: str, own: str | None) -> list[str]:

@@ -11,7 +11,7 @@ import sys
 from pathlib import Path
 from typing import IO
 
-from .._file_kind import FRONT_ROOM, first_bytes, origin_of, recording_origin
+from ..trace.kind import FRONT_ROOM, first_bytes, origin_of, recording_origin
 from .process import Stop, note_missing
 
 # Linux's number of the call that sets how many bytes a pipe holds; Python 3.10 lacks a name for it on some systems.
@@ -32,7 +32,7 @@ def converter_of(path: str) -> str | None:
     return origin and origin.converter
 
 
-def text_of(path: str, converter: str, is_repeated: bool = False) -> str:
+def converted_text(path: str, converter: str, is_repeated: bool = False) -> str:
     """Return the path of a recording's text, which is in memory until the tool ends, and can be read from any byte on.
 
     Parameters

@@ -25,7 +25,7 @@ def work(argv: Sequence[str] | None) -> int:
     parser.add_argument("traces", metavar="TRACE", nargs="*", help="the text of a trace, compressed by gzip or not")
     arguments.add_choice(parser)
     options = parser.parse_args(argv)
-    from .. import _source
+    from ..trace import source
     from . import traces
     from .prompt import Prompt, check_readable
 
@@ -34,7 +34,7 @@ def work(argv: Sequence[str] | None) -> int:
     chosen = (options.start, options.until, options.cpus, options.events)
     if options.lenient or any(choice is not None for choice in chosen):
         return Prompt(options.traces, lambda path: traces.recording(options, path, "desk")).run()
-    return Prompt(options.traces, _source.content_of).run()
+    return Prompt(options.traces, source.content_of).run()
 
 
 def main(argv: Sequence[str] | None = None) -> int:

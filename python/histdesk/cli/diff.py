@@ -8,15 +8,16 @@ from pathlib import Path
 from typing import TYPE_CHECKING, Iterable, Mapping, Sequence
 
 from .._schema import DIFFERENCE_ORDERS, WAIT_GROUPS
-from . import arguments, json_output, process
+from ..export import json_output
+from . import arguments, process
 
 if TYPE_CHECKING:
-    from .._comparison import Comparison, RecordingWaits
-    from .._counts import Key
-    from .._diff import Difference, DifferenceRow
-    from .._noise import ComparisonRow, Splits
-    from .._recording import Recording
-    from .._waits import Waits
+    from ..compare.diff import Difference, DifferenceRow
+    from ..compare.permutation import ComparisonRow, Splits
+    from ..compare.several import Comparison, RecordingWaits
+    from ..desk.recording import Recording
+    from ..waiting.counts import Key
+    from ..waiting.waits import Waits
 
 USAGE = """[option ..] TRACE TRACE
 [option ..] BEFORE.. -- AFTER..
@@ -92,13 +93,13 @@ def parse(argv: Sequence[str] | None) -> argparse.Namespace:
     arguments.add_jobs(parser)
     given = sys.argv[1:] if argv is None else argv
     options = parser.parse_intermixed_args([SEPARATOR if argument == "--" else argument for argument in given])
-    options.before, options.after = sides_of(options.traces, bool(options.without), parser)
+    options.before, options.after = sides_in(options.traces, bool(options.without), parser)
     if options.above is not None and is_several(options):
         parser.error("--above takes two recordings, and not several of each side")
     return options
 
 
-def sides_of(traces: Sequence[str], has_filter: bool, parser: argparse.ArgumentParser) -> tuple[list[str], list[str]]:
+def sides_in(traces: Sequence[str], has_filter: bool, parser: argparse.ArgumentParser) -> tuple[list[str], list[str]]:
     """Return the recordings before and after. If they can't be told apart, the tool ends with a message."""
     if not traces:
         parser.error("TRACE is missing")
@@ -153,28 +154,28 @@ def is_several(options: argparse.Namespace) -> bool:
 
 def difference_of(options: argparse.Namespace) -> Difference:
     """Return what is asked for of one recording or two."""
-    from .. import _diff
+    from ..compare import diff
 
     if options.without:
         difference = difference_without(options)
     else:
-        difference = _diff.diff(waits_in(options, options.before[0]), waits_in(options, options.after[0]))
+        difference = diff.diff(waits_in(options, options.before[0]), waits_in(options, options.after[0]))
     return difference.only(kinds=options.kinds, cpus=options.cpus)
 
 
 def waits_in(options: argparse.Namespace, path: str) -> Waits:
     """Return the waits of a trace."""
-    from .. import _waits
+    from ..waiting import waits
     from . import traces
 
     if options.events is None:
         return traces.whole_waits(options, path, "diff", keeps=False)
-    return _waits.waits(recording_of(options, path))
+    return waits.waits(recording_of(options, path))
 
 
 def comparison_of(options: argparse.Namespace, by: str) -> Comparison:
     """Return what is asked for of several recordings; their waits are counted and not kept."""
-    from .._comparison import Comparison
+    from ..compare.several import Comparison
 
     before, after = ([counts_in(options, path, by) for path in side] for side in (options.before, options.after))
     return Comparison(before, after)
@@ -182,31 +183,31 @@ def comparison_of(options: argparse.Namespace, by: str) -> Comparison:
 
 def counts_in(options: argparse.Namespace, path: str, by: str) -> RecordingWaits:
     """Return the waits of a trace, counted."""
-    from .. import _counting
-    from .._wait_records import Chosen
+    from ..trace.wait_records import ChosenWaits
+    from ..waiting import counting
     from . import traces
 
     if options.events is not None:
         return waits_in(options, path).only(kinds=options.kinds, cpus=options.cpus)
-    return traces.counted_waits(options, path, "diff", _counting.Choice(by, chosen=Chosen(options.kinds, options.cpus)))
+    return traces.counted_waits(options, path, "diff", counting.CountBy(by, chosen=ChosenWaits(options.kinds, options.cpus)))
 
 
 def difference_without(options: argparse.Namespace) -> Difference:
     """Return how waits change without some events."""
-    from .. import _diff, _without
+    from ..compare import diff, without
     from . import traces
 
     [path] = options.before
     if options.events is not None:
-        return _diff.diff(recording_of(options, path), without=options.without)
-    chosen = [_without.parse(text) for text in options.without]
+        return diff.diff(recording_of(options, path), without=options.without)
+    chosen = [without.read_chosen(text) for text in options.without]
     # What is wrong with them is reported before anything takes long.
-    _without.check(chosen)
+    without.check_chosen(chosen)
     watch = traces.Watch(path, "diff")
     is_whole = options.start is None and options.until is None
     trace = traces.source_of(path) if is_whole else traces.stretch(options, path)
     try:
-        difference = _diff.diff_without(trace, chosen, options.lenient, watch, path)
+        difference = diff.diff_without(trace, chosen, options.lenient, watch, path)
     finally:
         watch.end()
     traces.report_losses(difference.before, path, "diff")
@@ -215,10 +216,10 @@ def difference_without(options: argparse.Namespace) -> Difference:
 
 def recording_of(options: argparse.Namespace, path: str) -> Recording:
     """Return the events of a trace that are chosen."""
-    from .. import _waits
+    from ..waiting import waits
     from . import traces
 
-    return traces.recording(options, path, "diff", cpus=None, spare=_waits.SPARE)
+    return traces.recording(options, path, "diff", cpus=None, spare=waits.SPARE)
 
 
 # ---- output
@@ -228,21 +229,22 @@ def write_text(
     difference: Difference, rows: Sequence[DifferenceRow], parts: Mapping[Key, ComparisonRow], options: argparse.Namespace
 ) -> None:
     """Print the table of one recording or two for people."""
-    from .. import _diff, _tables
+    from ..compare import diff
+    from ..show import tables
 
     most = arguments.table_size(options, ROWS)
-    table = _diff.table_of(difference, rows[:most], by=options.by, sort=options.sort, above=options.above, parts=parts)
-    print("\n".join([*difference.lines(), "", _tables.in_text(table)]))
+    table = diff.table_of(difference, rows[:most], by=options.by, sort=options.sort, above=options.above, parts=parts)
+    print("\n".join([*difference.lines(), "", tables.in_text(table)]))
     if not rows:
         print("nothing changed")
     write_rest(len(rows), most, "changed and ")
     if rows and parts:
-        print("\n".join(["", *_diff.parts_lines(options.sort)]))
+        print("\n".join(["", *diff.parts_lines(options.sort)]))
 
 
 def write_rest(count: int, most: int | None, what: str) -> None:
     """Print how many rows were left out."""
-    from .._tables import are, count_of
+    from ..show.tables import are, count_of
 
     if most and count > most:
         left = count - most
@@ -251,25 +253,26 @@ def write_rest(count: int, most: int | None, what: str) -> None:
 
 def write_comparison(comparison: Comparison, rows: Sequence[ComparisonRow], options: argparse.Namespace, by: str) -> None:
     """Print the tables of several recordings for people."""
-    from .. import _comparison, _tables
+    from ..compare import several
+    from ..show import tables
 
     most = arguments.table_size(options, ROWS)
-    whole = _comparison.whole_table(comparison.whole(by))
-    print("\n".join([*comparison.lines(), "", _tables.in_text(whole)]))
+    whole = several.whole_table(comparison.whole(by))
+    print("\n".join([*comparison.lines(), "", tables.in_text(whole)]))
     if rows:
-        table = _comparison.rows_table(comparison, rows[:most], by=by, sort=options.sort)
-        print("\n".join(["", _tables.in_text(table)]))
+        table = several.comparison_table(comparison, rows[:most], by=by, sort=options.sort)
+        print("\n".join(["", tables.in_text(table)]))
     write_rest(len(rows), most, "")
 
 
-def about(side: RecordingWaits) -> dict[str, object]:
+def about_side(side: RecordingWaits) -> dict[str, object]:
     """Return what a side is, for JSON."""
     return {**json_output.about(side), "doubtful": side.doubtful, "remarks": side.remarks()}
 
 
 def write(names: Sequence[str], rows: Iterable[Sequence[object]], front: Mapping[str, object] | None) -> None:
     """Print rows as JSON below the other members of an object; as CSV if there are none."""
-    from .._writers import write_csv
+    from ..export.csv import write_csv
 
     if front is None:
         write_csv(sys.stdout.buffer, names, rows)
@@ -277,30 +280,30 @@ def write(names: Sequence[str], rows: Iterable[Sequence[object]], front: Mapping
         json_output.write_rows(front, names, rows)
 
 
-def front_of(difference: Difference, parts: Mapping[Key, ComparisonRow], options: argparse.Namespace) -> dict[str, object]:
+def json_front_of(difference: Difference, parts: Mapping[Key, ComparisonRow], options: argparse.Namespace) -> dict[str, object]:
     """Return what JSON has of one recording or two besides the rows."""
-    from .. import _diff, _noise
+    from ..compare import diff, permutation
 
-    columns = [*_diff.COLUMNS, *_diff.spread_columns(difference)]
-    whole = [*_diff.flat(difference.whole(above=options.above)), *_diff.flat_spreads(parts.get(()))]
+    columns = [*diff.COLUMNS, *diff.spread_columns(difference)]
+    whole = [*diff.flat(difference.whole(above=options.above)), *diff.flat_spreads(parts.get(()))]
     return {
-        "before": about(difference.before),
-        "after": about(difference.after),
+        "before": about_side(difference.before),
+        "after": about_side(difference.after),
         "without": None if difference.struck is None else [one._asdict() for one in difference.struck],
         "fate": difference.fate and difference.fate._asdict(),
-        "parts": _noise.PARTS if parts else 0,
+        "parts": permutation.PARTS if parts else 0,
         "all": dict(zip(columns, whole)),
     }
 
 
 def test_of(splits: Splits) -> dict[str, object]:
     """Return how several recordings are tested, for JSON."""
-    from .. import _noise
+    from ..compare import permutation
 
     return {
         "test": "permutation test (Fisher, Pitman)",
         "adjustment": "maxT (Westfall, Young)",
-        "level": _noise.LEVEL,
+        "level": permutation.LEVEL,
         "splits": splits.count,
         "trials": splits.trials,
         "least_p": splits.least,
@@ -310,7 +313,7 @@ def test_of(splits: Splits) -> dict[str, object]:
 
 def compare_sides(options: argparse.Namespace) -> None:
     """Print how one recording or two differ."""
-    from .. import _diff
+    from ..compare import diff
 
     difference = difference_of(options)
     # This comes first, so that waits are counted only once.
@@ -320,14 +323,14 @@ def compare_sides(options: argparse.Namespace) -> None:
         write_text(difference, rows, parts, options)
         return
     most = arguments.table_size(options, ROWS)
-    names = [*difference.names(options.by), *_diff.COLUMNS, *_diff.spread_columns(difference)]
-    lines = ([*_diff.flat(row), *_diff.flat_spreads(parts.get(row.key))][: len(names)] for row in rows[:most])
-    write(names, lines, front_of(difference, parts, options) if options.json else None)
+    names = [*difference.names(options.by), *diff.COLUMNS, *diff.spread_columns(difference)]
+    lines = ([*diff.flat(row), *diff.flat_spreads(parts.get(row.key))][: len(names)] for row in rows[:most])
+    write(names, lines, json_front_of(difference, parts, options) if options.json else None)
 
 
 def compare_several(options: argparse.Namespace) -> None:
     """Print how several recordings differ."""
-    from .. import _comparison
+    from ..compare import several
 
     by = options.by or "name"
     comparison = comparison_of(options, by)
@@ -336,14 +339,14 @@ def compare_several(options: argparse.Namespace) -> None:
         write_comparison(comparison, rows, options, by)
         return
     front = {
-        "before": [about(one) for one in comparison.before],
-        "after": [about(one) for one in comparison.after],
+        "before": [about_side(one) for one in comparison.before],
+        "after": [about_side(one) for one in comparison.after],
         "test": test_of(comparison.splits),
-        "all": dict(zip(_comparison.COLUMNS, _comparison.flat(comparison.whole(by)))),
+        "all": dict(zip(several.COLUMNS, several.flat_comparison(comparison.whole(by)))),
     }
     most = arguments.table_size(options, ROWS)
-    names = [*comparison.names(by), *_comparison.COLUMNS]
-    write(names, map(_comparison.flat, rows[:most]), front if options.json else None)
+    names = [*comparison.names(by), *several.COLUMNS]
+    write(names, map(several.flat_comparison, rows[:most]), front if options.json else None)
 
 
 def work(argv: Sequence[str] | None) -> int:

@@ -11,12 +11,12 @@ import sys
 import threading
 from typing import TYPE_CHECKING, NamedTuple, Sequence
 
-from .._file_kind import first_bytes, for_program, looks_like_trace
 from .._invocation import PACKAGE, tool
+from ..trace.kind import first_bytes, for_program, looks_like_trace
 from . import arguments, process
 
 if TYPE_CHECKING:
-    from .script_output import Script, Walk
+    from ..script.output import Script, OutputWalk
 
 DESCRIPTION = """\
 Runs histdesk, or the program that the variable HISTDESK names, with the same arguments, and prints what it prints. After
@@ -46,21 +46,21 @@ reading of the text. Without the library, explain says so and ends with status 2
 STRICT = """stop at the first refused line, with status 1, so that a refused `load` isn't followed by empty tables"""
 
 
-class Feed(NamedTuple):
+class ScriptFeed(NamedTuple):
     """Where a script that can be read only once comes from, and the arguments of the program that is fed with it."""
 
     source: int
     words: list[str]
 
 
-def program() -> str:
+def program_path() -> str:
     """Return the program: the one that HISTDESK names, the one that belongs to this package, or one on the PATH."""
     beside = os.path.join(os.path.dirname(os.path.dirname(PACKAGE)), "histdesk")
     named = os.environ.get("HISTDESK") or (beside if os.path.isfile(beside) else shutil.which("histdesk"))
     return named or beside
 
 
-def is_read_once(path: str) -> bool:
+def is_pipe(path: str) -> bool:
     """Return whether a file is no regular one, such as a pipe."""
     try:
         mode = os.stat(path).st_mode
@@ -79,13 +79,13 @@ def why_no_script(path: str | None) -> str | None:
     return kind and f"{path or 'standard input'} is no script: {kind}"
 
 
-def read_script(script: Script, path: str | None, traces: list[str]) -> Feed | None:
+def read_script(script: Script, path: str | None, traces: list[str]) -> ScriptFeed | None:
     """Read a script that can be read at once; otherwise return how the program is fed with it."""
     if path is None:
-        return Feed(0, ["-", *traces] if traces else [])
+        return ScriptFeed(0, ["-", *traces] if traces else [])
     try:
-        if is_read_once(path):
-            return Feed(os.open(path, os.O_RDONLY), ["--", "-", *traces])
+        if is_pipe(path):
+            return ScriptFeed(os.open(path, os.O_RDONLY), ["--", "-", *traces])
         if os.path.isfile(path):
             with open(path, "rb") as file:
                 script.add(file.read())
@@ -108,7 +108,7 @@ def feed(script: Script, source: int, sink: int) -> None:
     os.close(sink)
 
 
-def explain(running: subprocess.Popen[bytes], walk: Walk, at_once: bool, is_strict: bool) -> int:
+def explain(running: subprocess.Popen[bytes], walk: OutputWalk, at_once: bool, is_strict: bool) -> int:
     """Print what the program prints, and explanations after refused lines, and return the exit status."""
     assert running.stdout
     is_whole = True
@@ -146,8 +146,8 @@ def work(argv: Sequence[str] | None) -> int:
     parser.add_argument("traces", metavar="TRACE", nargs="*", help="the text of a trace")
     options = parser.parse_intermixed_args(argv)
     from ..native.library import library
-    from .script_output import Script, Walk
-    from .texts import columns
+    from ..script.output import Script, OutputWalk
+    from ..script.words import columns
 
     # A missing library is reported before anything runs.
     library.load()
@@ -157,7 +157,7 @@ def work(argv: Sequence[str] | None) -> int:
         raise process.Stop(wrong)
     script = Script()
     fed = read_script(script, path, options.traces)
-    command = program()
+    command = program_path()
     words = fed.words if fed else ["--", options.script, *options.traces]
     if path is None and sys.stdin.isatty() and sys.stderr.isatty():
         process.say("explain", f"reads commands from the terminal until Ctrl-D; {tool('desk')} has a prompt, with help")
@@ -170,7 +170,7 @@ def work(argv: Sequence[str] | None) -> int:
         sink = os.dup(running.stdin.fileno())
         running.stdin.close()
         threading.Thread(target=feed, args=(script, fed.source, sink), daemon=True).start()
-    return explain(running, Walk(script, options.traces, columns()), fed is not None, options.strict)
+    return explain(running, OutputWalk(script, options.traces, columns()), fed is not None, options.strict)
 
 
 def main(argv: Sequence[str] | None = None) -> int:

@@ -9,9 +9,9 @@ from typing import TYPE_CHECKING, Iterator, Sequence
 from . import arguments, process
 
 if TYPE_CHECKING:
-    from .._export import Table
-    from .._wait_answer import WaitAnswer
-    from .._waits import Waits
+    from ..export.records import Records
+    from ..waiting.wait_answer import WaitAnswer
+    from ..waiting.waits import Waits
     from .traces import Watch
 
 DESCRIPTION = """Writes what a trace contains, or the answer to a trigger, as CSV, or with --json as JSON lines: one
@@ -60,52 +60,52 @@ def parse(argv: Sequence[str] | None) -> argparse.Namespace:
     return options
 
 
-def waits_of(options: argparse.Namespace) -> Iterator[Waits]:
+def waits_in_turn(options: argparse.Namespace) -> Iterator[Waits]:
     """Return the waits of the trace, in parts, and report what the user has to know of them."""
-    from .. import _waits_in_parts
+    from ..waiting import waits_in_parts
 
     answer = whole_answer(options)
     for remark in answer.remarks() if options.events is None else ():
         process.say("export", f"{options.trace}: {remark}")
-    for part in _waits_in_parts.parts_of(answer):
+    for part in waits_in_parts.parts_of(answer):
         yield part.only(cpus=options.cpus)
 
 
 def whole_answer(options: argparse.Namespace) -> WaitAnswer:
     """Return the waits of the whole trace, of a stretch of time, or of the events that are chosen."""
-    from .. import _waits, _waits_in_parts
+    from ..waiting import waits, waits_in_parts
     from . import traces
 
     if options.events is not None:
-        return _waits.waits(traces.recording(options, options.trace, "export", cpus=None))
+        return waits.waits(traces.recording(options, options.trace, "export", cpus=None))
     if options.start is not None or options.until is not None:
         return traces.whole_waits(options, options.trace, "export", keeps=False)
 
     def read(watch: Watch) -> WaitAnswer:
         reread = traces.rereader_of(options.trace)
-        read_options = _waits.ReadOptions(options.lenient, watch, options.trace, jobs=options.jobs, reread=reread)
-        return _waits_in_parts.waits_in_parts(watch.source(False), read_options)
+        read_options = waits.ReadOptions(options.lenient, watch, options.trace, jobs=options.jobs, reread=reread)
+        return waits_in_parts.waits_in_parts(watch.source(False), read_options)
 
     return traces.read_watched(read, options.trace, "export")
 
 
-def answer_of(options: argparse.Namespace) -> Table:
+def records_of(options: argparse.Namespace) -> Records:
     """Return what the trace holds, or the answer of the last trigger."""
-    from .. import _export
-    from .._tables import count_of
+    from ..export import records
+    from ..show.tables import count_of
     from . import traces
 
     recording = traces.recording(options, options.trace, "export")
     desk = recording.desk()
     if options.what == "events":
-        return _export.events_table(desk, recording)
+        return records.events_table(desk, recording)
     triggers = [desk.attach(*pair) for pair in zip(options.triggers[::2], options.triggers[1::2])]
     dropped = triggers[-1].totals().dropped
     if dropped and options.what == "rows":
         process.say("export", f"{count_of(dropped, 'hit')} found no room in the table; a greater size= has it")
     if options.what == "rows":
-        return _export.rows_table(triggers[-1])
-    return _export.latencies_table(desk, triggers[-1], recording)
+        return records.rows_table(triggers[-1])
+    return records.latencies_table(desk, triggers[-1], recording)
 
 
 def work(argv: Sequence[str] | None) -> int:
@@ -115,10 +115,10 @@ def work(argv: Sequence[str] | None) -> int:
 
     if options.what == "waits":
         conversion.begin(options)
-    from .. import _export, _writers
+    from ..export import csv, records
 
-    table = _export.waits_table(waits_of(options)) if options.what == "waits" else answer_of(options)
-    write = _writers.write_json_lines if options.json else _writers.write_csv
+    table = records.waits_table(waits_in_turn(options)) if options.what == "waits" else records_of(options)
+    write = csv.write_json_lines if options.json else csv.write_csv
     write(sys.stdout.buffer, *table)
     return process.SUCCESS
 

@@ -21,7 +21,7 @@ from typing import TYPE_CHECKING, Callable
 from . import interpreter
 
 if TYPE_CHECKING:
-    from .._refusal import Refused
+    from ..native.refusals import Refused
 
 SUCCESS, PARTIAL, FAILURE = 0, 1, 2
 # What is missing in the answer, which is reported at the end.
@@ -111,13 +111,13 @@ def say(tool: str, message: str) -> None:
 
 def message_of(error: Exception) -> str | None:
     """Return a failure that isn't a fault of the program in one line, or None if it is one."""
-    from .._refusal import Refused, refusal_words
     from .._requirements import explained
+    from ..native.refusals import Refused, refusal_words
 
     if isinstance(error, MemoryError):
         return refusal_words("refused 1")
     if isinstance(error, Refused):
-        return refusal_of(error)
+        return refusal_text(error)
     if isinstance(error, gzip.BadGzipFile):
         return f"what is packed in the trace can't be unpacked: {error}"
     if isinstance(error, OSError):
@@ -127,11 +127,11 @@ def message_of(error: Exception) -> str | None:
     return str(error) if isinstance(error, ValueError) else None
 
 
-def refusal_of(error: Refused) -> str:
+def refusal_text(error: Refused) -> str:
     """Return a refusal in one line, and below it the line of the trace or the text that it is about."""
     hint = ""
     if error.line:
-        from .fault_hints import lenient_hint
+        from ..script.hints import lenient_hint
 
         hint = f"; {lenient_hint(error.path)}"
     return "\n".join([f"{error}{hint}", *getattr(error, "__notes__", [])])

@@ -8,36 +8,36 @@ import sys
 from pathlib import Path
 from collections.abc import Callable, Mapping, Sequence
 
-from .. import _tables
-from .._desk import Desk, Trace
 from .._invocation import tool
-from .._loaded import Loaded
-from .._losses import seconds
-from .._recording import Recording
-from .._refusal import Refused, refusal_words
 from .._schema import WAIT_GROUPS
+from ..desk.desk import Desk, Trace
+from ..desk.loaded import Loaded
+from ..desk.recording import Recording
 from ..native.library import library
+from ..native.refusals import Refused, refusal_words
+from ..script.commands import COMMANDS, PROMPT_COMMANDS, forms_of
+from ..script.forms import LONGEST, bad_command, numbers_of, split_command, start_of_rest
+from ..script.refusals import Refusals
+from ..script.runner import Output, Commands, CommandRefused
+from ..script.words import near, excerpt
+from ..show import tables
+from ..trace.losses import seconds
 from . import process
-from .commands import COMMANDS, PROMPT_COMMANDS, forms_of
 from .completion import History, Names, complete_by
 from .prompt_help import help_of
-from .refusal_hints import Refusals
 from .screen import note, write
-from .script_commands import LONGEST, bad_command, numbers_of, split_command, start_of_rest
-from .script_runner import Answer, Commands, Refusal
-from .texts import near, excerpt
 
 PROMPT = "desk> "
 # The indent of remarks about a line that was typed.
 TYPED = "  "
-LESS = f"{tool('desk')} --from STAMP --until STAMP, or --events sched_waking,sched_switch, takes less of it"
+TAKE_LESS = f"{tool('desk')} --from STAMP --until STAMP, or --events sched_waking,sched_switch, takes less of it"
 
 
 class DeskRefusals(Refusals):
     """What refusals of typed commands mean: triggers are named by their ids, and traces also by their paths."""
 
     def __init__(self, traces: list[str]) -> None:
-        super().__init__(traces, LESS, unpacks=True)
+        super().__init__(traces, TAKE_LESS, unpacks=True)
 
     def lines(self, front: str, command: str, place: int | None, meaning: str) -> list[str]:
         """Return what is shown after a refused line: its meaning and, if a place is known, as much of the line as fits."""
@@ -183,8 +183,8 @@ class Prompt:
             if isinstance(error, OSError) and not error.filename:
                 raise
             if not self.is_typed:
-                raise process.Stop(f"line {self.number}: {message_of(error)}") from None
-            note(f"{TYPED}{message_of(error)}")
+                raise process.Stop(f"line {self.number}: {error_text(error)}") from None
+            note(f"{TYPED}{error_text(error)}")
         # Ctrl-C ends a script.
         if self.commands.was_interrupted and not self.is_typed:
             raise KeyboardInterrupt
@@ -200,7 +200,7 @@ class Prompt:
                 write(self.prompt_answer(word, os.fsdecode(rest.encode("latin-1"))))
                 return
             answer = self.commands.answer(line)
-        except Refusal as refusal:
+        except CommandRefused as refusal:
             self.status = 1
             self.say_refused(asked, refusal)
             return
@@ -214,7 +214,7 @@ class Prompt:
         try:
             text = self.methods[word](rest)
         except Refused as refused:
-            raise Refusal(refused.text) from None
+            raise CommandRefused(refused.text) from None
         except LookupError as error:
             # Scripts have no refusal for a wait that isn't there.
             self.status = 1
@@ -226,17 +226,17 @@ class Prompt:
         """Return how a remark about a line begins."""
         return TYPED if self.is_typed else f"{TYPED}line {self.number}: "
 
-    def say_refused(self, asked: str, refusal: Refusal) -> None:
+    def say_refused(self, asked: str, refusal: CommandRefused) -> None:
         """Show the line of a refusal, and what it means."""
         write(refusal.text.encode() + b"\n")
         note("\n".join(self.refusals.explain(self.front(), asked, refusal.text, refusal.path)))
 
-    def say_of(self, word: str, answer: Answer) -> None:
+    def say_of(self, word: str, answer: Output) -> None:
         """Show remarks about an answer: what a trace holds and lost, or that there are no events to ask about."""
         loaded = answer.loaded
         if loaded is not None and answer.path is not None:
             if self.is_typed:
-                note(f"{TYPED}{summary_of(loaded)}")
+                note(f"{TYPED}{loaded_text(loaded)}")
             if loaded.warning:
                 note(f"{TYPED}{answer.path}: {loaded.warning}")
         elif self.is_typed and word in ("hist", "totals", "lat") and not self.commands.desk.cpus():
@@ -263,33 +263,34 @@ class Prompt:
         """Return a table of how long tasks waited."""
         by = rest or "task"
         if by not in WAIT_GROUPS:
-            raise Refusal("refused 16")
-        from .. import _wait_answer, _waits
+            raise CommandRefused("refused 16")
+        from ..waiting.wait_answer import table_of
+        from ..waiting.waits import waits as waits_of
 
-        waits = _waits.waits(self.commands.desk)
+        waits = waits_of(self.commands.desk)
         rows = waits.table(by)
         foot = [waits.warning] if waits.warning else []
-        return "\n".join([*waits.lines(), _tables.in_text(_wait_answer.table_of(by, rows, len(rows))), *foot])
+        return "\n".join([*waits.lines(), tables.in_text(table_of(by, rows, len(rows))), *foot])
 
     def why(self, rest: str) -> str:
         """Return the explanation of one wait."""
         cpu, _, line = rest.partition(":")
         if not numbers_of(cpu) or not numbers_of(line):
-            raise Refusal("refused 16")
-        from .. import _why
+            raise CommandRefused("refused 16")
+        from ..explain import why
 
-        return str(_why.why(self.commands.desk, int(cpu), int(line)))
+        return str(why.why(self.commands.desk, int(cpu), int(line)))
 
 
 def check_empty(rest: str) -> None:
-    """Raise `Refusal` if something follows a command that has no arguments."""
+    """Raise `CommandRefused` if something follows a command that has no arguments."""
     if rest:
-        raise Refusal("refused 16")
+        raise CommandRefused("refused 16")
 
 
 def in_columns(names: tuple[str, ...], rows: Sequence[tuple[object, ...]]) -> str:
     """Return a table with all rows under the names of its columns."""
-    return _tables.in_text(_tables.Table(names, list(rows), [], 0))
+    return tables.in_text(tables.Table(names, list(rows), [], 0))
 
 
 def ends(desk: Desk, cpu: int) -> tuple[str, str]:
@@ -298,7 +299,7 @@ def ends(desk: Desk, cpu: int) -> tuple[str, str]:
     return (seconds(lane[1]), seconds(lane[2])) if lane else ("", "")
 
 
-def summary_of(loaded: Loaded) -> str:
+def loaded_text(loaded: Loaded) -> str:
     """Return what a trace holds, in one line."""
     if not loaded.lanes:
         return "it has no events"
@@ -307,7 +308,7 @@ def summary_of(loaded: Loaded) -> str:
     return f"{cpus}, from {seconds(first)} to {seconds(last)}"
 
 
-def message_of(error: BaseException) -> str:
+def error_text(error: BaseException) -> str:
     """Return a failure in one line."""
     if isinstance(error, MemoryError):
         return refusal_words("refused 1")

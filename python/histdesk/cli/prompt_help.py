@@ -4,8 +4,8 @@ from __future__ import annotations
 
 import textwrap
 
-from .commands import ABOUT_EVENTS, ABOUT_TRIGGERS, COMMANDS, OF_PROMPT, Command, list_of
-from .texts import near
+from ..script.commands import ABOUT_EVENTS, ABOUT_TRIGGERS, COMMANDS, OF_PROMPT, Command, list_of
+from ..script.words import near
 
 EXAMPLE = """\
 Measuring how long tasks wait from waking to running takes two triggers:

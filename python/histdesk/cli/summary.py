@@ -7,10 +7,11 @@ import sys
 from typing import TYPE_CHECKING, Any, Sequence
 
 from .._schema import SUMMARY_GROUPS
-from . import arguments, json_output, process
+from ..export import json_output
+from . import arguments, process
 
 if TYPE_CHECKING:
-    from .._summary import Row, Summary
+    from ..waiting.summary import SummaryRow, Summary
 
 DESCRIPTION = """How long each task ran and waited for a processor, and how often it was switched to, preempted,
 moved to another CPU, put to sleep and blocked: a row for each task over all kinds of waits, the one
@@ -45,7 +46,7 @@ def parsed(argv: Sequence[str] | None) -> argparse.Namespace:
     arguments.add_choice(parser, cpus="with --by cpu: only these CPUs, such as 0,2,4-7", has_events=False)
     options = parser.parse_args(argv)
     if options.sort is not None:
-        from .._summary import orders_of
+        from ..waiting.summary import orders_of
 
         if options.sort not in orders_of(options.by):
             parser.error(f"argument --sort: with --by {options.by}, it is one of {', '.join(orders_of(options.by))}")
@@ -57,17 +58,18 @@ def parsed(argv: Sequence[str] | None) -> argparse.Namespace:
 # ---- output
 
 
-def write_text(answer: Summary, options: argparse.Namespace, rows: Sequence[Row], most: int | None) -> None:
+def write_text(answer: Summary, options: argparse.Namespace, rows: Sequence[SummaryRow], most: int | None) -> None:
     """Print the table for people."""
-    from .. import _summary, _tables
+    from ..show import tables
+    from ..waiting import summary
 
-    table = _summary.table_of(options.by, rows, most)
-    print("\n".join([*answer.lines(), *(["", _tables.in_text(table._replace(left_out=0))] if rows else [])]))
+    table = summary.table_of(options.by, rows, most)
+    print("\n".join([*answer.lines(), *(["", tables.in_text(table._replace(left_out=0))] if rows else [])]))
     if table.left_out:
         print(f"{table.left_out} more are not shown; --top all shows them")
 
 
-def about(answer: Summary) -> dict[str, Any]:
+def about_summary(answer: Summary) -> dict[str, Any]:
     """Return what was read, for JSON."""
     return {
         **json_output.about(answer),
@@ -78,14 +80,15 @@ def about(answer: Summary) -> dict[str, Any]:
     }
 
 
-def write_csv(answer: Summary, options: argparse.Namespace, rows: Sequence[Row]) -> None:
+def write_csv(answer: Summary, options: argparse.Namespace, rows: Sequence[SummaryRow]) -> None:
     """Print the rows below their names; remarks go to standard error."""
-    from .. import _summary, _writers
+    from ..export import csv
+    from ..waiting import summary
 
     for remark in answer.remarks():
         process.say("summary", f"{options.trace}: {remark}")
     sys.stdout.flush()
-    _writers.write_csv(sys.stdout.buffer, _summary.fields_of(options.by), rows)
+    csv.write_csv(sys.stdout.buffer, summary.fields_of(options.by), rows)
 
 
 def work(argv: Sequence[str] | None) -> int:
@@ -94,7 +97,7 @@ def work(argv: Sequence[str] | None) -> int:
     from . import conversion
 
     conversion.begin(options)
-    from .. import _summary
+    from ..waiting import summary
     from . import traces
 
     most = arguments.table_size(options, ROWS)
@@ -106,7 +109,7 @@ def work(argv: Sequence[str] | None) -> int:
         what = "no switch is" if options.by == "cpu" else "no task ran or was woken"
         process.note_missing(traces.why_empty(answer, options, what))
     if options.json:
-        json_output.write_rows(about(answer), _summary.fields_of(options.by), rows[:most])
+        json_output.write_rows(about_summary(answer), summary.fields_of(options.by), rows[:most])
     elif options.csv:
         write_csv(answer, options, rows[:most])
     else:

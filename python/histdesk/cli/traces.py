@@ -9,20 +9,20 @@ import time
 from collections.abc import Callable
 from typing import IO, TYPE_CHECKING, Any, TypeVar, cast
 
-from .._file_kind import FRONT_ROOM, why_no_trace
-from .._losses import seconds
-from .._recording import Choice, Recording, counted_from, read_text
-from .._tables import are, count_of, printable
-from .._text import Piece, Text, text_again
+from ..desk.recording import Choice, Recording, counted_from, read_text
+from ..show.tables import are, count_of, printable
+from ..trace.kind import FRONT_ROOM, why_no_trace
+from ..trace.losses import seconds
+from ..trace.text import Piece, Text, text_again
 from . import conversion
 from .process import Stop, say
 
 if TYPE_CHECKING:
-    from .._counting import Choice as CountChoice
-    from .._source import Trace
-    from .._summary import Summary
-    from .._wait_answer import Answer, WaitAnswer
-    from .._waits import Waits
+    from ..trace.source import Trace
+    from ..waiting.counting import CountBy as CountChoice
+    from ..waiting.summary import Summary
+    from ..waiting.wait_answer import Answer, WaitAnswer
+    from ..waiting.waits import Waits
 
 SomeAnswer = TypeVar("SomeAnswer", bound="Answer")
 
@@ -62,13 +62,13 @@ def recording(arguments: argparse.Namespace, path: str, tool: str, **choice: Any
 def checked_text(path: str) -> Text:
     """Return the text of a trace, or of standard input if its path is `-`. Raises `Stop` if it is no trace."""
     text = text_again(source_of(path))
-    check_kind(text.read(0, FRONT_ROOM), path)
+    check_is_trace(text.read(0, FRONT_ROOM), path)
     return text
 
 
 def stretch(arguments: argparse.Namespace, path: str) -> Recording:
     """Return the stretch of time of a trace that the options choose. It isn't read yet."""
-    from .._slices import find_stretch
+    from ..desk.slices import find_stretch
 
     return find_stretch(path, checked_text(path), Choice(arguments.start, arguments.until), arguments.lenient)
 
@@ -116,7 +116,7 @@ def whole_waits(arguments: argparse.Namespace, path: str, tool: str, keeps: bool
     keeps
         Whether a whole standard input is kept, so that it can be read again.
     """
-    from .._waits import ReadOptions, waits_of_recording, waits_of_text
+    from ..waiting.waits import ReadOptions, waits_of_recording, waits_of_text
 
     def read(watch: Watch) -> Waits:
         if arguments.start is None and arguments.until is None:
@@ -131,8 +131,8 @@ def whole_waits(arguments: argparse.Namespace, path: str, tool: str, keeps: bool
 
 def counted_waits(arguments: argparse.Namespace, path: str, tool: str, choice: CountChoice) -> WaitAnswer:
     """Return the same waits, counted; those of a whole trace are not kept."""
-    from .._counting import count_waits
-    from .._waits import ReadOptions
+    from ..waiting.counting import count_waits
+    from ..waiting.waits import ReadOptions
 
     def read(watch: Watch) -> WaitAnswer:
         options = ReadOptions(arguments.lenient, watch, path, jobs=arguments.jobs, reread=rereader_of(path))
@@ -155,7 +155,7 @@ def summary_of(arguments: argparse.Namespace, path: str, tool: str) -> Summary:
     tool
         The name with which messages begin.
     """
-    from .._summary import SummaryOptions, summary_of_recording, summary_of_text
+    from ..waiting.summary import SummaryOptions, summary_of_recording, summary_of_text
 
     def read(watch: Watch) -> Summary:
         options = SummaryOptions(arguments.doubtful, arguments.lenient, watch, path, arguments.by == "cpu")
@@ -197,7 +197,7 @@ def why_empty(answer: Answer, options: argparse.Namespace, what: str) -> str:
     what
         What there is none of, such as `no wait ended`.
     """
-    from .._wait_answer import ranges
+    from ..waiting.wait_answer import ranges
 
     if not answer.held.events:
         return f"{options.trace}: {why_no_events(options)}"
@@ -214,7 +214,7 @@ def why_empty(answer: Answer, options: argparse.Namespace, what: str) -> str:
 
 def why_no_events(options: argparse.Namespace) -> str:
     """Return why a trace has no events, in words."""
-    from .._time_range import ends_of
+    from ..trace.time_range import ends_of
 
     if options.start is None and options.until is None:
         return "it has no events" if getattr(options, "events", None) is None else "it has no such events"
@@ -246,7 +246,7 @@ class Watch:
 
     def __call__(self, piece: Piece) -> None:
         if not self._read:
-            check_kind(piece, self._path)
+            check_is_trace(piece, self._path)
         self._read += len(piece)
         now = time.monotonic()
         if now - self._since >= PATIENCE and now - self._reported >= AGAIN and sys.stderr.isatty():
@@ -270,7 +270,7 @@ def source_of(path: str, is_read_again: bool = True) -> Trace:
     if converter is None:
         return path
     if is_read_again:
-        return conversion.text_of(path, converter)
+        return conversion.converted_text(path, converter)
     return cast("IO[bytes]", conversion.piped_text(path, converter))
 
 
@@ -281,10 +281,10 @@ def rereader_of(path: str) -> Callable[[], Text] | None:
     if converter is None:
         return None
     name = converter
-    return lambda: text_again(conversion.text_of(path, name, is_repeated=True))
+    return lambda: text_again(conversion.converted_text(path, name, is_repeated=True))
 
 
-def check_kind(text: Piece, path: str) -> None:
+def check_is_trace(text: Piece, path: str) -> None:
     """Raise `Stop` if a text with this beginning is packed, or is another tool's recording or what that tool printed."""
     message = why_no_trace(bytes(text[:FRONT_ROOM]), path)
     if message:

@@ -78,9 +78,9 @@ def parsed(argv: Sequence[str] | None) -> argparse.Namespace:
 
 def side_of(options: argparse.Namespace, path: str) -> Side:
     """Return a recording, and what the user has to know of it."""
-    from .. import _waits
-    from .._wait_answer import bad_lines_remark
     from ..view.model import Side
+    from ..waiting.wait_answer import bad_lines_remark
+    from ..waiting.waits import SPARE
     from . import traces
 
     if options.events is None:
@@ -90,11 +90,11 @@ def side_of(options: argparse.Namespace, path: str) -> Side:
         if path == "-":
             raise process.Stop("standard input: its events aren't in the order of time; such a trace must be a file")
     # A desk holds what is chosen.
-    recording = traces.recording(options, path, "view", spare=_waits.SPARE)
+    recording = traces.recording(options, path, "view", spare=SPARE)
     return Side(recording, traces.bad_line_remarks(recording))
 
 
-def server_of(view: View, port: int) -> Server:
+def begun_server(view: View, port: int) -> Server:
     """Return the server of a page. Raises `Stop` if the port is taken."""
     from ..view import server
 
@@ -107,7 +107,7 @@ def server_of(view: View, port: int) -> Server:
 def work(argv: Sequence[str] | None) -> int:
     """Save the page, or answer a browser until Ctrl-C, and return the exit status."""
     options = parsed(argv)
-    from .._tables import printable
+    from ..show.tables import printable
 
     # A missing numpy is reported here, before anything takes long.
     from ..view.model import View
@@ -120,7 +120,7 @@ def work(argv: Sequence[str] | None) -> int:
 
         saved_page.save(view, options.save)
         return process.SUCCESS
-    server = server_of(view, options.port)
+    server = begun_server(view, options.port)
     is_wanted = not options.no_browser and any(map(os.environ.get, DESKTOPS))
     try:
         catch_signals()

@@ -10,10 +10,11 @@ from typing import TYPE_CHECKING, Any, NamedTuple
 
 from .._invocation import tool
 from .._schema import WAIT_GROUPS
-from . import arguments, json_output, process
+from ..export import json_output
+from . import arguments, process
 
 if TYPE_CHECKING:
-    from .._wait_answer import WaitAnswer
+    from ..waiting.wait_answer import WaitAnswer
 
 DESCRIPTION = """How long tasks that could run waited for a processor: a row for each task and kind of wait,
 the longest wait first. Times are in microseconds. TRACE is the text of the kernel's trace file,
@@ -28,7 +29,7 @@ waits aren't longer, and so on.
 The columns `at` and `where` are the timestamp and the CPU:LINE of the switch that ended the
 longest wait: tools/why explains that wait, and what ran meanwhile."""
 # How many rows are shown in a terminal, and how many signs the greatest bar of a histogram has.
-ROWS, BAR = 30, 40
+ROWS, BAR_WIDTH = 30, 40
 # What --kind names if a row has all kinds.
 ALL = "all"
 
@@ -68,7 +69,7 @@ def kinds_or_all(text: str) -> list[str] | str:
 
 def check_sort(parser: arguments.Parser, options: argparse.Namespace) -> None:
     """End the tool if the table doesn't have the column that it is to be sorted by."""
-    from .._wait_answer import orders_of
+    from ..waiting.wait_answer import orders_of
 
     orders = orders_of(options.by or "task")
     if options.histogram:
@@ -80,7 +81,7 @@ def check_sort(parser: arguments.Parser, options: argparse.Namespace) -> None:
 # ---- tables
 
 
-class Table(NamedTuple):
+class Printout(NamedTuple):
     """What is printed: rows with the names of their columns; the same as text; and how many keys are left out."""
 
     names: Sequence[str]
@@ -89,17 +90,18 @@ class Table(NamedTuple):
     left_out: int
 
 
-def table_of(answer: WaitAnswer, options: argparse.Namespace, most: int | None) -> Table:
+def table_of(answer: WaitAnswer, options: argparse.Namespace, most: int | None) -> Printout:
     """Return a row for each key, at most so many."""
-    from .. import _tables, _wait_answer
+    from ..show import tables
+    from ..waiting import wait_answer
 
     by = options.by or "task"
     rows = answer.table(by, options.doubtful, sort=options.sort, kinds_apart=options.kinds_apart)
-    table = _wait_answer.table_of(by, rows, most)
-    return Table(_wait_answer.NAMES[by], rows[:most], _tables.in_text(table._replace(left_out=0)), table.left_out)
+    table = wait_answer.table_of(by, rows, most)
+    return Printout(wait_answer.NAMES[by], rows[:most], tables.in_text(table._replace(left_out=0)), table.left_out)
 
 
-def histogram_of(answer: WaitAnswer, options: argparse.Namespace, most: int | None) -> Table:
+def histogram_of(answer: WaitAnswer, options: argparse.Namespace, most: int | None) -> Printout:
     """Return a histogram of all waits, or of those of each key."""
     counts = answer.counts(options.by or "kind", options.doubtful)
     if not options.by:
@@ -117,12 +119,12 @@ def histogram_of(answer: WaitAnswer, options: argparse.Namespace, most: int | No
         rows += [(*key, *bar) for bar in bars]
         texts.append("\n".join([*title_of(fields, key), *bar_lines(bars)]))
     names = [*fields, "low", "high", "count"]
-    return Table(names, rows, "\n\n".join(texts), len(groups[most:]) if most else 0)
+    return Printout(names, rows, "\n\n".join(texts), len(groups[most:]) if most else 0)
 
 
 def title_of(fields: Sequence[str], key: Sequence[Any]) -> list[str]:
     """Return the line above a histogram, if it has one."""
-    from .._tables import printable
+    from ..show.tables import printable
 
     return [", ".join(f"{field} {printable(part)}" for field, part in zip(fields, key))] if key else []
 
@@ -132,17 +134,17 @@ def bar_lines(bars: Sequence[tuple[int, int, int]]) -> list[str]:
     most = max(count for _, _, count in bars)
     ranges = [str(low) if low == high else f"{low}-{high}" for low, high, _ in bars]
     width = max(map(len, ranges))
-    signs = ["@" * -(-BAR * count // most) for _, _, count in bars]
+    signs = ["@" * -(-BAR_WIDTH * count // most) for _, _, count in bars]
     return [f"{text:>{width}} us {count:10}  {bar}".rstrip() for text, (_, _, count), bar in zip(ranges, bars, signs)]
 
 
 # ---- output
 
 
-def write_text(answer: WaitAnswer, options: argparse.Namespace, table: Table) -> None:
+def write_text(answer: WaitAnswer, options: argparse.Namespace, table: Printout) -> None:
     """Print the table for people."""
-    from .._losses import seconds
-    from .._tables import printable
+    from ..show.tables import printable
+    from ..trace.losses import seconds
 
     print("\n".join([*answer.lines(options.doubtful), *(["", table.text] if table.rows else [])]))
     if table.left_out:
@@ -156,7 +158,7 @@ def write_text(answer: WaitAnswer, options: argparse.Namespace, table: Table) ->
         print(f"{tool('why')} {start}{shlex.quote(printable(options.trace))} {place} explains the longest")
 
 
-def about(answer: WaitAnswer) -> dict[str, Any]:
+def about_waits(answer: WaitAnswer) -> dict[str, Any]:
     """Return what a table is about, for JSON."""
     return {
         **json_output.about(answer),
@@ -171,17 +173,17 @@ def about(answer: WaitAnswer) -> dict[str, Any]:
 
 def answer_of(options: argparse.Namespace) -> WaitAnswer:
     """Return the waits of the trace, or of the events that are chosen."""
-    from .. import _counting, _waits
-    from .._wait_records import Chosen
+    from ..trace.wait_records import ChosenWaits
+    from ..waiting import counting, waits
     from . import traces
 
-    chosen = Chosen(options.kinds, options.cpus, options.tasks)
+    chosen = ChosenWaits(options.kinds, options.cpus, options.tasks)
     if options.events is None:
         by = options.by or ("kind" if options.histogram else "task")
-        choice = _counting.Choice(by, options.doubtful, chosen)
+        choice = counting.CountBy(by, options.doubtful, chosen)
         return traces.counted_waits(options, options.trace, "waits", choice)
-    recording = traces.recording(options, options.trace, "waits", cpus=None, spare=_waits.SPARE)
-    return _waits.waits(recording).only(**chosen._asdict())
+    recording = traces.recording(options, options.trace, "waits", cpus=None, spare=waits.SPARE)
+    return waits.waits(recording).only(**chosen._asdict())
 
 
 def work(argv: Sequence[str] | None) -> int:
@@ -198,9 +200,9 @@ def work(argv: Sequence[str] | None) -> int:
 
         process.note_missing(traces.why_empty(answer, options, "no wait ended"))
     if options.json:
-        json_output.write_rows(about(answer), table.names, table.rows)
+        json_output.write_rows(about_waits(answer), table.names, table.rows)
     elif options.csv:
-        from .._writers import write_csv
+        from ..export.csv import write_csv
 
         for remark in answer.remarks():
             process.say("waits", f"{options.trace}: {remark}")

@@ -6,15 +6,15 @@ import argparse
 import json
 from typing import TYPE_CHECKING, Any, Callable, Iterator, Sequence
 
+from ..script.words import columns
 from . import arguments, process
-from .texts import columns
 
 if TYPE_CHECKING:
-    from .._chain import Chain, ChainStep
-    from .._explainer import Explainer
-    from .._values import Event
-    from .._waits import Waits
-    from .._why import Why
+    from ..desk.values import Event
+    from ..explain.chain import Chain, ChainStep
+    from ..explain.explainer import Explainer
+    from ..explain.why import Why
+    from ..waiting.waits import Waits
 
 DESCRIPTION = """Why a task waited for a processor: who woke it, where it was queued and where it ran, and what
 ran there meanwhile and for how long, in words, as a picture, and in order. TRACE is the text of
@@ -42,7 +42,7 @@ nothing to do with it: the chain ends there if the line has flags. Without flags
 that task, and marks the waking as `task?`."""
 LINE = "-" * 72
 # How many steps a chain has at most by default.
-STEPS = 32
+DEFAULT_STEPS = 32
 
 
 def parsed(argv: Sequence[str] | None) -> argparse.Namespace:
@@ -55,7 +55,7 @@ def parsed(argv: Sequence[str] | None) -> argparse.Namespace:
     parser.add_argument("--chain", action="store_true", help="also show who woke the task that woke it, and so on")
     beyond_help = "with --chain: also what came before the waiting task fell asleep"
     parser.add_argument("--beyond", action="store_true", help=beyond_help)
-    steps_help = f"with --chain: at most N steps ({STEPS})"
+    steps_help = f"with --chain: at most N steps ({DEFAULT_STEPS})"
     parser.add_argument("--steps", metavar="N", type=arguments.positive, help=steps_help)
     parser.add_argument("--json", action="store_true", help="one JSON object, with an object for each wait")
     chosen = parser.add_argument_group("which waits to explain if no place is given")
@@ -68,12 +68,12 @@ def parsed(argv: Sequence[str] | None) -> argparse.Namespace:
     arguments.add_choice(parser, cpus="only waits that ended on these CPUs, such as 0,2,4-7")
     arguments.add_jobs(parser)
     options = parser.parse_intermixed_args(argv)
-    check(parser, options)
-    options.steps = options.steps or STEPS
+    check_options(parser, options)
+    options.steps = options.steps or DEFAULT_STEPS
     return options
 
 
-def check(parser: arguments.Parser, options: argparse.Namespace) -> None:
+def check_options(parser: arguments.Parser, options: argparse.Namespace) -> None:
     """End the tool if an option would do nothing."""
     choosing = (options.worst, options.at, options.tasks, options.kinds, options.cpus)
     if options.places and (options.doubtful or any(value is not None for value in choosing)):
@@ -82,38 +82,39 @@ def check(parser: arguments.Parser, options: argparse.Namespace) -> None:
         parser.error("--beyond and --steps go with --chain")
 
 
-def explainer_of(options: argparse.Namespace) -> Explainer:
+def chosen_explainer(options: argparse.Namespace) -> Explainer:
     """Return what explains the waits of the trace, of a stretch of it, or of the events that are chosen."""
-    from .. import _explainer, _recording
+    from ..desk.recording import Choice, counted_from, read_text
+    from ..explain.explainer import explainer_with, part_explainer
     from . import traces
 
     if options.events is not None:
-        return _explainer.part_explainer(traces.recording(options, options.trace, "why", cpus=None))
+        return part_explainer(traces.recording(options, options.trace, "why", cpus=None))
     waits = traces.whole_waits(options, options.trace, "why")
     if waits.lines_from is not None:
-        process.say("why", f"{options.trace}: {_recording.counted_from(waits.lines_from)}")
+        process.say("why", f"{options.trace}: {counted_from(waits.lines_from)}")
     if waits.source or options.trace == "-":
-        return _explainer.explainer_with(waits, traces.source_of(options.trace), options.lenient)
+        return explainer_with(waits, traces.source_of(options.trace), options.lenient)
     # The trace isn't in the order of time. What was lost has been reported.
-    choice = _recording.Choice(options.start, options.until)
+    choice = Choice(options.start, options.until)
     text = traces.checked_text(options.trace)
-    return _explainer.part_explainer(_recording.read_text(options.trace, text, choice, options.lenient))
+    return part_explainer(read_text(options.trace, text, choice, options.lenient))
 
 
-def longest(options: argparse.Namespace, explainer: Explainer) -> Waits:
+def longest_waits(options: argparse.Namespace, explainer: Explainer) -> Waits:
     """Return the longest of the waits that are chosen, in order. Raises `Stop` if there are none."""
-    from .. import _explainer
-    from .._tables import are, count_of
+    from ..explain.explainer import greatest, lasting_at
+    from ..show.tables import are, count_of
 
     waits = explainer.waits.only(kinds=options.kinds, cpus=options.cpus, tasks=options.tasks)
-    waits = _explainer.lasting_at(waits, options.at)
+    waits = lasting_at(waits, options.at)
     doubtful = waits.doubtful
     if doubtful and not options.doubtful:
         them = "it" if doubtful == 1 else "them"
         left_out = f"{count_of(doubtful, 'wait')} may be false and {are(doubtful)} left out"
         process.say("why", f"{options.trace}: {left_out}; --doubtful explains {them} too")
     most = options.worst or (1 if options.at is None else None)
-    waits = _explainer.greatest(waits, most, options.doubtful)
+    waits = greatest(waits, most, options.doubtful)
     if not len(waits):
         raise process.Stop("there is no such wait", process.PARTIAL)
     return waits
@@ -146,7 +147,7 @@ def write_json(path: str | None, waits: Iterator[str]) -> None:
         print("\n]}")
 
 
-def json_of(why: Why, options: argparse.Namespace) -> dict[str, Any]:
+def why_json(why: Why, options: argparse.Namespace) -> dict[str, Any]:
     """Return a wait as plain data. Stamps are in microseconds, like all times."""
     events = {name: json_of_event(getattr(why, name)) for name in ("begin", "end", "queued", "slept")}
     lists: dict[str, Sequence[Any]] = {"holes": why.holes}
@@ -187,12 +188,12 @@ def explanations(options: argparse.Namespace, explainer: Explainer, text_of: Cal
     """Return the waits that are asked for, each as a text."""
     if options.places:
         return (text_of(explainer.explain_at(*place)) for place in options.places)
-    return in_order(explainer, longest(options, explainer), text_of)
+    return texts_in_order(explainer, longest_waits(options, explainer), text_of)
 
 
-def in_order(explainer: Explainer, waits: Waits, text_of: Callable[[Why], str]) -> Iterator[str]:
+def texts_in_order(explainer: Explainer, waits: Waits, text_of: Callable[[Why], str]) -> Iterator[str]:
     """Go through waits, each as a text. They are explained in another order, so that texts are kept meanwhile."""
-    from .._text import KeptText
+    from ..trace.text import KeptText
 
     kept, ends = KeptText(), {}
     for at, why in explainer.explain_together(waits):
@@ -206,10 +207,10 @@ def in_order(explainer: Explainer, waits: Waits, text_of: Callable[[Why], str]) 
 def work(argv: Sequence[str] | None) -> int:
     """Print an explanation of each wait, and return the exit status."""
     options = parsed(argv)
-    explainer = explainer_of(options)
+    explainer = chosen_explainer(options)
     try:
         if options.json:
-            write_json(explainer.waits.path, explanations(options, explainer, lambda why: json.dumps(json_of(why, options))))
+            write_json(explainer.waits.path, explanations(options, explainer, lambda why: json.dumps(why_json(why, options))))
         else:
             width = columns()
             write_text(explanations(options, explainer, lambda why: text_of(why, options, width)))

@@ -19,7 +19,7 @@ from collections.abc import Iterator, Sequence
 from typing import IO, Protocol
 
 from .. import _invocation
-from .._file_kind import packer_of, recording_origin
+from ..trace.kind import packer_of, recording_origin
 from .blocks import Sink, Unfit, Writer, convert_quickly, widen
 from .lines import NotConvertible, complete_line
 from .report import ConversionError, Report

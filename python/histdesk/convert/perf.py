@@ -44,7 +44,7 @@ FRONTED = re.compile(rb"[0-9]+ +\[[0-9]{3,}\] +[0-9]+\.[0-9]{6,9}:")
 ANY = re.compile(rb"(?! *#)(.{16,31}?) +(-?[0-9]+) (\[[0-9]+\])( +[0-9]+\.[0-9]{6,9}: +(?:sched:)?([^ ]+)(.*))")
 NUMBER = re.compile(rb"^(?! *#)(.{16,31}?) +-?[0-9]+ (?=\[[0-9]+\] +[0-9]+\.[0-9]{6,9}: )", re.MULTILINE)
 # Of a switch, the task of its line and the one that it leaves; and the names and numbers of both of its tasks.
-LEFT = re.compile(rb" ([0-9]+) \[[0-9]+\] +[0-9.]+: +(?:sched:)?sched_switch: +prev_comm=[^\n]*? prev_pid=([0-9]+) ")
+LEFT_TASK = re.compile(rb" ([0-9]+) \[[0-9]+\] +[0-9.]+: +(?:sched:)?sched_switch: +prev_comm=[^\n]*? prev_pid=([0-9]+) ")
 BOTH = re.compile(rb" +prev_comm=(.*) prev_pid=([0-9]+) prev_prio=.* ==> next_comm=(.*) next_pid=([0-9]+) next_prio=.*")
 # How many bytes of what perf prints first are looked at, if the samples of a recording aren't understood, as if it is packed.
 FIRST = 1 << 18
@@ -77,7 +77,7 @@ def running(cpu: bytes, earlier: Callable[[], Iterable[bytes]]) -> tuple[bytes, 
 
 def switches_of(text: bytes) -> list[tuple[int, int]]:
     """Return of each switch in a text the task of its line, and the one that it leaves."""
-    return [(int(task), int(left)) for task, left in LEFT.findall(text)]
+    return [(int(task), int(left)) for task, left in LEFT_TASK.findall(text)]
 
 
 def are_strange(switches: Iterable[tuple[int, int]]) -> bool | None:

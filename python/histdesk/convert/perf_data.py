@@ -25,7 +25,7 @@ TRACEPOINT, BACKWARD = 2, 1 << 27
 RECORD = struct.Struct("<I2xH")
 SAMPLE, LOST_SAMPLES, ID_INDEX = 9, 13, 69
 # What may stand in a sample before its raw bytes, in its order, as bits of eight bytes each; then two that aren't of one size.
-IDENTIFIER, TASK, READ, CALLS, RAW = 1 << 16, 1 << 1, 1 << 4, 1 << 5, 1 << 10
+IDENTIFIER, TASK, READ, CALLCHAIN, RAW = 1 << 16, 1 << 1, 1 << 4, 1 << 5, 1 << 10
 FIXED = (IDENTIFIER, 1 << 0, TASK, 1 << 2, 1 << 3, 1 << 6, 1 << 9, 1 << 7, 1 << 8)
 # A record that says how many events were lost of one kind and CPU begins so; none of these is of another size.
 LOST_FRONT = re.compile(rb"\x0d\0{5}[\x18-\x60]\0")
@@ -133,7 +133,7 @@ def lost_events(path: str) -> dict[int, int]:
     last = last_records(tail)
     if not any(kind == LOST_SAMPLES for kind, _, _ in last):
         return {}
-    cpus = {**cpus_of(front, list(records(front, 0, len(front)))), **cpus_of(tail, last)}
+    cpus = {**cpus_of_samples(front, list(records(front, 0, len(front)))), **cpus_of_samples(tail, last)}
     lost: Counter[int] = Counter()
     for kind, at, after in last:
         number = int.from_bytes(tail[after - 8 : after], "little")
@@ -151,7 +151,7 @@ def last_records(content: bytes) -> list[tuple[int, int, int]]:
     return []
 
 
-def cpus_of(content: bytes, some: list[tuple[int, int, int]]) -> dict[int, int]:
+def cpus_of_samples(content: bytes, some: list[tuple[int, int, int]]) -> dict[int, int]:
     """Return the CPU of each number that samples are counted by, as records say it."""
     found: dict[int, int] = {}
     for kind, at, after in some:
@@ -210,7 +210,7 @@ def first_switches(content: mmap.mmap, at: int, end: int, sample: int, switch: t
             continue
         has_samples = True
         raw = begin + raw_at
-        if sample & CALLS:
+        if sample & CALLCHAIN:
             raw += 8 + 8 * int.from_bytes(content[raw : raw + 8], "little")
         if raw + 4 + place + 4 <= after and int.from_bytes(content[raw + 4 : raw + 6], "little") == number:
             task, left = content[begin + task_at : begin + task_at + 4], content[raw + 4 + place : raw + 8 + place]

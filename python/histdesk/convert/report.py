@@ -5,7 +5,7 @@ from __future__ import annotations
 import sys
 
 from .. import _invocation
-from .._file_kind import origin_of_lines
+from ..trace.kind import origin_of_lines
 
 # How many lines that can't be converted are shown, and how many bytes of each.
 MOST, ROOM = 5, 120

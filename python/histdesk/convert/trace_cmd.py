@@ -41,7 +41,7 @@ RECORDED, LOSSES = (b"read events", b"entries"), (b"overrun", b"commit overrun",
 # The last CPU that a line may name. If it isn't known where events are missing, it has a hole as long as the recording.
 NO_CPU = 8191
 # How many bytes of what trace-cmd prints are read at once.
-READ = 1 << 18
+AT_ONCE = 1 << 18
 
 
 class TraceCmdFormat(ColumnFormat):
@@ -98,7 +98,7 @@ class TraceCmdFormat(ColumnFormat):
             assert tool.stdout
             widen(tool.stdout)
             try:
-                self.flagged = Flagged(source, tool.stdout, READ)
+                self.flagged = Flagged(source, tool.stdout, AT_ONCE)
                 yield self.flagged
             finally:
                 tool.kill()
@@ -107,8 +107,8 @@ class TraceCmdFormat(ColumnFormat):
         # The lines of the latency layout are shorter.
         with ThreadPoolExecutor() as pool:
             text, latency = map(io.BytesIO, pool.map(front_of, ([*self.command, path], [*self.latency, path])))
-        flagged = Flagged(text, latency, READ)
-        return b"".join(iter(lambda: flagged.read(READ), b""))
+        flagged = Flagged(text, latency, AT_ONCE)
+        return b"".join(iter(lambda: flagged.read(AT_ONCE), b""))
 
     # What trace_cmd_lines writes first is compared with what trace-cmd prints first.
     is_apart = True
@@ -170,7 +170,7 @@ class TraceCmdFormat(ColumnFormat):
         events = self.flagged.count if self.flagged else self.events
         if not self.path or self.width or not events or report.is_more_lost:
             return b""
-        counts = counts_of(self.path)
+        counts = kernel_counts(self.path)
         lost = {cpu: sum(some.get(name, 0) for name in LOSSES) for cpu, some in counts.items()}
         recorded = sum(some.get(name, 0) for some in counts.values() for name in RECORDED)
         # Of what trace-cmd reads while it records, some may not come into its file; and what the kernel drops has no line.
@@ -193,7 +193,7 @@ class TraceCmdFormat(ColumnFormat):
         return ", ".join(f"{names[at]} ({'the top one, ' * (at == TOP)}{count})" for at, count in counts.items())
 
 
-def counts_of(path: str) -> dict[int, dict[bytes, int]]:
+def kernel_counts(path: str) -> dict[int, dict[bytes, int]]:
     """Return what trace-cmd reports of each CPU in the recording of that path, by name."""
     words = ["trace-cmd", "report", "--stat", "-i", path]
     ran = subprocess.run(words, stdin=subprocess.DEVNULL, stdout=subprocess.PIPE, stderr=subprocess.DEVNULL, check=False)

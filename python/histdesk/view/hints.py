@@ -2,8 +2,8 @@
 
 from __future__ import annotations
 
-from .._refusal import Refused, place_in
 from ..native import layout
+from ..native.refusals import Refused, place_in
 
 
 def hint_of(refused: Refused, event: str, text: str) -> str:
@@ -23,7 +23,7 @@ def hint_of(refused: Refused, event: str, text: str) -> str:
     str
         The hint, which begins with a sign; empty if there is none.
     """
-    from ..cli.fault_hints import filter_hint, trigger_hint
+    from ..script.hints import filter_hint, trigger_hint
 
     given = layout.encode(text)
     place = place_in(refused, given)

@@ -9,23 +9,23 @@ from typing import TYPE_CHECKING, Any, Callable, Iterable, Iterator, NamedTuple,
 
 import numpy as np
 
-from .._desk import Desk
-from .._diff import SIDES, Difference, DifferenceRow, Figures
-from .._diff import Struck as Strike
-from .._explainer import Explainer, wait_of
-from .._fate import Change, Fate, Row, change_of, rows_of
-from .._places import Places
-from .._recording import Recording
-from .._refusal import Refused, place_in
-from .._values import Bucket, Log2
-from .._waits import Waits, waits
-from .._without import Chosen, LeftOut, check
+from ..compare.diff import SIDES, Difference, DifferenceRow, Figures
+from ..compare.diff import Struck as Strike
+from ..compare.fate import Change, Fate, FateRow, change_of, fate_rows_of
+from ..compare.places import Places
+from ..compare.without import Chosen, LeftOut, check_chosen
+from ..desk.desk import Desk
+from ..desk.recording import Recording
+from ..desk.values import Bucket, Log2
+from ..explain.explainer import Explainer, wait_of
 from ..native import layout
+from ..native.refusals import Refused, place_in
+from ..script.made import AskedTrigger, check_loads, command_of, script_of
+from ..waiting.waits import Waits, waits
 from .hints import hint_of
 from .schema import schema
-from .script import Asked, check_loads, command_of, script_of
-from .sources import Matches, Part, Whole
-from .timeline import MOST, Json, Window, hole_of
+from .sources import Matches, Selected, Whole
+from .timeline import MOST, Json, Window, hole_json
 
 if TYPE_CHECKING:
     from numpy.typing import NDArray
@@ -150,7 +150,7 @@ class View:
         side, began = self.side(0), time.perf_counter()
         return without(strikes, lambda chosen: {**side.strike(chosen), "seconds": time.perf_counter() - began})
 
-    def script(self, recording: int, asked: Asked, strikes: Strikes) -> Json:
+    def script(self, recording: int, asked: AskedTrigger, strikes: Strikes) -> Json:
         """Return the script that gives the table of the waits, and that of a trigger, without some events, and the shell's line
         that runs it. `of` is the same as in the answer of `trigger`."""
         side = self.side(recording)
@@ -206,13 +206,13 @@ class Side:
             It also raises what `waits` raises.
         """
         self._remarks = tuple(remarks)
-        self.again: Whole | Part
+        self.again: Whole | Selected
         if isinstance(trace, Waits):
             if trace.source is None:
                 raise TypeError("these are waits of no recording that can be read again")
             self.waits, self.again = trace, Whole(trace, trace.source)
         else:
-            self.waits, self.again = waits(trace), Part(trace)
+            self.waits, self.again = waits(trace), Selected(trace)
         # The numbers by which the page knows tasks, by their names.
         self._tasks: dict[str, int] = {name: number for number, name in enumerate(self.waits._names.tolist())}
         self._overview: Overview | None = None
@@ -271,7 +271,7 @@ class Side:
             "cpus": list(held.cpus),
             "warning": self.waits.warning,
             "remarks": [*self._remarks, *self.waits.remarks()],
-            "holes": [hole_of(hole) for hole in self.waits.holes],
+            "holes": [hole_json(hole) for hole in self.waits.holes],
             "tasks": list(self._tasks),
             "waits": len(self.waits),
         }
@@ -341,7 +341,7 @@ class Side:
             "count": len(change.new),
             "tasks": {number: name for name, number in tasks.items() if number >= len(self._tasks)},
         }
-        rows = rows_of(self.waits, less, change)
+        rows = fate_rows_of(self.waits, less, change)
         return Remainder(less, change, strike_answer(chosen, left_out, changed, rows, change.fate))
 
     def trigger(self, event: str, text: str, chosen: Sequence[Chosen] = ()) -> Json:
@@ -374,17 +374,17 @@ class Side:
         ends = zip(rows.end_cpu.tolist(), rows.end_line.tolist())
         return zip(ends, self.again.strips([wait_of(row) for row in rows], most))
 
-    def script(self, asked: Asked, chosen: Sequence[Chosen], program: str) -> Json:
+    def script(self, asked: AskedTrigger, chosen: Sequence[Chosen], program: str) -> Json:
         """Return a script, and the line that runs it."""
         held = self.again.held
         check_loads(held.recording, self.again.is_whole)
-        asked = Asked(*(text.strip() for text in asked))
+        asked = AskedTrigger(*(text.strip() for text in asked))
         script = script_of(held.places(chosen), asked)
         return {"script": script, "command": command_of(program, self.waits.path, held.lines), "of": held.description}
 
 
 def strike_answer(
-    chosen: Sequence[Chosen], left_out: Sequence[LeftOut], changed: Json, rows: Sequence[Row], fate: Fate
+    chosen: Sequence[Chosen], left_out: Sequence[LeftOut], changed: Json, rows: Sequence[FateRow], fate: Fate
 ) -> Json:
     """Return what is said of strikes: how many events each struck, which waits changed, their rows, and a report in words."""
     lines = [Strike(one.event, one.text.strip() or None, part.count, part.of) for one, part in zip(chosen, left_out)]
@@ -420,7 +420,7 @@ def without(strikes: Strikes, ask: Callable[[list[Chosen]], Json]) -> Json:
     """
     chosen = [Chosen(event, text if text.strip() else "") for event, text in strikes]
     try:
-        check(chosen)
+        check_chosen(chosen)
     except Refused as refused:
         number = getattr(refused, "which", 0)
         event, text = strikes[number]
@@ -447,7 +447,7 @@ def text_of(content: bytes) -> str:
     return base64.b64encode(content).decode()
 
 
-def plain_row(row: Row) -> Json:
+def plain_row(row: FateRow) -> Json:
     """Return a row in which something changed, as plain data."""
     sides = {side: None if counted is None else counted._asdict() for side, counted in zip(SIDES, row[-2:])}
     return {"task": row.task, "pid": row.pid, "kind": row.kind, **sides}

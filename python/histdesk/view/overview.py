@@ -12,7 +12,7 @@ from typing import TYPE_CHECKING, Any, Literal, NamedTuple, Union
 import numpy as np
 from numpy.typing import NDArray
 
-from .runs import FIRST, IDLE, SHORT, UNKNOWN, Lane, Runs, Task, Times, time_type
+from .runs import FIRST, IDLE, SHORT, UNKNOWN, RunLane, Runs, RunTask, RunTimes, time_type
 
 if TYPE_CHECKING:
     from .timeline import Json
@@ -74,14 +74,14 @@ class Waiting:
         return self.most_in(edges[:-1], edges[1:])
 
 
-class Sums:
+class CellSums:
     """A lane, and for each of its runs, how long the CPU idled before it, and how long it did so while a task waited.
 
     If the CPU idles in a run, what grows with the time has already been subtracted: when the run begins, and for how long a
     task had waited then. So an answer is what is kept plus what grows. Numbers of 32 bits may overflow on the way; the answer
     fits again."""
 
-    def __init__(self, lane: Lane, length: int, waiting: Waiting) -> None:
+    def __init__(self, lane: RunLane, length: int, waiting: Waiting) -> None:
         self.lane, self.length = lane, length
         time = lane.begin.dtype
         bounds = np.append(lane.begin.astype("i8"), length)
@@ -97,11 +97,11 @@ class Sums:
         self.lost_begin, self.lost_span = lane.begin[lost], spans[lost]
         self.lost_sum = np.append(0, spans[lost].cumsum())
 
-    def run(self, at: Times, side: Literal["left", "right"] = "right") -> NDArray[np.int64]:
+    def run(self, at: RunTimes, side: Literal["left", "right"] = "right") -> NDArray[np.int64]:
         """Return the run at each of some times; with `left`, the one just before it. The times have the type of the lane's."""
         return self.lane.begin.searchsorted(at, side) - 1
 
-    def lost_before(self, at: Times) -> NDArray[np.int64]:
+    def lost_before(self, at: RunTimes) -> NDArray[np.int64]:
         """Return for how long before each of some times it isn't known what the CPU did."""
         if not len(self.lost_begin):
             return np.zeros(len(at), "i8")
@@ -178,7 +178,7 @@ class RunPlaces(NamedTuple):
     run: NDArray[np.int64]
 
 
-class Stretch(NamedTuple):
+class WorstStretch(NamedTuple):
     """A stretch in which a CPU idled, though a task waited for a processor in it. Times are in microseconds: the stamps at
     which it begins and ends, for how long a task waited, and how many did at once at most."""
 
@@ -196,7 +196,7 @@ class Overview:
         """Take what its CPUs ran, and the stamps at which waits begin and end, in microseconds and in any order."""
         self.runs = runs
         self.waiting = Waiting(begins - runs.first, ends - runs.first, runs.length)
-        self.sums = [Sums(lane, runs.length, self.waiting) for lane in runs.lanes]
+        self.sums = [CellSums(lane, runs.length, self.waiting) for lane in runs.lanes]
 
     def edges(self, start: int, stop: int, width: int) -> NDArray[np.int64]:
         """Return the edges of so many parts of a stretch of time, or of fewer parts that have a microsecond each.
@@ -273,7 +273,7 @@ class Overview:
             numbers.append(runs)
         return RunPlaces(np.concatenate(lanes), np.concatenate(numbers))
 
-    def worst(self, start: int, stop: int, most: int = WORST) -> list[Stretch]:
+    def worst(self, start: int, stop: int, most: int = WORST) -> list[WorstStretch]:
         """Return the stretches of idle time in which tasks waited longest, at most `most` of them, the longest first.
 
         Parameters
@@ -284,7 +284,7 @@ class Overview:
         most
             How many are wanted.
         """
-        rows: list[Stretch] = []
+        rows: list[WorstStretch] = []
         least = 0
         for sums in self.sums if start < stop else ():
             rows += self._worst_of(sums, start, stop, least)
@@ -300,7 +300,7 @@ class Overview:
         greatest = self.waiting.most_in(bounds[:, 0], bounds[:, 1]).tolist()
         return [row._replace(begin=first + row.begin, end=first + row.end, most=most) for row, most in zip(rows, greatest)]
 
-    def _worst_of(self, sums: Sums, start: int, stop: int, least: int) -> list[Stretch]:
+    def _worst_of(self, sums: CellSums, start: int, stop: int, least: int) -> list[WorstStretch]:
         """Return the longest of these stretches of a CPU with more than `least` microseconds, and those of equal length."""
         bounds = np.array([start, stop], sums.lane.begin.dtype)
         low, high = int(sums.run(bounds[:1])[0]), int(sums.run(bounds[1:], "left")[0])
@@ -314,7 +314,7 @@ class Overview:
         begins, ends = np.maximum(sums.lane.begin[runs], start).astype("i8"), np.minimum(sums.end(runs), stop)
         micros = self.waiting.some_before(ends) - self.waiting.some_before(begins)
         rows = zip(begins.tolist(), ends.tolist(), micros.tolist())
-        return [Stretch(sums.lane.cpu, *row, 0) for row in rows if row[2] > least]
+        return [WorstStretch(sums.lane.cpu, *row, 0) for row in rows if row[2] > least]
 
     def window(self, start: int, stop: int, width: int) -> Json:
         """Return a stretch of time as plain data, which page/timeline.js reads. The arguments are those of `edges`, and it
@@ -335,14 +335,14 @@ class Overview:
             "until": self.runs.first + high,
             "width": len(spans),
             "cpus": [sums.lane.cpu for sums in self.sums],
-            "idle": text_of(shares(cells.idle, spans)),
-            "waited": text_of(shares(cells.waited, spans)),
-            "unknown": text_of(shares(cells.unknown, spans)),
-            "task": text_of(local[cells.task]),
+            "idle": base64_of(shares(cells.idle, spans)),
+            "waited": base64_of(shares(cells.waited, spans)),
+            "unknown": base64_of(shares(cells.unknown, spans)),
+            "task": base64_of(local[cells.task]),
             "tasks": [self._name(number) for number in numbers.tolist()],
-            "runs": {name: text_of(column) for name, column in runs.items()},
-            "most": text_of(cells.most.astype("<u4")),
-            "mean": text_of((cells.area / spans).astype("<f4")),
+            "runs": {name: base64_of(column) for name, column in runs.items()},
+            "most": base64_of(cells.most.astype("<u4")),
+            "mean": base64_of((cells.area / spans).astype("<f4")),
             "worst": [stretch._asdict() for stretch in self.worst(low, high)],
         }
 
@@ -368,10 +368,10 @@ class Overview:
         """Return the PID and the name of a task, by its number; the PID of what is unknown is None."""
         if number >= FIRST:
             return self.runs.task(number)
-        return Task(0, "<idle>") if number == IDLE else (None, "")
+        return RunTask(0, "<idle>") if number == IDLE else (None, "")
 
 
-def longest_tasks(sums: Sums, edges: Times, runs: EdgeRuns) -> NDArray[np.uint32]:
+def longest_tasks(sums: CellSums, edges: RunTimes, runs: EdgeRuns) -> NDArray[np.uint32]:
     """Return, for each part between two edges, the task with the longest run in it; `IDLE` if it has none. Only what lies
     inside the part counts. The edges have the type of the lane's times."""
     begin, tasks, (first, last) = sums.lane.begin, sums.lane.task, (runs.first, runs.last)
@@ -410,6 +410,6 @@ def shares(parts: NDArray[np.int64], spans: NDArray[np.int64]) -> NDArray[np.uin
     return np.where(parts <= 0, 0, np.where(parts >= spans, WHOLE, result)).astype("u1")
 
 
-def text_of(column: NDArray[Any]) -> str:
+def base64_of(column: NDArray[Any]) -> str:
     """Return a column of numbers as text: its bytes in base 64."""
     return base64.b64encode(column.tobytes()).decode()

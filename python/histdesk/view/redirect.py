@@ -12,7 +12,7 @@ import tempfile
 from pathlib import Path
 from typing import Iterator
 
-NAME = "open.html"
+FILE_NAME = "open.html"
 PAGE = """<!doctype html>
 <html lang="en">
 <head>
@@ -48,7 +48,7 @@ def redirect_to(address: str) -> Iterator[str]:
     """
     # Only this user may enter the folder.
     with tempfile.TemporaryDirectory(prefix="histdesk-view-", dir=folder()) as own:
-        path = Path(own, NAME)
+        path = Path(own, FILE_NAME)
         with open(os.open(path, os.O_WRONLY | os.O_CREAT | os.O_EXCL, 0o600), "w", encoding="utf-8") as file:
             file.write(PAGE.format(address=html.escape(address), text=json.dumps(address)))
         yield path.as_uri()

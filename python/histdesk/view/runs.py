@@ -7,15 +7,15 @@ from typing import Any, Iterable, NamedTuple, Sequence, Union
 import numpy as np
 from numpy.typing import NDArray
 
-from .._losses import Hole
-from .._numbering import Numbers
 from .._schema import SWITCH
 from ..native import layout
 from ..native.arrays import texts_of_names, words_of_names
+from ..native.numbering import Numbers
+from ..trace.losses import Hole
 
 Integers = NDArray[np.integer[Any]]
 # Offsets in microseconds from a recording's first event: of 32 bits if all of them fit, else of 64.
-Times = NDArray[Union[np.uint32, np.int64]]
+RunTimes = NDArray[Union[np.uint32, np.int64]]
 # The numbers of what is no task: an idle CPU, and a time of which it isn't known what ran. Tasks have numbers from FIRST on.
 IDLE, UNKNOWN, FIRST = 0, 1, 2
 # The last stamp of a CPU that has had no event yet.
@@ -27,14 +27,14 @@ SHORT = 1 << 32
 CUT_FIELDS = [("stamp", "=i8"), ("task", "=u4"), ("line", "=u4"), ("cpu", "=u2")]
 
 
-class Task(NamedTuple):
+class RunTask(NamedTuple):
     """A task: its PID, and its name."""
 
     pid: int
     name: str
 
 
-class Lane(NamedTuple):
+class RunLane(NamedTuple):
     """What a CPU ran: runs that follow one another without a gap. Times are in microseconds since the recording's first event,
     and have 32 bits if all of them fit.
 
@@ -51,7 +51,7 @@ class Lane(NamedTuple):
     """
 
     cpu: int
-    begin: Times
+    begin: RunTimes
     task: NDArray[np.uint32]
     line: NDArray[np.uint32]
 
@@ -73,10 +73,10 @@ class Runs(NamedTuple):
 
     first: int
     length: int
-    lanes: Sequence[Lane]
-    tasks: Sequence[Task]
+    lanes: Sequence[RunLane]
+    tasks: Sequence[RunTask]
 
-    def task(self, number: int) -> Task:
+    def task(self, number: int) -> RunTask:
         """Return a task by its number."""
         return self.tasks[number - FIRST]
 
@@ -111,14 +111,14 @@ class Gatherer:
             The line of each in the whole recording, counted from 1 on its CPU.
         """
         if len(events):
-            part = Part(events, lines, self._stamp, self._pid)
+            part = RunPart(events, lines, self._stamp, self._pid)
             self._cuts.append(self._cuts_of(part))
             last = part.last
             cpus = part.cpu[last]
             task = self._after(part, last)
             self._stamp[cpus], self._pid[cpus], self._task[cpus] = part.stamp[last], part.goes_to[last], task
 
-    def _cuts_of(self, part: Part) -> NDArray[np.void]:
+    def _cuts_of(self, part: RunPart) -> NDArray[np.void]:
         """Return the cuts of a part, CPU by CPU."""
         lost, switches = np.flatnonzero(part.is_lost), np.flatnonzero(part.is_switch)
         result = np.zeros(2 * len(lost) + len(switches), CUT_FIELDS)
@@ -130,7 +130,7 @@ class Gatherer:
         cuts: NDArray[np.void] = result[np.concatenate([3 * lost, 3 * lost + 1, 3 * switches + 2]).argsort(kind="stable")]
         return cuts
 
-    def _after(self, part: Part, rows: NDArray[np.int64]) -> NDArray[np.uint32]:
+    def _after(self, part: RunPart, rows: NDArray[np.int64]) -> NDArray[np.uint32]:
         """Return the numbers of the tasks that ran after some events of a part."""
         setters = part.setter[rows]
         result: NDArray[np.uint32] = self._task[part.cpu[rows]]
@@ -139,7 +139,7 @@ class Gatherer:
             result[own] = self._numbers(part.goes_to[setters[own]], part.words(name, setters[own]))
         return result
 
-    def _before(self, part: Part, rows: NDArray[np.int64]) -> NDArray[np.uint32]:
+    def _before(self, part: RunPart, rows: NDArray[np.int64]) -> NDArray[np.uint32]:
         """Return the numbers of the tasks that ran before some events of a part, by the events before these."""
         inside = ~part.is_first[rows]
         result: NDArray[np.uint32] = np.where(inside, UNKNOWN, self._task[part.cpu[rows]])
@@ -154,11 +154,11 @@ class Gatherer:
         result: NDArray[np.uint32] = np.where(pids == 0, IDLE, self._pairs.of(pairs.view("u8")[:, None]) + FIRST)
         return result
 
-    def tasks(self) -> list[Task]:
+    def tasks(self) -> list[RunTask]:
         """Return the tasks by their numbers from `FIRST` on."""
         pairs = self._pairs.rows[:, 0].view("i8")
         names = texts_of_names(self._names.rows)[pairs & 0xFFFFFFFF].tolist()
-        return [Task(pid, name) for pid, name in zip((pairs >> 32).tolist(), names)]
+        return [RunTask(pid, name) for pid, name in zip((pairs >> 32).tolist(), names)]
 
     def finish(self, cpus: Iterable[int], first: int, last: int, holes: Sequence[Hole]) -> Runs:
         """Return the runs of all events.
@@ -184,7 +184,7 @@ class Gatherer:
         return Runs(first, last - first, lanes, self.tasks())
 
 
-class Part:
+class RunPart:
     """Some events, CPU by CPU, and what each says of what its CPU ran."""
 
     def __init__(self, events: NDArray[np.void], lines: Integers, stamps: NDArray[np.int64], pids: NDArray[np.int64]) -> None:
@@ -226,7 +226,7 @@ def previous(column: Integers) -> Integers:
     return result
 
 
-def lane_of(cpu: int, cuts: NDArray[np.void], last_task: int, bounds: tuple[int, int]) -> Lane:
+def lane_of(cpu: int, cuts: NDArray[np.void], last_task: int, bounds: tuple[int, int]) -> RunLane:
     """Return what a CPU ran between two stamps, given its cuts and the number of the task that it ran at the end."""
     first, last = bounds
     ends = np.maximum.accumulate(np.append(cuts["stamp"], last)).clip(first, last) - first
@@ -237,10 +237,10 @@ def lane_of(cpu: int, cuts: NDArray[np.void], last_task: int, bounds: tuple[int,
     # A CPU that goes on idling after a switch idles in one run.
     of = tasks[kept]
     kept = kept[np.append(True, (of[1:] != of[:-1]) | (of[1:] >= FIRST))[: len(kept)]]
-    return Lane(cpu, begins[kept].astype(time_type(last - first)), tasks[kept].astype("u4"), lines[kept].astype("u4"))
+    return RunLane(cpu, begins[kept].astype(time_type(last - first)), tasks[kept].astype("u4"), lines[kept].astype("u4"))
 
 
-def with_holes(lane: Lane, holes: Sequence[Hole], bounds: tuple[int, int]) -> Lane:
+def with_holes(lane: RunLane, holes: Sequence[Hole], bounds: tuple[int, int]) -> RunLane:
     """Return a lane in which it isn't known what ran during holes; the bounds are the stamps at which it begins and ends."""
     first, last = bounds
     known = (
@@ -265,4 +265,4 @@ def with_holes(lane: Lane, holes: Sequence[Hole], bounds: tuple[int, int]) -> La
     task = np.concatenate([lane.task[is_outside], np.full(len(begins), UNKNOWN), lane.task[at[goes_on]]])
     line = np.concatenate([lane.line[is_outside], np.zeros(len(begins) + int(goes_on.sum()), "i8")])
     order = begin.argsort(kind="stable")
-    return Lane(lane.cpu, begin[order].astype(time), task[order].astype("u4"), line[order].astype("u4"))
+    return RunLane(lane.cpu, begin[order].astype(time), task[order].astype("u4"), line[order].astype("u4"))

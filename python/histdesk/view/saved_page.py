@@ -14,9 +14,9 @@ from urllib.parse import quote
 
 import numpy as np
 
-from .._waits import Waits
+from ..script.made import AskedTrigger
+from ..waiting.waits import Waits
 from .model import Side, View, text_of
-from .script import Asked
 from .server import PAGES
 
 # How many of the longest waits are explained at most, each in about how many stretches at most, and about how many events those
@@ -24,15 +24,15 @@ from .server import PAGES
 WORST, STRETCHES, EVENTS = 200, 1000, 1 << 20
 # How hard gzip tries: with more, columns of a million waits get a few per cent smaller, and take seconds.
 LEVEL = 1
-PAGE = "page.html"
+PAGE_FILE = "page.html"
 STYLE = re.compile(r'<link rel="stylesheet" href="([a-z_.]+)">')
-SCRIPT = re.compile(r'<script type="module" src="([a-z_.]+)"></script>')
+SCRIPT_TAG = re.compile(r'<script type="module" src="([a-z_.]+)"></script>')
 # How a module imports another one that stands beside it.
 IMPORT = re.compile(r' from "\./([a-z_]+\.js)";')
 # A saved page fetches nothing.
 POLICY = "default-src 'none'; img-src data:; script-src 'unsafe-inline' data:; style-src 'unsafe-inline'"
 # What a URL of data may contain as it is.
-PLAIN = " !$&'()*+,/:;=?@[]{|}`~"
+UNQUOTED = " !$&'()*+,/:;=?@[]{|}`~"
 
 
 def save(view: View, path: str) -> None:
@@ -94,14 +94,14 @@ def page_of(view: View) -> str:
     imports = f'<script type="importmap">{json_in({"imports": modules})}</script>'
     data = f'<script type="application/json" id="saved">{json_in(data_of(view))}</script>'
     policy = f'<meta http-equiv="Content-Security-Policy" content="{POLICY}">'
-    page = page_text(PAGE).replace("<head>", f"<head>\n{policy}", 1).replace("<body>", f"<body>\n{data}", 1)
+    page = page_text(PAGE_FILE).replace("<head>", f"<head>\n{policy}", 1).replace("<body>", f"<body>\n{data}", 1)
     page = STYLE.sub(lambda link: f"<style>\n{page_text(link[1])}</style>", page)
-    return SCRIPT.sub(lambda script: f'{imports}\n<script type="module">import "{script[1]}";</script>', page)
+    return SCRIPT_TAG.sub(lambda script: f'{imports}\n<script type="module">import "{script[1]}";</script>', page)
 
 
 def module_url(text: str) -> str:
     """Return a module as a URL of data."""
-    return "data:text/javascript;charset=utf-8," + quote(IMPORT.sub(r' from "\1";', text), safe=PLAIN)
+    return "data:text/javascript;charset=utf-8," + quote(IMPORT.sub(r' from "\1";', text), safe=UNQUOTED)
 
 
 def json_in(value: Any) -> str:
@@ -116,7 +116,7 @@ def page_text(name: str) -> str:
 
 def data_of(view: View) -> dict[str, Any]:
     """Return the answers to what the page asks, as far as they can be known. What is long is compressed."""
-    script = view.script(0, Asked("sched_switch", "", ""), [])
+    script = view.script(0, AskedTrigger("sched_switch", "", ""), [])
     scenes = (json.dumps(scenes_of(side), separators=(",", ":")).encode() for side in view.sides)
     overviews = (json.dumps(side.coarse_overview(), separators=(",", ":")).encode() for side in view.sides)
     return {
@@ -137,10 +137,10 @@ def compress(content: bytes) -> str:
 
 def scenes_of(side: Side) -> dict[str, Any]:
     """Return what ran during the longest waits, by the places at which they end."""
-    return {"%d:%d" % place: strip for place, strip in side.strips(side.waits[longest(side.waits)], STRETCHES)}
+    return {"%d:%d" % place: strip for place, strip in side.strips(side.waits[longest_at(side.waits)], STRETCHES)}
 
 
-def longest(waits: Waits) -> list[int]:
+def longest_at(waits: Waits) -> list[int]:
     """Return which waits are explained, in their order: the longest one, and of the next ones, those that together have few
     enough events, if events are strewn evenly."""
     micros, held = waits._column("micros"), waits.held

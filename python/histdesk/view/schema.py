@@ -18,13 +18,13 @@ def schema() -> dict[str, Any]:
         `begins_with`.
     """
     return {
-        "events": [event_of(name) for name in _schema.WAIT_EVENTS],
+        "events": [event_json(name) for name in _schema.WAIT_EVENTS],
         "ends_with": _schema.ENDS_WITH,
         "kinds": [kind._asdict() for kind in _schema.WAITS],
     }
 
 
-def event_of(name: str) -> dict[str, Any]:
+def event_json(name: str) -> dict[str, Any]:
     """Return an event, its fields, and the field with the name of its task."""
     task = next(field.name for field in _schema.event(name).fields if field.column == "comm")
     return {"name": name, "task": task, "fields": _schema.field_names(name)}

@@ -15,8 +15,8 @@ from pathlib import Path
 from typing import Any, Callable, Iterator, NamedTuple, Union
 from urllib.parse import parse_qsl
 
+from ..script.made import AskedTrigger
 from .model import View
-from .script import Asked
 from .timeline import Window
 
 Json = Union[None, bool, int, float, str, list[Any], dict[str, Any]]
@@ -51,7 +51,7 @@ class Bad(Exception):
         self.status = status
 
 
-class Answer(NamedTuple):
+class Response(NamedTuple):
     """The type of an answer's content, and its bytes."""
 
     kind: str
@@ -201,21 +201,21 @@ class Handler(http.server.BaseHTTPRequestHandler):
         """Refuse any other method."""
         self.reply(self.refuse)
 
-    def refuse(self, _: str) -> Answer:
+    def refuse(self, _: str) -> Response:
         """Raise `Bad`: nothing is asked that way."""
         self.close_connection = True
         raise Bad(405, "only GET and POST are answered")
 
     # ---- who may ask
 
-    def reply(self, answer: Callable[[str], Answer]) -> None:
+    def reply(self, answer: Callable[[str], Response]) -> None:
         """Send the answer to a path without the token, or why there is none."""
         try:
             status, content = 200, answer(self.path_after_token())
         except Bad as bad:
-            status, content = bad.status, json_of({"error": str(bad)})
+            status, content = bad.status, json_response({"error": str(bad)})
         except Exception as error:
-            status, content = 500, json_of({"error": f"{type(error).__name__}: {error}"})
+            status, content = 500, json_response({"error": f"{type(error).__name__}: {error}"})
         self.send(status, content)
 
     def path_after_token(self) -> str:
@@ -234,7 +234,7 @@ class Handler(http.server.BaseHTTPRequestHandler):
 
     # ---- what is asked
 
-    def get(self, path: str) -> Answer:
+    def get(self, path: str) -> Response:
         """Return a file of the page, or the answer to a question whose arguments stand in the path."""
         name, _, query = path[1:].partition("?")
         ask = self.server.gets.get(name)
@@ -247,7 +247,7 @@ class Handler(http.server.BaseHTTPRequestHandler):
             raise Bad(400, "the words after ? can't be read") from None
         return self.answer(ask, arguments)
 
-    def post(self, path: str) -> Answer:
+    def post(self, path: str) -> Response:
         """Return the answer to a question in JSON."""
         content = self.body()
         ask = self.server.posts.get(path[1:])
@@ -277,7 +277,7 @@ class Handler(http.server.BaseHTTPRequestHandler):
         self.close_connection = False
         return content
 
-    def answer(self, ask: Ask, arguments: dict[str, Any]) -> Answer:
+    def answer(self, ask: Ask, arguments: dict[str, Any]) -> Response:
         """Check what is asked, and return the answer."""
         for name, kinds in ask.takes.items():
             if type(arguments.get(name)) not in kinds:
@@ -289,11 +289,11 @@ class Handler(http.server.BaseHTTPRequestHandler):
             content = self.server.ask(lambda: ask.answer(**arguments))
         except ValueError as error:
             raise Bad(400, str(error)) from None
-        return Answer(BINARY, content) if isinstance(content, bytes) else json_of(content)
+        return Response(BINARY, content) if isinstance(content, bytes) else json_response(content)
 
     # ---- what is sent
 
-    def send(self, status: int, answer: Answer) -> None:
+    def send(self, status: int, answer: Response) -> None:
         """Send an answer with an HTTP status."""
         self.send_response(status)
         for name, value in HEADERS.items():
@@ -309,7 +309,7 @@ class Handler(http.server.BaseHTTPRequestHandler):
     def send_error(self, code: int, message: str | None = None, explain: str | None = None) -> None:
         """Answer a request that can't be read, with the library's message."""
         self.close_connection = True
-        self.send(code, json_of({"error": message or "the request can't be read"}))
+        self.send(code, json_response({"error": message or "the request can't be read"}))
 
     def log_message(self, format: str, *args: Any) -> None:
         """Say nothing of single requests."""
@@ -338,7 +338,7 @@ def server_of(view: View, port: int) -> Server:
         return view.trigger(recording, event, text, strikes_of(strikes))
 
     def script(recording: int, event: str, filter: str, trigger: str, strikes: list[Any]) -> Json:
-        return view.script(recording, Asked(event, filter, trigger), strikes_of(strikes))
+        return view.script(recording, AskedTrigger(event, filter, trigger), strikes_of(strikes))
 
     def overview(recording: int, width: int, **window: int) -> Json:
         return view.overview(recording, window["from"], window["until"], width)
@@ -381,14 +381,14 @@ def same(given: str, secret: str) -> bool:
     return hmac.compare_digest(given.encode("utf-8", "surrogateescape"), secret.encode())
 
 
-def json_of(value: Json) -> Answer:
+def json_response(value: Json) -> Response:
     """Return a value as an answer."""
-    return Answer(JSON, json.dumps(value, separators=(",", ":")).encode())
+    return Response(JSON, json.dumps(value, separators=(",", ":")).encode())
 
 
-def page_file(name: str) -> Answer:
+def page_file(name: str) -> Response:
     """Return a file of the page. Raises `Bad` if there is none of that name."""
     kind = KINDS.get(os.path.splitext(name)[1])
     if kind is None or name not in os.listdir(PAGES):
         raise Bad(404, "there is nothing here")
-    return Answer(f"{kind}; charset=utf-8", (PAGES / name).read_bytes())
+    return Response(f"{kind}; charset=utf-8", (PAGES / name).read_bytes())

@@ -8,18 +8,18 @@ from typing import TYPE_CHECKING, Any, Iterable, Iterator, NamedTuple, Sequence,
 
 import numpy as np
 
-from .. import _recording
-from .._desk import Desk
-from .._explainer import SourceExplainer, Explainer, part_explainer
-from .._losses import Losses, seconds
-from .._recording import Recording, leave_out_bad_lines
-from .._scene import Wait
-from .._slices import Source
-from .._text import PartText, whole_lines
-from .._waits import Waits
-from .._why import why_of as explain
-from .._without import Chosen, Less, again_without, held_without, strike
+from ..compare.without import Chosen, Less, again_without, held_without, strike
+from ..desk import recording as desk_recording
+from ..desk.desk import Desk
+from ..desk.recording import Recording, leave_out_bad_lines
+from ..desk.slices import Source
+from ..explain.explainer import SourceExplainer, Explainer, part_explainer
+from ..explain.scene import FoundWait
+from ..explain.why import why_of as explain
 from ..native import layout
+from ..trace.losses import Losses, seconds
+from ..trace.text import PartText, whole_lines
+from ..waiting.waits import Waits
 from .timeline import Json, Window, extent_of, strip_in, strip_of, strips_in
 
 
@@ -43,7 +43,7 @@ class Matches(NamedTuple):
 KEPT = 2
 
 
-class Held:
+class HeldDesk:
     """A desk of the first events of a recording, or of all, from which others are made without some events."""
 
     def __init__(self, recording: Recording, lines: int | None = None) -> None:
@@ -103,7 +103,7 @@ class Whole:
     @property
     def _fits(self) -> bool:
         """Whether a desk holds all of it."""
-        return self._waits.held.events <= _recording.LIMIT
+        return self._waits.held.events <= desk_recording.LIMIT
 
     @property
     def _is_lenient(self) -> bool:
@@ -118,22 +118,22 @@ class Whole:
         return again_without(self._waits, self._pieces(), self._is_lenient, chosen)
 
     @cached_property
-    def held(self) -> Held:
+    def held(self) -> HeldDesk:
         """The desk of its first events."""
         if self._fits:
-            return Held(self._recording(b"".join(map(bytes, self._pieces()))))
-        return Held(self._recording(next(in_parts(self._pieces(), _recording.LIMIT), b"")), _recording.LIMIT)
+            return HeldDesk(self._recording(b"".join(map(bytes, self._pieces()))))
+        return HeldDesk(self._recording(next(in_parts(self._pieces(), desk_recording.LIMIT), b"")), desk_recording.LIMIT)
 
     @cached_property
     def teller(self) -> Explainer:
         """What explains its waits."""
         return SourceExplainer(self._waits, self._source)
 
-    def strip(self, wait: Wait, window: Window, most: int) -> Json:
+    def strip(self, wait: FoundWait, window: Window, most: int) -> Json:
         """Return a wait, and what ran around it."""
         return strip_in(self._source, wait, window, self._waits.held, most)
 
-    def strips(self, waits: Sequence[Wait], most: int) -> Iterator[Json]:
+    def strips(self, waits: Sequence[FoundWait], most: int) -> Iterator[Json]:
         """Return what `strip` returns for several waits, in the order in which they begin."""
         return strips_in(self._source, waits, self._waits.held, most)
 
@@ -150,7 +150,7 @@ class Whole:
         """Return its events part by part, as `Events.array` has them, and their lines in the whole recording. Those of a CPU
         are in the order of time."""
         # A copy of many events takes much room.
-        is_kept = self._waits.held.events <= KEPT * _recording.LIMIT
+        is_kept = self._waits.held.events <= KEPT * desk_recording.LIMIT
         for desk, before in self._desks():
             for cpu in desk.cpus() if is_kept else [None]:
                 part = desk.events(cpu).array
@@ -159,7 +159,7 @@ class Whole:
     def _desks(self) -> Iterator[tuple[Desk, NDArray[np.int64]]]:
         """Return desks that together hold all its events, and how many events each CPU has before each of them. A desk may be
         used until the next one is asked for."""
-        if self._waits.held.events <= KEPT * _recording.LIMIT:
+        if self._waits.held.events <= KEPT * desk_recording.LIMIT:
             yield from self._kept
             return
         before = np.zeros(layout.CPUS, "i8")
@@ -175,15 +175,15 @@ class Whole:
         if self._fits:
             return [(self.held.desk, before)]
         desks: list[tuple[Desk, NDArray[np.int64]]] = []
-        for text in in_parts(self._pieces(), _recording.LIMIT):
+        for text in in_parts(self._pieces(), desk_recording.LIMIT):
             desk = self._recording(text).desk() if desks else self._held_of(text).desk
             desks.append((desk, before))
             before = before + counts_of(desk)
         return desks
 
-    def _held_of(self, text: bytes) -> Held:
+    def _held_of(self, text: bytes) -> HeldDesk:
         """Return the desk of its first events, whose text this is."""
-        self.__dict__.setdefault("held", Held(self._recording(text), _recording.LIMIT))
+        self.__dict__.setdefault("held", HeldDesk(self._recording(text), desk_recording.LIMIT))
         return self.held
 
     def _recording(self, text: bytes) -> Recording:
@@ -194,7 +194,7 @@ class Whole:
         return recording
 
 
-class Part:
+class Selected:
     """Selected events of a recording, or all if they aren't in the order of time: as many as a desk holds."""
 
     def __init__(self, recording: Recording) -> None:
@@ -210,21 +210,21 @@ class Part:
         return held_without(self.recording, chosen)
 
     @cached_property
-    def held(self) -> Held:
+    def held(self) -> HeldDesk:
         """The desk."""
-        return Held(self.recording)
+        return HeldDesk(self.recording)
 
     @cached_property
     def teller(self) -> Explainer:
         """What explains its waits."""
         return part_explainer(self.recording)
 
-    def strip(self, wait: Wait, window: Window, most: int) -> Json:
+    def strip(self, wait: FoundWait, window: Window, most: int) -> Json:
         """Return a wait, and what ran around it."""
         held, scene = self.teller.waits.held, self.teller.scene(wait)
         return strip_of(scene, explain(scene, wait), extent_of(wait, window, held), held.cpus, most)
 
-    def strips(self, waits: Sequence[Wait], most: int) -> Iterator[Json]:
+    def strips(self, waits: Sequence[FoundWait], most: int) -> Iterator[Json]:
         """Return what `strip` returns for several waits."""
         return (self.strip(wait, Window(), most) for wait in waits)
 

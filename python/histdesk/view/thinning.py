@@ -6,7 +6,7 @@ from typing import TYPE_CHECKING, Any
 
 import numpy as np
 
-from .._stretches import NOTHING, Stretch, Stretches
+from ..explain.stretches import NOTHING, Stretch, Stretches
 
 if TYPE_CHECKING:
     from numpy.typing import NDArray

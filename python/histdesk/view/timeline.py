@@ -4,13 +4,13 @@ from __future__ import annotations
 
 from typing import Any, Iterator, NamedTuple, Sequence
 
-from .._losses import Hole
-from .._scene import FORKED, PREEMPTED, WOKEN, Scene, Wait, Wants, spanned
-from .._slices import Source
-from .._surroundings import gather
-from .._wait_answer import Held
-from .._why import Why, why_in
-from .._why import why_of as explain
+from ..desk.slices import Source
+from ..explain.scene import FORKED, PREEMPTED, WOKEN, Scene, FoundWait, Wants, spanned
+from ..explain.surroundings import gather
+from ..explain.why import Why, why_in
+from ..explain.why import why_of as explain
+from ..trace.losses import Hole
+from ..waiting.wait_answer import Held
 
 Json = dict[str, Any]
 
@@ -22,8 +22,8 @@ PART, LEAST = 5, 50
 # around a wait, and about how many at once around waits that lie close together.
 MOST, LANE, ROOM, GROUP = 5000, 100, 1 << 17, 1 << 16
 # About how many events before and after are read at once: most CPUs have one among them that says what ran there.
-EDGE = 1 << 13
-BEGINS = {WOKEN: "woken", FORKED: "forked", PREEMPTED: "preempted"}
+EDGE_EVENTS = 1 << 13
+KIND_NAMES = {WOKEN: "woken", FORKED: "forked", PREEMPTED: "preempted"}
 
 
 class Window(NamedTuple):
@@ -55,7 +55,7 @@ class Extent(NamedTuple):
     is_cut: bool = False
 
 
-def strip_in(source: Source, wait: Wait, window: Window, held: Held, most: int = MOST) -> Json:
+def strip_in(source: Source, wait: FoundWait, window: Window, held: Held, most: int = MOST) -> Json:
     """Return a wait of a whole recording, and what ran around it.
 
     Parameters
@@ -80,18 +80,18 @@ def strip_in(source: Source, wait: Wait, window: Window, held: Held, most: int =
     """
     extent = extent_of(wait, window, held)
     until = held.last if wait.end is None else wait.end.stamp
-    margin = max(wait.begin.stamp - extent.start, extent.stop - (until or 0)) + room_of(held, EDGE)
+    margin = max(wait.begin.stamp - extent.start, extent.stop - (until or 0)) + room_of(held, EDGE_EVENTS)
     if window == Window() and not extent.is_cut:
         return gather(source, wait, lambda scene: strip_of(scene, explain(scene, wait), extent, held.cpus, most), margin)
     # The extent may be elsewhere, or a part of the wait.
     why, stretch = why_in(source, wait), stretch_as(wait, extent.start, extent.stop)
-    return gather(source, stretch, lambda scene: strip_of(scene, why, extent, held.cpus, most), room_of(held, EDGE))
+    return gather(source, stretch, lambda scene: strip_of(scene, why, extent, held.cpus, most), room_of(held, EDGE_EVENTS))
 
 
-def strips_in(source: Source, waits: Sequence[Wait], held: Held, most: int = MOST) -> Iterator[Json]:
+def strips_in(source: Source, waits: Sequence[FoundWait], held: Held, most: int = MOST) -> Iterator[Json]:
     """Return what `strip_in` returns for several waits, in the order in which they begin. Events around waits that lie close
     together are read once."""
-    for group in groups_of(waits, held):
+    for group in request_groups_of(waits, held):
         if len(group) == 1:
             yield strip_in(source, group[0].wait, Window(), held, most)
         else:
@@ -101,11 +101,11 @@ def strips_in(source: Source, waits: Sequence[Wait], held: Held, most: int = MOS
 class Request(NamedTuple):
     """A wait, and the stretch of time to report."""
 
-    wait: Wait
+    wait: FoundWait
     extent: Extent
 
 
-def groups_of(waits: Sequence[Wait], held: Held) -> Iterator[list[Request]]:
+def request_groups_of(waits: Sequence[FoundWait], held: Held) -> Iterator[list[Request]]:
     """Return waits in groups, each of which has few enough events in what is to be reported."""
     group: list[Request] = []
     for wait in waits:
@@ -134,11 +134,11 @@ def together(source: Source, group: Sequence[Request], held: Held, most: int) ->
         scene.wants = wants
 
     first, last = (edge(getattr(one.extent, end) for one in group) for edge, end in ((min, "start"), (max, "stop")))
-    gather(source, stretch_as(group[0].wait, first, last), tell, room_of(held, EDGE))
+    gather(source, stretch_as(group[0].wait, first, last), tell, room_of(held, EDGE_EVENTS))
     return [strips[at] for at in range(len(group))]
 
 
-def stretch_as(wait: Wait, start: int, stop: int) -> Wait:
+def stretch_as(wait: FoundWait, start: int, stop: int) -> FoundWait:
     """Return a stretch of time in the form of a wait, by which events are gathered."""
     return wait._replace(begin=wait.begin._replace(stamp=start), end=wait.begin._replace(stamp=stop))
 
@@ -148,7 +148,7 @@ def room_of(held: Held, events: int) -> int:
     return max(((held.last or 0) - (held.first or 0)) * events // max(held.events, 1), 1)
 
 
-def extent_of(wait: Wait, window: Window, held: Held) -> Extent:
+def extent_of(wait: FoundWait, window: Window, held: Held) -> Extent:
     """Return what is to be reported of a wait, as far as the recording goes: all of the wait, and beside it no more than has
     about `ROOM` events.
 
@@ -208,7 +208,7 @@ def strip_of(scene: Scene, why: Why, extent: Extent, cpus: Sequence[int], most: 
         "cut": extent.is_cut,
         "thin": any("count" in stretch for lane in own for stretch in lane["stretches"]),
         "cpus": own,
-        "holes": [hole_of(hole) for hole in spanned(scene.holes, extent.start, extent.stop)],
+        "holes": [hole_json(hole) for hole in spanned(scene.holes, extent.start, extent.stop)],
         "marks": marks(why),
         "shares": [share._asdict() for share in why.shares],
     }
@@ -227,14 +227,14 @@ def lanes(scene: Scene, extent: Extent, cpus: Sequence[int], own: int, most: int
     return [{"cpu": cpu, "stretches": thin(one, max(most // len(cpus), LANE), own)} for cpu, one in ran]
 
 
-def hole_of(hole: Hole) -> Json:
+def hole_json(hole: Hole) -> Json:
     """Return a stretch of time in which events were lost."""
     return {"cpu": hole.cpu, "after": hole.after, "before": hole.before}
 
 
 def marks(why: Why) -> list[Json]:
     """Return what happened to the task, and where, in order."""
-    events: list[tuple[int, int, str]] = [(why.begin.stamp, why.begin.cpu, BEGINS[why.kind])]
+    events: list[tuple[int, int, str]] = [(why.begin.stamp, why.begin.cpu, KIND_NAMES[why.kind])]
     if why.slept:
         events.append((why.slept.stamp, why.slept.cpu, "slept"))
     if why.queued:

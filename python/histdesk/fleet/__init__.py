@@ -1,0 +1,1 @@
+"""One question to many recordings, which several processes or Dask workers answer."""
