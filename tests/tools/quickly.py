@@ -10,6 +10,7 @@ and status both ways.
 Arguments that tell the filter something wrong are noticed; what is written first is not written twice. What this machine lacks
 is not tried, and a line says so. The last line says how many of how many things hold."""
 
+import contextlib
 import io
 import os
 import random
@@ -19,7 +20,7 @@ import signal
 import subprocess
 import sys
 import tempfile
-from typing import Dict, List, NamedTuple, Tuple
+from typing import Dict, Iterator, List, NamedTuple, Tuple
 
 # Nothing is written beside the sources.
 sys.dont_write_bytecode = True
@@ -422,6 +423,20 @@ BY_TRACE_CMD: Dict[str, Tuple[List[str], bool]] = {
 }
 
 
+@contextlib.contextmanager
+def mounted() -> Iterator[None]:
+    """Have tracefs mounted for so long."""
+    is_there = os.path.exists("/sys/kernel/tracing/tracing_on")
+    if not is_there:
+        subprocess.run(["mount", "-t", "tracefs", "nodev", "/sys/kernel/tracing"], check=True)
+    try:
+        yield
+    finally:
+        if not is_there:
+            subprocess.run(["umount", "-l", "/sys/kernel/tracing"], check=True)
+
+
+@mounted()
 def record_by_trace_cmd(folder: str) -> Dict[str, str]:
     """Make the recordings that trace-cmd can make here, and return their paths by name. trace-cmd uses the machine's own
     tracing, whose settings are put back after that."""
